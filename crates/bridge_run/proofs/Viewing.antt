@@ -40,7 +40,7 @@ pub leg_read : (lines legs : List LegLine) (own : ℕ) (leg d : LegLine) → lin
 leg_read lines legs own leg d is low = ap (λ (ls : List LegLine). get_or ls own leg) is ∙ same_default legs own leg d low
 
 abbrev pub no_leg : LegLine
-no_leg = record { line = 0; name = []; aware = false; ssrc = 0; input = []; output = []; pts = record { t140 = 0; red = 0 }; gens = 0; stay = record { from = 0; until = None } }
+no_leg = record { line = 0; name = []; aware = false; ssrc = 0; input = []; output = []; pts = record { t140 = 0; red = 0 }; gens = 0; stay = record { from = 0; until = None }; follow = false }
 
 -- speakers have the names and the SSRCs of their legs
 names_are : (legs : List LegLine) → map (λ (s : Speaker). s.name) (map speaker_of legs) ≡ map (λ leg. leg.name) legs

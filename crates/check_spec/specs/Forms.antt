@@ -87,7 +87,8 @@ abbrev pub service_word : List ℕ → LineWord
 service_word w =
     if bytes_eq w (codes "gone") then word.Gone
     else (if bytes_eq w (codes "operator") then word.Operator
-    else (if bytes_eq w (codes "record") then word.Record else packet_word w))
+    else (if bytes_eq w (codes "record") then word.Record
+    else (if bytes_eq w (codes "follow") then word.Follow else packet_word w)))
 
 abbrev pub time_word : List ℕ → LineWord
 time_word w =

@@ -44,6 +44,7 @@ pub enum LineWord {
     Gone,
     Operator,
     Record,
+    Follow,
     Lose,
     Delay,
     Twice,

@@ -13,7 +13,7 @@ use Rattle.rtt_base.specs.Steps.{◌>>=◌}
 use Rattle.file_spec.specs.Steps.{unless}
 use Rattle.file_spec.specs.Lines.{Line}
 use Rattle.file_spec.specs.Numbers.{number, most_ssrc, pts}
-use Rattle.file_spec.specs.Conf.{Above, Conf, Entry, Leg, Gens, Stays, Tick, Spacing, Wait, Turns, Relabel, Mixer, Plan, Serves, nothing, with_entry, change_leg, with_gens, with_stay, mixer, mixer_of, clashes, most_legs, new_leg, usual_types, leg_of, leg, and_line, conf}
+use Rattle.file_spec.specs.Conf.{Above, Conf, Entry, Leg, Gens, Stays, Tick, Spacing, Wait, Turns, Relabel, Mixer, Plan, Follows, Serves, nothing, with_entry, change_leg, with_gens, with_follow, with_stay, mixer, mixer_of, clashes, most_legs, new_leg, usual_types, leg_of, leg, and_line, conf}
 use Rattle.rtt_base.proofs.Steps.{bind_ok}
 use Rattle.file_spec.proofs.Passed.{unless_ok, ok_or_ok, number_most}
 use Rattle.file_spec.proofs.EachLine.{HoldsOf, entry_holds, line_adds, lines_of, completed, leg_read, mixer_read}
@@ -37,6 +37,7 @@ Fits (Wait n) = Unit {0}
 Fits (Turns n) = Unit {0}
 Fits (Relabel n) = Unit {0}
 Fits (Plan p) = Unit {0}
+Fits (Follows k) = Unit {0}
 Fits (Serves s) = Unit {0}
 
 some_same : {A : Type 0} (x y : A) → Some x ≡ Some y → x ≡ y
@@ -66,6 +67,7 @@ more above (Turns m) f n = record { legs_fit = f.legs_fit; mixer_fits = f.mixer_
 more above (Relabel m) f n = record { legs_fit = f.legs_fit; mixer_fits = f.mixer_fits }
 more above (Mixer x) f n = record { legs_fit = f.legs_fit; mixer_fits = λ m e. subst (λ (y : MixerLine). y.ssrc < 2 ^ 32) (some_same x m e) n }
 more above (Plan p) f n = record { legs_fit = f.legs_fit; mixer_fits = f.mixer_fits }
+more above (Follows k) f n = record { legs_fit = changed with_follow (λ l. refl) k above.legs f.legs_fit; mixer_fits = f.mixer_fits }
 more above (Serves s) f n = record { legs_fit = f.legs_fit; mixer_fits = f.mixer_fits }
 
 -- ---- legs and the mixer
@@ -118,6 +120,7 @@ entry_fits form above n = record {
   each_wait = λ ws x e. tt;
   each_turns = λ ws x e. tt;
   each_relabel = λ ws x e. tt;
+  each_follow = λ q ws x e. tt;
   each_service = λ q word ws x e. tt;
 }
 

@@ -1,6 +1,6 @@
 -- The conference that `make` makes from a number (profile), and what is typed in it. The number is the state from which
 -- all is drawn.
-use Rattle.std.specs.Prelude.{ℕ, zero, suc, ◌+◌, ◌%◌, ◌==◌, not, List, [], ◌∷◌, ◌++◌, map, filter, codes, decimal, if◌then◌else◌}
+use Rattle.std.specs.Prelude.{false, ℕ, zero, suc, ◌+◌, ◌%◌, ◌==◌, not, List, [], ◌∷◌, ◌++◌, map, filter, codes, decimal, if◌then◌else◌}
 use Rattle.std.specs.List.{range_with_len}
 use Rattle.file_spec.specs.declared.conf_lines.LegLine.{LegLine}
 use Rattle.file_spec.specs.declared.conf_lines.MixerLine.{MixerLine}
@@ -100,6 +100,7 @@ leg i = record {
   pts = usual_types;
   gens = USUAL_GENS;
   stay = whole_stay;
+  follow = false;
 }
 
 -- the mixer's stream begins with 0

@@ -1,5 +1,5 @@
 -- What the lines of a conference in the code mean (profile).
-use Rattle.std.specs.Prelude.{ℕ, ◌<◌, Result, Ok, Err, Option, List, length, map}
+use Rattle.std.specs.Prelude.{false, ℕ, ◌<◌, Result, Ok, Err, Option, List, length, map}
 use denote.Ref.{Bor}
 use Rattle.file_spec.specs.declared.limits.TheConstants.{MOST_LEGS, USUAL_GENS}
 use Rattle.file_spec.specs.declared.conf_lines.LegLine.{LegLine}
@@ -11,13 +11,13 @@ use Rattle.conf_text.specs.declared.leg_lines.LegWords.{LegWords}
 use Rattle.conf_text.specs.declared.drafts.NewLeg.{NewLeg}
 use Rattle.conf_text.specs.declared.drafts.Draft.{Draft}
 use Rattle.conf_text.specs.declared.drafts.Entry.{Entry}
-use Rattle.conf_text.specs.declared.drafts.Entry.TheVariants.{Leg, Gens, Stays, Tick, Spacing, Wait, Turns, Relabel, Mixer, Plan, Serves}
+use Rattle.conf_text.specs.declared.drafts.Entry.TheVariants.{Leg, Gens, Stays, Tick, Spacing, Wait, Turns, Relabel, Mixer, Plan, Follows, Serves}
 
 abbrev pub above_of : Draft → conf.Above
 above_of d = record { legs = d.legs; gens = d.gens.items; stays = d.stays.items; tick = d.tick; spacing = d.spacing; wait = d.wait; turns = d.turns; relabel = d.relabel; mixer = d.mixer; plan = d.plan; service = d.service }
 
 abbrev pub leg_line : NewLeg → LegLine
-leg_line l = record { line = l.line; name = l.name; aware = l.aware; ssrc = l.ssrc; input = l.input.now; output = l.output.now; pts = l.pts; gens = USUAL_GENS; stay = conf.whole_stay }
+leg_line l = record { line = l.line; name = l.name; aware = l.aware; ssrc = l.ssrc; input = l.input.now; output = l.output.now; pts = l.pts; gens = USUAL_GENS; stay = conf.whole_stay; follow = false }
 
 abbrev pub meaning : Entry → conf.Entry
 meaning (Leg l) = conf.Leg (leg_line l)
@@ -30,6 +30,7 @@ meaning (Turns n) = conf.Turns n
 meaning (Relabel n) = conf.Relabel n
 meaning (Mixer m) = conf.Mixer m
 meaning (Plan p) = conf.Plan p
+meaning (Follows k) = conf.Follows k
 meaning (Serves s) = conf.Serves s
 
 -- the lines so far with a line of this number that has these octets
@@ -62,4 +63,5 @@ MayFollow above (conf.Turns n) = Unit {0}
 MayFollow above (conf.Relabel n) = Unit {0}
 MayFollow above (conf.Mixer m) = Unit {0}
 MayFollow above (conf.Plan p) = Unit {0}
+MayFollow above (conf.Follows k) = k < length above.legs
 MayFollow above (conf.Serves s) = Unit {0}

@@ -3,7 +3,7 @@ ghost use Rattle.std.specs.Prelude.{◌≡◌, ◌<◌, ◌≤◌, ◌∷◌, []
 ghost use Rattle.file_spec.specs.declared.limits.TheConstants.{MOST_LEGS};
 ghost use Rattle.file_spec.specs.Conf.{Leg, nothing, with_entry};
 
-use conference::{Legs, Plan, set_gens, set_stay};
+use conference::{Legs, Plan, set_follow, set_gens, set_stay};
 use file_spec::limits::{MOST_LEGS, USUAL_GENS};
 use file_spec::{GensLine, LegLine, MixerLine, PlanLine, Service, ServiceLine, Stay, StayLine};
 use rtt_base::{Name, NoMemory, Path, Pts};
@@ -34,6 +34,8 @@ pub(crate) enum Entry<'a> {
     Relabel(u32),
     Mixer(MixerLine),
     Plan(PlanLine),
+    /// The leg, counted from 0, that is followed.
+    Follows(u8),
     Serves(ServiceLine),
 }
 
@@ -105,6 +107,7 @@ impl Draft {
                 from: 0,
                 until: None,
             },
+            follow: false,
         })
     }
 
@@ -130,6 +133,7 @@ impl Draft {
             Entry::Relabel(value) => self.relabel = Some(value),
             Entry::Mixer(line) => self.mixer = Some(line),
             Entry::Plan(line) => return self.plan.push(line),
+            Entry::Follows(leg) => set_follow(&mut self.legs, usize::from(leg)),
             Entry::Serves(line) => self.service.add(line),
         }
         Ok(())

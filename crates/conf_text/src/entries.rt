@@ -1,10 +1,11 @@
 //! The lines of a conference.
 ghost use Rattle.std.specs.Prelude.{◌≡◌, ◌∷◌, IfOk};
-ghost use Rattle.file_spec.specs.Conf.{entry, mixer, mixer_of, of_form, setting, stay_or_plan, time_or_other};
+ghost use Rattle.file_spec.specs.Conf.{entry, mixer, mixer_of, follow_or_service, of_form, setting, stay_or_plan, time_or_other};
 ghost use Rattle.conf_text.specs.Lines.{above_of, meaning, seen, texts_of, MayFollow};
 
 use crate::ConfKind;
 use crate::drafts::{Draft, Entry};
+use crate::follow_lines::read_follow;
 use crate::leg_lines::{has_ssrc, read_leg};
 use crate::plan_lines::read_plan;
 use crate::service_lines::read_service;
@@ -78,13 +79,24 @@ fn read_stay_or_plan<'a>(above: &Draft, word: &str, words: &[&str]) -> Said<'a>
     }
 }
 
+#[tactic(auto, unfolding(file_spec::specs::Conf::follow_or_service))]
+fn read_follow_or_service<'a>(above: &Draft, word: &str, words: &[&str]) -> Said<'a>
+    ensures exact { seen meaning result ≡ follow_or_service (above_of above.now) word.now (texts_of words.now) }
+    ensures follows { IfOk result (λ said. MayFollow (above_of above.now) (meaning said)) }
+{
+    match word {
+        "follow" => Ok(Entry::Follows(read_follow(above, words)?)),
+        other => Ok(Entry::Serves(read_service(above, other, words)?)),
+    }
+}
+
 fn read_of_form<'a>(form: Form, above: &Draft, word: &str, words: &[&str]) -> Said<'a>
     ensures exact { seen meaning result ≡ of_form form (above_of above.now) word.now (texts_of words.now) }
     ensures follows { IfOk result (λ said. MayFollow (above_of above.now) (meaning said)) }
 {
     match form {
         Form::Files => read_stay_or_plan(above, word, words),
-        Form::Links => Ok(Entry::Serves(read_service(above, word, words)?)),
+        Form::Links => read_follow_or_service(above, word, words),
     }
 }
 

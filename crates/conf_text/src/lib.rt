@@ -5,6 +5,7 @@ mod conf_reader;
 mod crowds;
 mod drafts;
 mod entries;
+mod follow_lines;
 mod leg_lines;
 mod names;
 mod plan_lines;

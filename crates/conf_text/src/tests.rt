@@ -154,6 +154,19 @@ fn what_is_not_said_has_its_default(rt: HostRuntime) -> Result<(), Fail> {
 }
 
 #[test]
+fn the_legs_that_are_named_are_followed(rt: HostRuntime) -> Result<(), Fail> {
+    let file =
+        b"leg A aware 1 5004 h:1\nleg B aware 2 5006 h:2\nleg C aware 3 5008 h:3\nfollow C\nfollow A\nmixer 0 0 0";
+    let conf = read_conf(rt.alloc(), file, Form::Links)?;
+    let followed = [true, false, true];
+    assert_eq!(rt; conf.legs.as_slice().len(), followed.len());
+    for (leg, wanted) in conf.legs.as_slice().iter().zip(&followed) {
+        assert_eq!(rt; leg.follow, *wanted);
+    }
+    Ok(())
+}
+
+#[test]
 fn what_is_asked_of_links(rt: HostRuntime) -> Result<(), Fail> {
     let file =
         b"gone 86400000\nleg A aware 1 5004 h:1\noperator 065535 aZ345678\nleg B aware 2 5006 h:2\nmixer 0 0 0";
@@ -176,6 +189,8 @@ operator 6100 Word4Watch => line 3: Word\n\
 operator => line 3: Word\n\
 record calls/Ann => line 3: Word\n\
 record => line 3: Word\n\
+follow A => line 3: Word\n\
+follow => line 3: Word\n\
 tick => line 3: Count\n\
 tick 20 20 => line 3: Count\n\
 mixer 1 2 => line 3: Count\n\
@@ -340,6 +355,15 @@ record a b => line 1: Count\n\
 record a; record b => line 2: Twice\n\
 record a; record => line 2: Count\n\
 records a => line 1: Word\n\
+follow => line 1: Count\n\
+follow A => line 1: Name\n\
+follow A; leg A aware 1 5004 h:1 => line 1: Name\n\
+leg A aware 1 5004 h:1; follow A B => line 2: Count\n\
+leg A aware 1 5004 h:1; follow a => line 2: Name\n\
+leg A aware 1 5004 h:1; follow A; follow A => line 3: Twice\n\
+leg A aware 1 5004 h:1; follow A; follow B => line 3: Name\n\
+leg A aware 1 5004 h:1; leg B aware 2 5006 h:2; follow B; follow A => line 5: Few\n\
+leg A aware 1 5004 h:1; Follow A => line 2: Word\n\
 operator 6100 aZ34567 => line 1: Name\n\
 operator 6100 aZ345-78 => line 1: Name\n\
 operator 6100 aZ3456\u{e9} => line 1: Name\n\

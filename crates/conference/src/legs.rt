@@ -1,6 +1,6 @@
 //! The legs of a conference.
 ghost use Rattle.std.specs.Prelude.{◌≡◌, ◌<◌, length};
-ghost use Rattle.file_spec.specs.Conf.{change_leg, with_gens, with_stay};
+ghost use Rattle.file_spec.specs.Conf.{change_leg, with_follow, with_gens, with_stay};
 ghost use Rattle.conference.specs.Changes.{with_name};
 
 use file_spec::{LegLine, Stay};
@@ -31,4 +31,12 @@ pub fn set_stay(legs: &mut Legs, leg: usize, stay: Stay)
     ensures { legs.new ≡ change_leg (with_stay stay) leg legs.old }
 {
     legs.item_mut(leg).stay = stay;
+}
+
+/// Tells that a leg is followed.
+pub fn set_follow(legs: &mut Legs, leg: usize)
+    requires { leg < length legs.old }
+    ensures { legs.new ≡ change_leg with_follow leg legs.old }
+{
+    legs.item_mut(leg).follow = true;
 }

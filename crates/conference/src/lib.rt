@@ -11,7 +11,7 @@ pub use confs::Conf;
 pub use file_spec::{
     LegLine, MixerLine, OperatorLine, OperatorWord, PlanLine, Service, ServiceLine, Stay, What,
 };
-pub use legs::{Legs, set_gens, set_name, set_stay};
+pub use legs::{Legs, set_follow, set_gens, set_name, set_stay};
 pub use names::{has_name, is_name_octet, name_of};
 pub use plans::{Plan, is_planned};
 pub use speakers::{Speakers, others};

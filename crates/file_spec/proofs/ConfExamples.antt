@@ -13,7 +13,7 @@ use Rattle.file_spec.specs.declared.conf_lines.What.TheVariants as what
 use Rattle.file_spec.specs.Lines.{Refusal}
 use Rattle.file_spec.specs.Stays.{is_crowd}
 use Rattle.file_spec.specs.Services.{no_service}
-use Rattle.file_spec.specs.Conf.{Above, Conf, complete, conf, entry, gens_of, leg_of, mixer_of, new_leg, nothing, operator_of, plan_of, stay_of, stay_or_plan, time_or_other, usual_types, whole, whole_stay}
+use Rattle.file_spec.specs.Conf.{Above, Conf, complete, conf, entry, gens_of, leg_of, mixer_of, new_leg, nothing, operator_of, plan_of, stay_of, stay_or_plan, follow_of, follow_or_service, time_or_other, usual_types, whole, whole_stay}
 
 -- a conference of these legs that says no more than it must
 abbrev usual : List LegLine → MixerLine → Conf
@@ -22,40 +22,48 @@ usual legs mixer = record { legs = legs; tick = 100; spacing = 300; wait = 1000;
 two_legs_and_a_loss : conf Files (codes "mixer 9000 100 5000\n\n# who\n leg Ann aware 1001 ann.in ann.out\r\nleg Bob  unaware 1002 bob.in bob.out 96 97\ntick 20\nlose Bob 1")
     ≡ Ok (record (
     usual
-    (record { line = 4; name = codes "Ann"; aware = true; ssrc = 1001; input = codes "ann.in"; output = codes "ann.out"; pts = record { t140 = 98; red = 100 }; gens = 2; stay = record { from = 0; until = None } }
-    ∷ record { line = 5; name = codes "Bob"; aware = false; ssrc = 1002; input = codes "bob.in"; output = codes "bob.out"; pts = record { t140 = 96; red = 97 }; gens = 2; stay = record { from = 0; until = None } } ∷ [])
+    (record { line = 4; name = codes "Ann"; aware = true; ssrc = 1001; input = codes "ann.in"; output = codes "ann.out"; pts = record { t140 = 98; red = 100 }; gens = 2; stay = record { from = 0; until = None }; follow = false }
+    ∷ record { line = 5; name = codes "Bob"; aware = false; ssrc = 1002; input = codes "bob.in"; output = codes "bob.out"; pts = record { t140 = 96; red = 97 }; gens = 2; stay = record { from = 0; until = None }; follow = false } ∷ [])
     (record { ssrc = 9000; seq = 100; stamp = 5000 })
     ) { tick = 20; plan = record { terminal = 1; packet = 1; what = what.Lose } ∷ [] })
-unfolding entry gens_of leg_of mixer_of plan_of stay_of stay_or_plan time_or_other is_utf8 chars encode_utf8
+unfolding entry gens_of leg_of mixer_of plan_of stay_of stay_or_plan follow_or_service time_or_other is_utf8 chars encode_utf8
 two_legs_and_a_loss = refl
 
 labelled_again : conf Links (codes "leg A aware 1 5004 h:1\nleg B unaware 2 5006 h:2\nrelabel 7000\nmixer 3 0 0")
     ≡ Ok (record (
     usual
-    (record { line = 1; name = codes "A"; aware = true; ssrc = 1; input = codes "5004"; output = codes "h:1"; pts = record { t140 = 98; red = 100 }; gens = 2; stay = record { from = 0; until = None } }
-    ∷ record { line = 2; name = codes "B"; aware = false; ssrc = 2; input = codes "5006"; output = codes "h:2"; pts = record { t140 = 98; red = 100 }; gens = 2; stay = record { from = 0; until = None } } ∷ [])
+    (record { line = 1; name = codes "A"; aware = true; ssrc = 1; input = codes "5004"; output = codes "h:1"; pts = record { t140 = 98; red = 100 }; gens = 2; stay = record { from = 0; until = None }; follow = false }
+    ∷ record { line = 2; name = codes "B"; aware = false; ssrc = 2; input = codes "5006"; output = codes "h:2"; pts = record { t140 = 98; red = 100 }; gens = 2; stay = record { from = 0; until = None }; follow = false } ∷ [])
     (record { ssrc = 3; seq = 0; stamp = 0 })
     ) { relabel = Some 7000 })
-unfolding entry gens_of leg_of mixer_of plan_of stay_of stay_or_plan time_or_other is_utf8 chars encode_utf8
+unfolding entry gens_of leg_of mixer_of plan_of stay_of stay_or_plan follow_or_service time_or_other is_utf8 chars encode_utf8
 labelled_again = refl
 
 asked_of_links : conf Links (codes "gone 60000\nleg A aware 1 5004 h:1\noperator 06100 Word4Watch\nleg B unaware 2 5006 h:2\nmixer 3 0 0\nrecord calls/main")
     ≡ Ok (record (
     usual
-    (record { line = 2; name = codes "A"; aware = true; ssrc = 1; input = codes "5004"; output = codes "h:1"; pts = record { t140 = 98; red = 100 }; gens = 2; stay = record { from = 0; until = None } }
-    ∷ record { line = 4; name = codes "B"; aware = false; ssrc = 2; input = codes "5006"; output = codes "h:2"; pts = record { t140 = 98; red = 100 }; gens = 2; stay = record { from = 0; until = None } } ∷ [])
+    (record { line = 2; name = codes "A"; aware = true; ssrc = 1; input = codes "5004"; output = codes "h:1"; pts = record { t140 = 98; red = 100 }; gens = 2; stay = record { from = 0; until = None }; follow = false }
+    ∷ record { line = 4; name = codes "B"; aware = false; ssrc = 2; input = codes "5006"; output = codes "h:2"; pts = record { t140 = 98; red = 100 }; gens = 2; stay = record { from = 0; until = None }; follow = false } ∷ [])
     (record { ssrc = 3; seq = 0; stamp = 0 })
     ) { service = record { gone = Some 60000; operator = Some (record { port = 6100; word = codes "Word4Watch" }); recorded = Some (codes "calls/main") } })
-unfolding entry gens_of leg_of mixer_of operator_of plan_of stay_of stay_or_plan time_or_other is_utf8 chars encode_utf8
+unfolding entry gens_of leg_of mixer_of operator_of plan_of stay_of stay_or_plan follow_or_service time_or_other is_utf8 chars encode_utf8
 asked_of_links = refl
 
 generations_and_stays : conf Files (codes "leg A aware 1 a.in a.out\nleg B aware 2 b.in b.out\ngens B 0\nstay A 300 900\nmixer 3 0 0")
     ≡ Ok (usual
-    (record { line = 1; name = codes "A"; aware = true; ssrc = 1; input = codes "a.in"; output = codes "a.out"; pts = record { t140 = 98; red = 100 }; gens = 2; stay = record { from = 300; until = Some 900 } }
-    ∷ record { line = 2; name = codes "B"; aware = true; ssrc = 2; input = codes "b.in"; output = codes "b.out"; pts = record { t140 = 98; red = 100 }; gens = 0; stay = record { from = 0; until = None } } ∷ [])
+    (record { line = 1; name = codes "A"; aware = true; ssrc = 1; input = codes "a.in"; output = codes "a.out"; pts = record { t140 = 98; red = 100 }; gens = 2; stay = record { from = 300; until = Some 900 }; follow = false }
+    ∷ record { line = 2; name = codes "B"; aware = true; ssrc = 2; input = codes "b.in"; output = codes "b.out"; pts = record { t140 = 98; red = 100 }; gens = 0; stay = record { from = 0; until = None }; follow = false } ∷ [])
     (record { ssrc = 3; seq = 0; stamp = 0 }))
-unfolding entry gens_of leg_of mixer_of plan_of stay_of stay_or_plan time_or_other is_utf8 chars encode_utf8
+unfolding entry gens_of leg_of mixer_of plan_of stay_of stay_or_plan follow_or_service time_or_other is_utf8 chars encode_utf8
 generations_and_stays = refl
+
+one_is_followed : conf Links (codes "leg A aware 1 5004 h:1\nfollow A\nleg B unaware 2 5006 h:2\nmixer 3 0 0")
+    ≡ Ok (usual
+    (record { line = 1; name = codes "A"; aware = true; ssrc = 1; input = codes "5004"; output = codes "h:1"; pts = record { t140 = 98; red = 100 }; gens = 2; stay = record { from = 0; until = None }; follow = true }
+    ∷ record { line = 3; name = codes "B"; aware = false; ssrc = 2; input = codes "5006"; output = codes "h:2"; pts = record { t140 = 98; red = 100 }; gens = 2; stay = record { from = 0; until = None }; follow = false } ∷ [])
+    (record { ssrc = 3; seq = 0; stamp = 0 }))
+unfolding entry leg_of mixer_of follow_of follow_or_service time_or_other is_utf8 chars encode_utf8
+one_is_followed = refl
 
 nothing_is_too_little : conf Files [] ≡ Err (record { line = 1; kind = Few })
 nothing_is_too_little = refl
@@ -113,6 +121,12 @@ faulty =
     ∷ (Files, codes "gone 60000", record { line = 1; kind = Word })
     ∷ (Files, codes "operator 6100 Word4Watch", record { line = 1; kind = Word })
     ∷ (Files, codes "record calls/main", record { line = 1; kind = Word })
+    -- followed: nobody, one who is not there, twice, and among files
+    ∷ (Links, codes "follow", record { line = 1; kind = Count })
+    ∷ (Links, codes "follow A", record { line = 1; kind = Name })
+    ∷ (Links, codes "leg A aware 2 5004 h:1\nfollow A A", record { line = 2; kind = Count })
+    ∷ (Links, codes "leg A aware 2 5004 h:1\nfollow A\nfollow A", record { line = 3; kind = Twice })
+    ∷ (Files, codes "leg A aware 2 a.in a.out\nfollow A", record { line = 2; kind = Word })
     -- gone too soon, and twice
     ∷ (Links, codes "gone 9999", record { line = 1; kind = Number })
     ∷ (Links, codes "gone 86400001", record { line = 1; kind = Number })
@@ -134,19 +148,19 @@ faulty =
     ∷ []
 
 faults_are_told : map (λ f. conf f.0 f.1) faulty ≡ map (λ f. Err f.2) faulty
-unfolding entry gens_of leg_of mixer_of operator_of plan_of stay_of stay_or_plan time_or_other is_utf8 chars encode_utf8
+unfolding entry gens_of leg_of mixer_of operator_of plan_of stay_of stay_or_plan follow_of follow_or_service time_or_other is_utf8 chars encode_utf8
 faults_are_told = refl
 
 -- ---- many legs, by themselves
 someone : Stay → LegLine
-someone s = record { line = 0; name = []; aware = true; ssrc = 0; input = []; output = []; pts = usual_types; gens = 2; stay = s }
+someone s = record { line = 0; name = []; aware = true; ssrc = 0; input = []; output = []; pts = usual_types; gens = 2; stay = s; follow = false }
 
 -- so many legs so far that stay without end
 with_legs : ℕ → Above
 with_legs n = record nothing { legs = replicate n (someone whole_stay) }
 
 new_one : LegLine
-new_one = record { line = 0; name = codes "A"; aware = true; ssrc = 1; input = codes "1"; output = codes "b"; pts = usual_types; gens = 2; stay = whole_stay }
+new_one = record { line = 0; name = codes "A"; aware = true; ssrc = 1; input = codes "1"; output = codes "b"; pts = usual_types; gens = 2; stay = whole_stay; follow = false }
 
 the_65th_leg : (new_leg Files (with_legs 64) new_one ≡ Err Many) × (new_leg Files (with_legs 63) new_one ≡ Ok new_one)
 unfolding with_legs new_one someone

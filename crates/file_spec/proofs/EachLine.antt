@@ -21,7 +21,7 @@ use Rattle.file_spec.specs.Steps.{unless}
 use Rattle.file_spec.specs.Lines.{Line, words, told, at_line, read_lines}
 use Rattle.file_spec.specs.Stays.{is_crowd}
 use Rattle.file_spec.specs.Services.{is_operator_word}
-use Rattle.file_spec.specs.Conf.{Above, Conf, Entry, Leg, Gens, Stays, Tick, Spacing, Wait, Turns, Relabel, Mixer, Plan, Serves, says, time_or_other, stay_or_plan, of_form, service_word, operator, operator_of, prefix, port, is_same_port, nothing, with_entry, setting, mixer, leg, gens, stay, plan_word, entry, is_blank, and_line, whole, complete, conf, mixer_of, leg_of, new_leg, has_names, has_port, aware_of, whole_stay}
+use Rattle.file_spec.specs.Conf.{Above, Conf, Entry, Leg, Gens, Stays, Tick, Spacing, Wait, Turns, Relabel, Mixer, Plan, Follows, Serves, says, time_or_other, stay_or_plan, follow_or_service, follow, of_form, service_word, operator, operator_of, prefix, port, is_same_port, nothing, with_entry, setting, mixer, leg, gens, stay, plan_word, entry, is_blank, and_line, whole, complete, conf, mixer_of, leg_of, new_leg, has_names, has_port, aware_of, whole_stay}
 use Rattle.rtt_base.proofs.Steps.{bind_ok}
 use Rattle.file_spec.proofs.Passed.{unless_ok, ok_or_ok}
 use Rattle.rtt_base.specs.declared.limits.TheConstants.{LONGEST_WAIT}
@@ -83,6 +83,7 @@ pub record LegRead (form : Form) (above : Above) (name ssrc input output : List 
   pub types_are : ok_or types Number ≡ Ok line.pts
   pub repeats : line.gens ≡ USUAL_GENS
   pub stays : line.stay ≡ whole_stay
+  pub alone : line.follow ≡ false
   pub is : new_leg form above line ≡ Ok x
 
 pub leg_read : (form : Form) (above : Above) (n : ℕ) (name mode ssrc input output : List ℕ) (types : Option Pts) (x : LegLine) → leg_of form above n name mode ssrc input output types ≡ Ok x → LegRead form above name ssrc input output types x
@@ -94,13 +95,14 @@ leg_read form above n name mode ssrc input output types x e =
     let d = bind_ok (unless (not (has_port form input)) Number input) _ x c.2 in
     let f = bind_ok (ok_or types Number) _ x d.2 in
     record {
-      line = record { line = n; name = b.0; aware = a.0; ssrc = c.0; input = d.0; output = output; pts = f.0; gens = USUAL_GENS; stay = whole_stay };
+      line = record { line = n; name = b.0; aware = a.0; ssrc = c.0; input = d.0; output = output; pts = f.0; gens = USUAL_GENS; stay = whole_stay; follow = false };
       names = b.1;
       source = c.1;
       comes = d.1;
       types_are = f.1;
       repeats = refl;
       stays = refl;
+      alone = refl;
       is = f.2;
     }
 
@@ -138,6 +140,7 @@ pub record HoldsOf (P : Entry → Type 0) (form : Form) (above : Above) (n : ℕ
   pub each_spacing : (ws : List (List ℕ)) (x : ℕ) → setting LEAST_SPACING MOST_SPACING above.spacing ws ≡ Ok x → P (Spacing x)
   pub each_wait : (ws : List (List ℕ)) (x : ℕ) → setting 0 LONGEST_WAIT above.wait ws ≡ Ok x → P (Wait x)
   pub each_turns : (ws : List (List ℕ)) (x : ℕ) → setting 1 MOST_TURNS above.turns ws ≡ Ok x → P (Turns x)
+  pub each_follow : form ≡ Links → (ws : List (List ℕ)) (x : ℕ) → follow above ws ≡ Ok x → P (Follows x)
   pub each_service : form ≡ Links → (word : List ℕ) (ws : List (List ℕ)) (x : ServiceLine) → service_word above word ws ≡ Ok x → P (Serves x)
   pub each_relabel : (ws : List (List ℕ)) (x : ℕ) → setting LEAST_RELABEL MOST_RELABEL above.relabel ws ≡ Ok x → P (Relabel x)
 
@@ -150,9 +153,17 @@ module _ (P : Entry → Type 0) (form : Form) (above : Above) (n : ℕ) (h : Hol
       go true q = says_holds P Stays (stay above more) e (h.each_stay is more) q
       go false q = says_holds P Plan (plan_word above word more) e (h.each_plan is word more) q
 
+  follow_or_service_holds : form ≡ Links → (word : List ℕ) (more : List (List ℕ)) (e : Entry) → follow_or_service above word more ≡ Ok e → P e
+  unfolding follow_or_service
+  follow_or_service_holds is word more e q = go (bytes_eq word (codes "follow")) q
+    where
+      go : (a : Bool) → (if a then says Follows (follow above more) else says Serves (service_word above word more)) ≡ Ok e → P e
+      go true q = says_holds P Follows (follow above more) e (h.each_follow is more) q
+      go false q = says_holds P Serves (service_word above word more) e (h.each_service is word more) q
+
   form_holds : (f : Form) → form ≡ f → (word : List ℕ) (more : List (List ℕ)) (e : Entry) → of_form f above word more ≡ Ok e → P e
   form_holds Files is word more e q = stay_or_plan_holds is word more e q
-  form_holds Links is word more e q = says_holds P Serves (service_word above word more) e (h.each_service is word more) q
+  form_holds Links is word more e q = follow_or_service_holds is word more e q
 
   time_holds : (word : List ℕ) (more : List (List ℕ)) (e : Entry) → time_or_other form above word more ≡ Ok e → P e
   unfolding time_or_other

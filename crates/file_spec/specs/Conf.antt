@@ -68,6 +68,7 @@ pub data Entry : Type 0 where
   Relabel : ℕ → Entry
   Mixer : MixerLine → Entry
   Plan : PlanLine → Entry
+  Follows : ℕ → Entry
   Serves : ServiceLine → Entry
 
 abbrev pub nothing : Above
@@ -85,6 +86,9 @@ with_gens n leg = record leg { gens = n }
 abbrev pub with_stay : Stay → LegLine → LegLine
 with_stay stay leg = record leg { stay = stay }
 
+abbrev pub with_follow : LegLine → LegLine
+with_follow leg = record leg { follow = true }
+
 abbrev pub with_entry : Above → Entry → Above
 with_entry a (Leg l) = record a { legs = a.legs ++ l ∷ [] }
 with_entry a (Gens g) = record a { legs = change_leg (with_gens g.gens) g.leg a.legs; gens = a.gens ++ g.leg ∷ [] }
@@ -96,6 +100,7 @@ with_entry a (Turns n) = record a { turns = Some n }
 with_entry a (Relabel n) = record a { relabel = Some n }
 with_entry a (Mixer m) = record a { mixer = Some m }
 with_entry a (Plan p) = record a { plan = a.plan ++ p ∷ [] }
+with_entry a (Follows k) = record a { legs = change_leg with_follow k a.legs }
 with_entry a (Serves s) = record a { service = with_service a.service s }
 
 -- ---- numbers, times and the mixer
@@ -195,7 +200,7 @@ leg_of form above n name mode ssrc input output types = do
   sender ← ok_or (number most_ssrc ssrc) Number
   from ← unless (not (has_port form input)) Number input
   pts ← ok_or types Number
-  new_leg form above (record { line = n; name = named; aware = aware; ssrc = sender; input = from; output = output; pts = pts; gens = USUAL_GENS; stay = whole_stay })
+  new_leg form above (record { line = n; name = named; aware = aware; ssrc = sender; input = from; output = output; pts = pts; gens = USUAL_GENS; stay = whole_stay; follow = false })
 
 abbrev pub usual_types : Pts
 usual_types = record { t140 = USUAL_T140; red = USUAL_RED }
@@ -232,6 +237,16 @@ stay_of above name from until = do
 abbrev pub stay : Above → List (List ℕ) → Result StayLine ConfKind
 stay above (name ∷ from ∷ until ∷ []) = stay_of above name from until
 stay above _ = Err Count
+
+-- ---- who is followed
+
+-- the place of a leg above that is not yet followed
+unfoldable pub follow_of : Above → List ℕ → Result ℕ ConfKind
+follow_of above name = place_of above name >>= unless (list_any (λ leg. bytes_eq leg.name name && leg.follow) above.legs) Twice
+
+abbrev pub follow : Above → List (List ℕ) → Result ℕ ConfKind
+follow above (name ∷ []) = follow_of above name
+follow above _ = Err Count
 
 -- ---- what becomes of packets
 
@@ -307,10 +322,15 @@ stay_or_plan above word more =
     if bytes_eq word (codes "stay") then says Stays (stay above more)
     else says Plan (plan_word above word more)
 
+unfoldable pub follow_or_service : Above → List ℕ → List (List ℕ) → Result Entry ConfKind
+follow_or_service above word more =
+    if bytes_eq word (codes "follow") then says Follows (follow above more)
+    else says Serves (service_word above word more)
+
 -- what one form alone has words for
 abbrev pub of_form : Form → Above → List ℕ → List (List ℕ) → Result Entry ConfKind
 of_form Files above word more = stay_or_plan above word more
-of_form Links above word more = says Serves (service_word above word more)
+of_form Links above word more = follow_or_service above word more
 
 -- the times, one number each
 unfoldable pub time_or_other : Form → Above → List ℕ → List (List ℕ) → Result Entry ConfKind

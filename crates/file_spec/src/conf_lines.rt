@@ -67,6 +67,8 @@ pub struct LegLine {
     /// How many redundant generations its terminal is sent.
     pub gens: u8,
     pub stay: Stay,
+    /// Whether whoever sends from its terminal is heard, also under another SSRC.
+    pub follow: bool,
 }
 
 /// How many redundant generations the terminal of a leg is sent. The leg is counted from 0.

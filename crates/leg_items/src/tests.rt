@@ -142,6 +142,7 @@ fn line(alloc: Global, from: u32, until: Option<u32>) -> Result<LegLine, NoMemor
         pts: Pts { t140: 98, red: 100 },
         gens: 2,
         stay: Stay { from, until },
+        follow: false,
     })
 }
 

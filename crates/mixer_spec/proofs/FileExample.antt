@@ -57,13 +57,13 @@ abbrev pub for_good : Stay
 for_good = record { from = 0; until = None }
 
 abbrev ann_leg : LegLine
-ann_leg = record { line = 1; name = codes "Ann"; aware = true; ssrc = 1001; input = codes "ann.in"; output = codes "ann.out"; pts = types; gens = 2; stay = for_good }
+ann_leg = record { line = 1; name = codes "Ann"; aware = true; ssrc = 1001; input = codes "ann.in"; output = codes "ann.out"; pts = types; gens = 2; stay = for_good; follow = false }
 
 abbrev bob_leg : LegLine
-bob_leg = record { line = 2; name = codes "Bob"; aware = true; ssrc = 1002; input = codes "bob.in"; output = codes "bob.out"; pts = types; gens = 2; stay = for_good }
+bob_leg = record { line = 2; name = codes "Bob"; aware = true; ssrc = 1002; input = codes "bob.in"; output = codes "bob.out"; pts = types; gens = 2; stay = for_good; follow = false }
 
 abbrev cy_leg : LegLine
-cy_leg = record { line = 3; name = codes "Cy"; aware = false; ssrc = 1003; input = codes "cy.in"; output = codes "cy.out"; pts = types; gens = 2; stay = for_good }
+cy_leg = record { line = 3; name = codes "Cy"; aware = false; ssrc = 1003; input = codes "cy.in"; output = codes "cy.out"; pts = types; gens = 2; stay = for_good; follow = false }
 
 abbrev call : Conf
 call = record {

@@ -167,6 +167,7 @@ fn service_word(word: &str) -> LineWord
         "gone" => LineWord::Gone,
         "operator" => LineWord::Operator,
         "record" => LineWord::Record,
+        "follow" => LineWord::Follow,
         other => packet_word(other),
     }
 }

@@ -46,7 +46,7 @@ const TOLD: [(&str, &str); 22] = [
     ),
     (
         "mixer 9 0 0\nleg A aware 1 a.in a.out\nleg B aware 2 b.in b.out\ngone 60000\n",
-        "conference of recordings\nf line 4: Word\n| gone 60000\na conference of recordings has no lines gone, operator and record: leave the line out\n",
+        "conference of recordings\nf line 4: Word\n| gone 60000\na conference of recordings has no lines gone, operator, record and follow: leave the line out\n",
     ),
     (
         "mixer 9 0 0\nleg A aware 1 a.in a.out\nleg B aware 2 b.in b.out\n",
@@ -96,7 +96,7 @@ const TOLD: [(&str, &str); 22] = [
     ),
 ];
 
-const TOLD_OF_LINKS: [(&str, &str); 11] = [
+const TOLD_OF_LINKS: [(&str, &str); 15] = [
     (
         "mixer 999 0 0\nleg L10 aware 10 5010 [::1]:10\nleg L11 aware 11 5011 [::1]:11\nleg L12 aware 12 5012 [::1]:12\nleg L13 aware 13 5013 [::1]:13\nleg L14 aware 14 5014 [::1]:14\nleg L15 aware 15 5015 [::1]:15\nleg L16 aware 16 5016 [::1]:16\nleg L17 aware 17 5017 [::1]:17\nleg L18 aware 18 5018 [::1]:18\nleg L19 aware 19 5019 [::1]:19\nleg L20 aware 20 5020 [::1]:20\nleg L21 aware 21 5021 [::1]:21\nleg L22 aware 22 5022 [::1]:22\nleg L23 aware 23 5023 [::1]:23\nleg L24 aware 24 5024 [::1]:24\nleg L25 aware 25 5025 [::1]:25\nleg L26 aware 26 5026 [::1]:26\n",
         "conference of links\nf line 18: Many\n| leg L26 aware 26 5026 [::1]:26\na conference of links has at most 16 legs\n",
@@ -115,7 +115,7 @@ const TOLD_OF_LINKS: [(&str, &str); 11] = [
     ),
     (
         "mixer 9 0 0\nleg A aware 1 5001 127.0.0.1:5101\nleg B aware 2 5002 127.0.0.1:5102\nseat A\n",
-        "conference of links\nf line 4: Word\n| seat A\na line begins with mixer, leg, gens, tick, spacing, wait, turns, relabel, gone, operator or record, in small letters, or with # as its first octet: correct the word, and part words by spaces, not by tabs\n",
+        "conference of links\nf line 4: Word\n| seat A\na line begins with mixer, leg, gens, tick, spacing, wait, turns, relabel, gone, operator, record or follow, in small letters, or with # as its first octet: correct the word, and part words by spaces, not by tabs\n",
     ),
     (
         "mixer 9 0 0\nleg A aware 1 5001 127.0.0.1:5101\nleg B aware 2 5002 127.0.0.1:5102\ngone 9999\n",
@@ -136,6 +136,22 @@ const TOLD_OF_LINKS: [(&str, &str); 11] = [
     (
         "mixer 9 0 0\nleg A aware 1 5001 127.0.0.1:5101\nleg B aware 2 5002 127.0.0.1:5102\noperator 5001 Word4Watch\n",
         "conference of links\nf line 4: Clash\n| operator 5001 Word4Watch\na leg above has this port: give the operator its own\n",
+    ),
+    (
+        "mixer 9 0 0\nleg A aware 1 5001 127.0.0.1:5101\nleg B aware 2 5002 127.0.0.1:5102\nfollow A B\n",
+        "conference of links\nf line 4: Count\n| follow A B\nfollow has the word NAME, and no other\n",
+    ),
+    (
+        "mixer 9 0 0\nleg A aware 1 5001 127.0.0.1:5101\nleg B aware 2 5002 127.0.0.1:5102\nfollow C\n",
+        "conference of links\nf line 4: Name\n| follow C\nno leg above has this name: correct it, or move the line below that of the leg\n",
+    ),
+    (
+        "mixer 9 0 0\nleg A aware 1 5001 127.0.0.1:5101\nleg B aware 2 5002 127.0.0.1:5102\nfollow A\nfollow A\n",
+        "conference of links\nf line 5: Twice\n| follow A\na line above says it of this leg: leave one of them out\n",
+    ),
+    (
+        "mixer 9 0 0\nleg A aware 1 5001 127.0.0.1:5101\nleg B aware 2 5002 127.0.0.1:5102\nfollow A\nfollow B\n",
+        "conference of links: 2 legs, whole\n",
     ),
     (
         "mixer 9 0 0\nleg A aware 1 5001 127.0.0.1:5101\nleg B aware 2 5002 127.0.0.1:5102\n",

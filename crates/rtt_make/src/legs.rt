@@ -74,6 +74,7 @@ fn leg_of(alloc: Global, number: u32) -> Result<LegLine, NoMemory>
             from: 0,
             until: None,
         },
+        follow: false,
     })
 }
 
