@@ -1,0 +1,7 @@
+pub mod Asked
+pub mod Unfollowed
+pub mod Texts
+pub mod Fronts
+pub mod Senders
+mod Parts
+mod FollowExamples

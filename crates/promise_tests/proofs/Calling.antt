@@ -1,14 +1,15 @@
 -- What a live call tells.
-use Rattle.std.proofs.Common.{◌≡◌, ℕ, zero, suc, ◌<◌, Some, List, [], ◌∷◌, ◌++◌, length, refl, sym, arith}
+use Rattle.std.proofs.Common.{◌≡◌, ℕ, zero, suc, ◌<◌, Some, List, [], ◌∷◌, ◌++◌, length, refl, subst, sym, arith}
 use Rattle.std.proofs.lemmas.List.{append-nil}
 use Rattle.file_spec.specs.declared.conf_lines.LegLine.{LegLine}
 use Rattle.stream_spec.specs.StillLaws.{StillIsLawful, StillComes}
 use Rattle.mixer_spec.specs.Setups.{leg_at, setup}
-use Rattle.mixer_spec.specs.Bridged.{IsPart}
+use Rattle.stream_spec.specs.Carries.{Carries}
+use Rattle.mixer_spec.specs.Bridged.{IsPart, told_at}
 use Rattle.mixer_spec.specs.Headline.{HeadlineAt, Hop, IsHop, hears}
 use Rattle.mixer_spec.specs.Headlines.{HopsHaveHeadline, hop_behind}
 use Rattle.serve_spec.specs.Served.{came_live}
-use Rattle.serve_spec.specs.HeadLive.{inward_live}
+use Rattle.serve_spec.specs.HeadLive.{OneSenderIsHeard, inward_live}
 use Rattle.promise_tests.specs.Live.{LiveCallsTellWhatWasTyped}
 use Rattle.promise_tests.proofs.Typing.{all_typed_at, only_typed, typed_but}
 
@@ -21,8 +22,8 @@ leg_there (leg ∷ legs) (suc j) low = leg_there legs j (omega (arith, low))
 abbrev all_of : (heard : List (List ℕ)) → IsPart 0 heard heard
 all_of heard = record { before = []; after = []; count = refl; whole = sym (append-nil heard) }
 
-pub live_tells : HopsHaveHeadline → StillIsLawful → StillComes → LiveCallsTellWhatWasTyped
-live_tells hops lawful come c takes given end printed live j i pair h from wait came then =
+pub live_tells : HopsHaveHeadline → StillIsLawful → StillComes → OneSenderIsHeard → LiveCallsTellWhatWasTyped
+live_tells hops lawful come one c takes given end printed live j i pair h from wait came then =
     let p = inward_live c takes i h in
     let q = hop_behind (setup c) live.served.table j i wait came in
     let leg = leg_there c.legs j pair.terminal in
@@ -33,5 +34,7 @@ live_tells hops lawful come c takes given end printed live j i pair h from wait 
     record {
       only = only_typed p q [] told.rest [] so_far;
       front = typed_but p q told.rest so_far;
-      whole = λ closed. all_typed_at p q (hops p q first second 0 (hears p) [] (all_of (hears p)) (told.whole closed));
+      whole = λ closed.
+          let carries = subst (λ (ts : List (List ℕ)). Carries (told_at (setup c) live.served.table j) ((setup c).ssrc i) ts) (one c takes i from.alone) (told.whole closed) in
+          all_typed_at p q (hops p q first second 0 (hears p) [] (all_of (hears p)) carries);
     }

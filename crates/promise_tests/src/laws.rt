@@ -7,6 +7,7 @@ ghost use Rattle.promise_tests.specs.Shut.{LoopholesStayShut};
 use mixer_spec::headline;
 use rtt_io::{Sink, World};
 use rtt_top::laws::statuses_are_those_of_the_command;
+use serve_spec::one_sender_is_heard;
 use stream_spec::still_keeps;
 
 /// Where `mix` ends with 0, what Bob hears as Ann's are texts that Ann typed, in her order, each at most once, and markers,
@@ -23,6 +24,7 @@ pub fn live_calls_tell_what_was_typed()
 {
     headline();
     still_keeps();
+    one_sender_is_heard();
 }
 
 /// So it is of `cascade` where Ann stands behind another mixer, from that mixer's sender to Bob.

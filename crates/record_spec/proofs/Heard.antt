@@ -17,7 +17,9 @@ use Rattle.command_spec.specs.Streams as sorts
 use Rattle.command_spec.specs.Streams.{AreGiven, is_rtcp, is_name, stream_of, headed}
 use Rattle.command_spec.proofs.ShownAsRead.{arrives_alike}
 use Rattle.link_spec.specs.Links.{Came, Datagram, Large, Quiet, Closed, Takes}
-use Rattle.live_spec.specs.Told.{Hearing, Told, told_by, told_packet, told_came, all_by}
+use Rattle.live_spec.specs.Told.{Hearing, Told, told_by, all_by}
+use Rattle.live_spec.specs.ToldLaws.{Plain, plain_by, plain_came, plain_packet}
+use Rattle.live_spec.proofs.Unfollowed.{all_plain, unfollowed_law}
 use Rattle.record_spec.specs.Recorded.{Entry, Part, Parts, packet_size, part_written, has_room, with_entry, begun_with, noted, recorded}
 use Rattle.record_spec.specs.Came.{with_came, datagrams, later, part_arrivals, parts_arrivals}
 use Rattle.record_spec.specs.Laws.{IsShort, what_is, item_in, latest_take, NeverFall, AreTakesFor, last_file}
@@ -93,13 +95,13 @@ texts_before ssrc pts (e ∷ past) r = go (text_of e.octets (Some ssrc) pts) (te
     go (Ok p) h = omega arith
     go (Err f) h = omega (arith, h, r.0)
 
--- ---- what was told
+-- ---- what was told of its SSRC
 
 record IsTold (h : Hearing) (takes : Takes) : Type 0 where
-  texts_are : (told_by h takes).past ≡ texts h.ssrc h.pts (datagrams takes)
-  early : (told_by h takes).moment ≤ latest_take takes
+  texts_are : (plain_by h takes).past ≡ texts h.ssrc h.pts (datagrams takes)
+  early : (plain_by h takes).moment ≤ latest_take takes
 
-told_text : (d : Told) (t : ℕ) (r : Result Packet TextFault) → d.moment ≤ t → ((told_packet d t r).past ≡ with_text t r d.past) × ((told_packet d t r).moment ≤ t)
+told_text : (d : Plain) (t : ℕ) (r : Result Packet TextFault) → d.moment ≤ t → ((plain_packet d t r).past ≡ with_text t r d.past) × ((plain_packet d t r).moment ≤ t)
 told_text d t (Ok p) h =
     let m : max d.moment t ≡ t = omega (arith, h) in
     (ap (λ (n : ℕ). record { time = n; packet = p } ∷ d.past) m, omega (arith, h))
@@ -111,7 +113,7 @@ told h (a ∷ takes) r = go a.came (told h takes r.1)
   where
     go : (c : Came) → IsTold h takes → IsTold h (record { at = a.at; came = c } ∷ takes)
     go (Datagram octets) m =
-        let one = told_text (told_by h takes) a.at (text_of octets (Some h.ssrc) h.pts) (omega (arith, m.early, r.0)) in
+        let one = told_text (plain_by h takes) a.at (text_of octets (Some h.ssrc) h.pts) (omega (arith, m.early, r.0)) in
         record {
           texts_are = one.0 ∙ ap (λ (past : List Arrival). with_text a.at (text_of octets (Some h.ssrc) h.pts) past) m.texts_are;
           early = one.1;
@@ -239,6 +241,7 @@ files_heard start h takes a =
     same_out start h.ssrc h.pts a.types (ps.last ∷ reverse ps.over) (g.last, all_reversed (IsGood start) ps.over g.over)
     ∙ (out_recorded start h.ssrc h.pts a.types (datagrams takes) d.rise).are
     ∙ sym (told h takes a.rise).texts_are
+    ∙ sym (ap (λ (d : Told). d.past) (unfollowed_law h takes a.alone).told)
 
 -- ---- one file
 
@@ -273,3 +276,4 @@ file_heard start h takes a none =
     let ps = recorded start (datagrams takes) in
     ap (λ (past : List Arrival). chunks h.wait h.leg (still past) h.ssrc)
     (sym (one_file start h.ssrc h.pts ps none (first_begins start (datagrams takes) none)) ∙ files_heard start h takes a)
+    ∙ sym (all_plain h takes a.alone)

@@ -1,5 +1,5 @@
 -- What holds of the recordings of a call.
-use Rattle.std.specs.Prelude.{◌≡◌, ℕ, ◌+◌, ◌-◌, ◌*◌, ◌^◌, ◌<◌, ◌≤◌, ◌==◌, Option, None, Some, List, [], ◌∷◌, length, map, flat_map, reverse, take, if◌then◌else◌}
+use Rattle.std.specs.Prelude.{◌≡◌, ℕ, ◌+◌, ◌-◌, ◌*◌, ◌^◌, ◌<◌, ◌≤◌, ◌==◌, false, Option, None, Some, List, [], ◌∷◌, length, map, flat_map, reverse, take, if◌then◌else◌}
 use Rattle.std.specs.List.{AllByRecursion}
 use Rattle.rtt_base.specs.declared.limits.TheConstants.{MOST_PACKET_OCTETS}
 use Rattle.wire_spec.specs.declared.limits.TheConstants.{LAST_RECORD_MOMENT, MOST_RECORDING_OCTETS}
@@ -73,9 +73,10 @@ abbrev pub NeverFall : Takes → Type 0
 NeverFall [] = Unit {0}
 NeverFall (a ∷ past) = (latest_take past ≤ a.at) × NeverFall past
 
--- Takes as a link gives them, at which a leg is heard that has payload types of text.
+-- Takes as a link gives them, at which a leg is heard that has payload types of text, and is not followed.
 pub record AreTakesFor (h : Hearing) (takes : Takes) : Type 0 where
   pub types : AreGiven h.pts
+  pub alone : h.follow ≡ false
   pub short : AllByRecursion IsShort (datagrams takes)
   pub rise : NeverFall takes
 

@@ -1,4 +1,5 @@
 mod Texts
+pub mod HeardLive
 mod Sharing
 mod Back
 mod Composing
@@ -8,3 +9,7 @@ pub mod Promised
 mod LiveExamples
 pub mod Watching
 pub mod Totals
+mod Later
+mod Turns
+mod TwoHops
+pub mod Senders

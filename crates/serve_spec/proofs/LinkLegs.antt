@@ -1,27 +1,19 @@
 -- What holds of the legs of a conference of links, whatever its file says: what each new one keeps, and no line of generations changes.
-use Rattle.std.proofs.Common.{◌≡◌, ℕ, ◌+◌, Bool, true, false, Option, Some, None, List, [], ◌∷◌, ◌++◌, length, refl, ap, subst, sym, ◌∙◌}
-use Rattle.std.specs.Prelude.{not, nat_le, nat_lt, if◌then◌else◌, Result, Ok, Err, codes, bytes_eq, is_some, ◌||◌, ◌==◌}
+use Rattle.std.proofs.Common.{◌≡◌, ℕ, true, false, Option, Some, List, [], ◌∷◌, ◌++◌, length, refl, ap, subst, sym, ◌∙◌}
+use Rattle.std.specs.Prelude.{not, nat_le, Ok, bytes_eq, is_some, ◌||◌, ◌==◌}
 use Rattle.std.specs.List.{list_any}
-use Rattle.std.specs.Option.{ok_or}
-use Rattle.std.specs.Str.{is_utf8}
-use Rattle.std.specs.Str.Lines.{lines}
 use Rattle.std.proofs.lemmas.Bool.{not-false, or_parts}
 use Rattle.rtt_base.specs.declared.text_packets.Pts.{Pts}
-use Rattle.file_spec.specs.declared.limits.TheConstants.{FEWEST_LEGS, LEAST_SPACING, LEAST_TICK, MOST_CONF_OCTETS, MOST_SPACING, MOST_TICK, MOST_TURNS, USUAL_GENS}
-use Rattle.file_spec.specs.declared.kinds.ConfKind.{ConfKind}
-use Rattle.file_spec.specs.declared.kinds.ConfKind.TheVariants.{Clash, Crowd, Few, Large, Many, Name, NotText, Number, Twice, Word}
+use Rattle.file_spec.specs.declared.kinds.ConfKind.TheVariants.{Clash, Many, Number, Twice}
 use Rattle.file_spec.specs.declared.conf_lines.Form.TheVariants.{Links}
-use Rattle.file_spec.specs.declared.conf_lines.MixerLine.{MixerLine}
 use Rattle.file_spec.specs.declared.conf_lines.LegLine.{LegLine}
 use Rattle.rtt_base.specs.Steps.{◌>>=◌}
 use Rattle.file_spec.specs.Steps.{unless}
-use Rattle.file_spec.specs.Lines.{Line, at_line, read_lines, told, words}
-use Rattle.file_spec.specs.Numbers.{most_ssrc, number, pts}
-use Rattle.file_spec.specs.Stays.{is_crowd}
-use Rattle.file_spec.specs.Conf.{Above, Conf, Entry, Gens, Leg, Mixer, Plan, Relabel, Serves, Spacing, Stays, Tick, Turns, Wait, and_line, aware_of, change_leg, clashes, complete, conf, entry, gens, has_names, has_port, is_blank, is_mixers, is_operators, leg, leg_of, mixer, most_legs, new_leg, nothing, port, says, setting, shares_own, shares_path, stay_or_plan, time_or_other, usual_types, whole, whole_stay, with_entry, with_gens}
+use Rattle.file_spec.specs.Lines.{Line}
+use Rattle.file_spec.specs.Numbers.{pts}
+use Rattle.file_spec.specs.Conf.{Above, Conf, Entry, Gens, Leg, Mixer, Plan, Relabel, Follows, Serves, Spacing, Stays, Tick, Turns, Wait, and_line, change_leg, clashes, conf, has_port, is_mixers, is_operators, leg, leg_of, most_legs, new_leg, port, shares_own, shares_path, usual_types, whole_stay, with_entry, with_follow, with_gens}
 use Rattle.rtt_base.proofs.Steps.{bind_ok}
 use Rattle.file_spec.proofs.Passed.{unless_ok}
-use Rattle.rtt_base.specs.declared.limits.TheConstants.{LONGEST_WAIT}
 use Rattle.file_spec.proofs.EachLine.{HoldsOf, leg_read, entry_holds, line_adds, lines_of, completed}
 
 -- Behind these legs: it stays for good, its input is a port, and none above it has the same port or output.
@@ -41,6 +33,7 @@ Fits above (Wait n) = Unit {0}
 Fits above (Turns n) = Unit {0}
 Fits above (Relabel n) = Unit {0}
 Fits above (Plan p) = Unit {0}
+Fits above (Follows k) = Unit {0}
 Fits above (Serves s) = Unit {0}
 
 -- ---- legs
@@ -86,15 +79,21 @@ entry_fits above n = record {
   each_wait = λ ws x e. tt;
   each_turns = λ ws x e. tt;
   each_relabel = λ ws x e. tt;
+  each_follow = λ q ws x e. tt;
   each_service = λ q word ws x e. tt;
 }
 
--- ---- the whole, where none keeps it, one more keeps it, and another count of generations does
+-- what is changed of a leg leaves its stay and its input
+pub record Leaves (change : LegLine → LegLine) : Type 0 where
+  pub stay : (l : LegLine) → (change l).stay ≡ l.stay
+  pub input : (l : LegLine) → (change l).input ≡ l.input
+
+-- ---- the whole, where none keeps it, one more keeps it, and what changes a leg so does
 module _ (Fit : List LegLine → Type 0) (none : Fit []) (push : (above : List LegLine) (l : LegLine) → IsNewLink above l → Fit above → Fit (above ++ l ∷ []))
-    (changed : (n k : ℕ) (legs : List LegLine) → Fit legs → Fit (change_leg (with_gens n) k legs)) where
+    (changed : (change : LegLine → LegLine) → Leaves change → (k : ℕ) (legs : List LegLine) → Fit legs → Fit (change_leg change k legs)) where
   more : (above : Above) (said : Entry) → Fit above.legs → Fits above.legs said → Fit (with_entry above said).legs
   more above (Leg l) f n = push above.legs l n f
-  more above (Gens g) f n = changed g.gens g.leg above.legs f
+  more above (Gens g) f n = changed (with_gens g.gens) (record { stay = λ l. refl; input = λ l. refl }) g.leg above.legs f
   more above (Stays s) f n = absurd n
   more above (Tick m) f n = f
   more above (Spacing m) f n = f
@@ -103,6 +102,7 @@ module _ (Fit : List LegLine → Type 0) (none : Fit []) (push : (above : List L
   more above (Relabel m) f n = f
   more above (Mixer x) f n = f
   more above (Plan p) f n = f
+  more above (Follows k) f n = changed with_follow (record { stay = λ l. refl; input = λ l. refl }) k above.legs f
   more above (Serves s) f n = f
 
   line_fits : (above later : Above) (line : Line) → and_line Links above line ≡ Ok later → Fit above.legs → Fit later.legs

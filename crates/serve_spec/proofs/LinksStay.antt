@@ -11,12 +11,12 @@ use Rattle.file_spec.specs.declared.conf_lines.Form.TheVariants.{Links}
 use Rattle.file_spec.specs.declared.conf_lines.LegLine.{LegLine}
 use Rattle.file_spec.specs.Stays.{staying, stays_at}
 use Rattle.file_spec.specs.Kept.{IsConference}
-use Rattle.file_spec.specs.Conf.{Conf, change_leg, conf, is_same_port, port, shares_path, whole_stay, with_gens}
+use Rattle.file_spec.specs.Conf.{Conf, change_leg, conf, is_same_port, port, shares_path, whole_stay}
 use Rattle.file_spec.proofs.KeptLines.{length-change}
 use Rattle.mixer_spec.proofs.Conferences.{accepted_law}
 use Rattle.serve_spec.specs.HeadLive.{LinksApart, LinksStay}
 use Rattle.mixer_spec.specs.Setups.{AllStay, from_of, leg_at, setup, until_of}
-use Rattle.serve_spec.proofs.LinkLegs.{IsNewLink, legs_fit}
+use Rattle.serve_spec.proofs.LinkLegs.{IsNewLink, Leaves, legs_fit}
 
 -- it stays for good, and its input is a port
 abbrev Stay : LegLine → Type 0
@@ -29,31 +29,35 @@ AreApart a b = is_same_port (port a.input) (port b.input) ≡ false
 abbrev Fit : List LegLine → Type 0
 Fit legs = All Stay legs × AllPairs AreApart legs
 
-input_at : (n : ℕ) (legs : List LegLine) (k i : ℕ) (d : LegLine) → (get_or (change_leg (with_gens n) k legs) i d).input ≡ (get_or legs i d).input
-input_at n [] k i d = refl
-input_at n (l ∷ legs) zero zero d = refl
-input_at n (l ∷ legs) zero (suc i) d = refl
-input_at n (l ∷ legs) (suc k) zero d = refl
-input_at n (l ∷ legs) (suc k) (suc i) d = input_at n legs k i d
+module _ (change : LegLine → LegLine) (leaves : Leaves change) where
+  input_at : (legs : List LegLine) (k i : ℕ) (d : LegLine) → (get_or (change_leg change k legs) i d).input ≡ (get_or legs i d).input
+  input_at [] k i d = refl
+  input_at (l ∷ legs) zero zero d = leaves.input l
+  input_at (l ∷ legs) zero (suc i) d = refl
+  input_at (l ∷ legs) (suc k) zero d = refl
+  input_at (l ∷ legs) (suc k) (suc i) d = input_at legs k i d
 
-still_apart : (n k : ℕ) (legs : List LegLine) → AllPairs AreApart legs → AllPairs AreApart (change_leg (with_gens n) k legs)
-still_apart n k legs a i j d less within =
-    let same = length-change (with_gens n) k legs in
-    subst (λ x. is_same_port (port x) (port (get_or (change_leg (with_gens n) k legs) j d).input) ≡ false) (sym (input_at n legs k i d))
-    (subst (λ y. is_same_port (port (get_or legs i d).input) (port y) ≡ false) (sym (input_at n legs k j d)) (a i j d less (omega (arith, within, same))))
+  still_apart : (k : ℕ) (legs : List LegLine) → AllPairs AreApart legs → AllPairs AreApart (change_leg change k legs)
+  still_apart k legs a i j d less within =
+      let same = length-change change k legs in
+      subst (λ x. is_same_port (port x) (port (get_or (change_leg change k legs) j d).input) ≡ false) (sym (input_at legs k i d))
+      (subst (λ y. is_same_port (port (get_or legs i d).input) (port y) ≡ false) (sym (input_at legs k j d)) (a i j d less (omega (arith, within, same))))
 
-changed : (n k : ℕ) (legs : List LegLine) → All Stay legs → All Stay (change_leg (with_gens n) k legs)
-changed n k [] a = a
-changed n zero (l ∷ legs) a = go
-  where
-    go : All Stay (with_gens n l ∷ legs)
-    go zero d h = a zero d (omega arith)
-    go (suc i) d h = a (suc i) d h
-changed n (suc k) (l ∷ legs) a = go (changed n k legs (λ i d h. a (suc i) d (omega arith)))
-  where
-    go : All Stay (change_leg (with_gens n) k legs) → All Stay (l ∷ change_leg (with_gens n) k legs)
-    go r zero d h = a zero d (omega arith)
-    go r (suc i) d h = r i d (omega arith)
+  stays_so : (l : LegLine) → Stay l → Stay (change l)
+  stays_so l s = (leaves.stay l ∙ s.0, ap (λ x. is_some (port x)) (leaves.input l) ∙ s.1)
+
+  changed : (k : ℕ) (legs : List LegLine) → All Stay legs → All Stay (change_leg change k legs)
+  changed k [] a = a
+  changed zero (l ∷ legs) a = go
+    where
+      go : All Stay (change l ∷ legs)
+      go zero d h = stays_so l (a zero d (omega arith))
+      go (suc i) d h = a (suc i) d h
+  changed (suc k) (l ∷ legs) a = go (changed k legs (λ i d h. a (suc i) d (omega arith)))
+    where
+      go : All Stay (change_leg change k legs) → All Stay (l ∷ change_leg change k legs)
+      go r zero d h = a zero d (omega arith)
+      go r (suc i) d h = r i d (omega arith)
 
 none_passes : (test : LegLine → Bool) (legs : List LegLine) → list_any test legs ≡ false → All (λ a. test a ≡ false) legs
 none_passes test legs e i d h = go (test (get_or legs i d)) refl
@@ -71,7 +75,7 @@ one_more above l n f = (All-push Stay above l f.0 (n.stays, n.numbered), all_pai
 legs_stay : (octets : List ℕ) (c : Conf) → conf Links octets ≡ Ok c → Fit c.legs
 legs_stay octets c e =
     legs_fit Fit (All-nil Stay, λ i j d less within. absurd (omega (arith, within))) one_more
-    (λ n k legs f. (changed n k legs f.0, still_apart n k legs f.1)) octets c e
+    (λ change leaves k legs f. (changed change leaves k legs f.0, still_apart change leaves k legs f.1)) octets c e
 
 all_staying : (legs : List LegLine) → All Stay legs → staying 0 legs ≡ length legs
 all_staying [] a = refl

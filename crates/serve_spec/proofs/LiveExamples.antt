@@ -33,10 +33,10 @@ abbrev legs : List ℕ
 legs = codes "leg Ann aware 1001 5004 127.0.0.1:6004\nleg Bob aware 1002 5006 127.0.0.1:6006\nmixer 9000 100 5000\n"
 
 abbrev ann : LegLine
-ann = record { line = 1; name = codes "Ann"; aware = true; ssrc = 1001; input = codes "5004"; output = codes "127.0.0.1:6004"; pts = types; gens = 2; stay = for_good }
+ann = record { line = 1; name = codes "Ann"; aware = true; ssrc = 1001; input = codes "5004"; output = codes "127.0.0.1:6004"; pts = types; gens = 2; stay = for_good; follow = false }
 
 abbrev bob : LegLine
-bob = record { line = 2; name = codes "Bob"; aware = true; ssrc = 1002; input = codes "5006"; output = codes "127.0.0.1:6006"; pts = types; gens = 2; stay = for_good }
+bob = record { line = 2; name = codes "Bob"; aware = true; ssrc = 1002; input = codes "5006"; output = codes "127.0.0.1:6006"; pts = types; gens = 2; stay = for_good; follow = false }
 
 abbrev call : ℕ → Conf
 call turns = record { legs = ann ∷ bob ∷ []; tick = 100; spacing = 300; wait = 1000; turns = turns; relabel = None; mixer = record { ssrc = 9000; seq = 100; stamp = 5000 }; plan = []; service = no_service }

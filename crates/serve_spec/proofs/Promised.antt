@@ -8,20 +8,17 @@ use Rattle.file_spec.specs.declared.conf_lines.LegLine.{LegLine}
 use Rattle.file_spec.specs.Conf.{Conf, conf}
 use Rattle.file_spec.specs.Kept.{IsConference}
 use Rattle.stream_spec.specs.Ready.{Chunk}
-use Rattle.stream_spec.specs.Still.{still}
 use Rattle.stream_spec.specs.History.{Come, History}
 use Rattle.stream_spec.specs.Own.{Own}
 use Rattle.stream_spec.specs.Own as histories
 use Rattle.stream_spec.specs.Carries.{CarriesFront}
-use Rattle.stream_spec.proofs.ChunkTexts.{chunk_texts}
 use Rattle.mixer_spec.specs.Chunks.{texts_of}
-use Rattle.mixer_spec.specs.Setups.{AllStay, IsAnother, gens_of, leg_at, setup, ssrc_of}
+use Rattle.mixer_spec.specs.Setups.{AllStay, IsAnother, gens_of, leg_at, setup}
 use Rattle.mixer_spec.specs.Table.{Table, chunks_taken, is_idle, is_quiet, shared}
 use Rattle.mixer_spec.specs.Legs.{left}
 use Rattle.mixer_spec.specs.Core.{Core, Event, after, turns_in}
 use Rattle.mixer_spec.specs.Laws.{chunks_given}
 use Rattle.mixer_spec.specs.Bridged.{IsOut, IsPair, IsRunning, hop_to, shared_texts, told_at, waiting_texts}
-use Rattle.mixer_spec.specs.Headline.{hears}
 use Rattle.mixer_spec.specs.Headlines.{hop_behind}
 use Rattle.mixer_spec.proofs.After.{core_good}
 use Rattle.mixer_spec.proofs.Asks.{composed_law, given_law, texts_law}
@@ -48,6 +45,7 @@ use Rattle.command_spec.proofs.PrintedNames.{names_print}
 use Rattle.serve_spec.specs.Served.{Closed, End, IsDrained, IsServed, chunks_live, came_live, given_to, heard_live, hearing_at}
 use Rattle.serve_spec.specs.HeadLive.{IsGiven, IsToldAsOne, IsToldLive, ServedIsHeadLive, inward_live}
 use Rattle.serve_spec.proofs.Texts.{live_texts}
+use Rattle.serve_spec.proofs.HeardLive.{live_heard, one_sender}
 use Rattle.serve_spec.proofs.Sharing.{shared_live}
 use Rattle.serve_spec.proofs.Back.{read_back}
 use Rattle.serve_spec.proofs.Composing.{composed_more}
@@ -98,7 +96,7 @@ module _ (c : Conf) (takes : ℕ → Takes) (given : ℕ → List (List ℕ)) (e
 
   -- what is heard are the texts of all chunks
   heard_is : (i : ℕ) → texts_of (chunks_live c takes i) ≡ heard_live c takes i
-  heard_is i = chunk_texts c.wait i (still (came_live c takes i)) (ssrc_of (leg_at c.legs i))
+  heard_is i = live_heard c takes i
 
   all_given : (j i : ℕ) → j < (setup c).legs → IsAnother i j → shared j (w.taken i) ≡ chunks_taken (w.taken i)
   all_given j i low n = shared_live (setup c) (hearing_at c) takes (chunks_live c takes) r.counts past r.stay r.live j i low n
@@ -136,10 +134,11 @@ module _ (c : Conf) (takes : ℕ → Takes) (given : ℕ → List (List ℕ)) (e
           rest = waiting_texts w j i ++ back;
           front = front;
           left = (rest_of i, in_order (setup c) (chunks_live c takes) past i, refl);
+          one_hop = λ wait came comes. one_hop (hop_behind (setup c) w j i wait came) (record { lawful = lawful; come = comes });
           headline = λ h from wait came comes.
               hops_law (inward_live c takes i h) (hop_behind (setup c) w j i wait came) (record { lawful = lawful_still h from.lawful; come = come_still h (came_live c takes i) from.come })
               (record { lawful = lawful; come = comes }) 0 (heard_live c takes i) (waiting_texts w j i ++ back)
-              (record { before = []; after = []; count = refl; whole = sym (nil (heard_live c takes i)) }) front;
+              (record { before = []; after = []; count = refl; whole = sym (one_sender c takes i from.alone) ∙ sym (nil (heard_live c takes i)) }) front;
           whole = λ q.
               let none = (quiet_parts (setup c) j i (w.terminals j) (quiet q j p.terminal) p.leg p.other).0 in
               subst (λ (ts : List (List ℕ)). CarriesFront (told j) x ts []) (ap texts_of (same ∙ (v.drained q i p.leg).taken) ∙ heard_is i)

@@ -5,16 +5,14 @@ use Rattle.std.proofs.lemmas.List.{length-append}
 use Rattle.std.proofs.lemmas.List.Folds.{concat-append}
 use Rattle.stream_spec.specs.Carries.{Groups, texts_by}
 use Rattle.stream_spec.specs.Ready.{Chunk}
-use Rattle.stream_spec.specs.Still.{still}
-use Rattle.stream_spec.proofs.ChunkTexts.{chunk_texts}
 use Rattle.file_spec.specs.Conf.{Conf}
 use Rattle.mixer_spec.specs.Bridged.{told_at, waiting_texts}
 use Rattle.mixer_spec.specs.Chunks.{octets, texts_of}
-use Rattle.mixer_spec.specs.Setups.{leg_at, setup, ssrc_of}
+use Rattle.mixer_spec.specs.Setups.{setup}
 use Rattle.mixer_spec.specs.Table.{Table, chunks_taken}
-use Rattle.mixer_spec.proofs.Carries.{texts_append}
 use Rattle.link_spec.specs.Links.{Takes}
-use Rattle.serve_spec.specs.Served.{End, came_live, chunks_live, heard_live}
+use Rattle.serve_spec.specs.Served.{End, chunks_live, heard_live}
+use Rattle.serve_spec.proofs.HeardLive.{live_heard}
 use Rattle.serve_spec.specs.HeadLive.{HeadLive, IsToldLive}
 use Rattle.serve_spec.specs.Watched.{CoversTold, octets_told}
 
@@ -63,7 +61,7 @@ told_is_covered c takes table end j i t =
     let waits = waiting_texts table j i in
     let texts = texts_by ((setup c).ssrc i) (told_at (setup c) table j).entries in
     let all : size heard ≡ octets taken + octets behind =
-    ap size (sym (chunk_texts c.wait i (still (came_live c takes i)) (ssrc_of (leg_at c.legs i))))
+    ap size (sym (live_heard c takes i))
     ∙ (sym (octets_are (chunks_live c takes i)) ∙ (ap octets (sym t.left.1) ∙ octets_both taken behind)) in
     let rest : size t.rest ≡ size waits + octets behind = ap size t.left.2 ∙ (size_both waits (texts_of behind) ∙ ap (λ n. size waits + n) (sym (octets_are behind))) in
     covers (size texts) (octets taken) (octets behind) (size t.rest) (size waits) (size heard) (groups_size texts heard t.rest t.front) all rest

@@ -7,6 +7,7 @@ use Rattle.file_spec.specs.declared.conf_lines.LegLine.{LegLine}
 use Rattle.file_spec.specs.Conf.{Conf, conf, port}
 use Rattle.stream_spec.specs.Lists.{In}
 use Rattle.stream_spec.specs.History.{Come, History, Lawful, Placed, placed}
+use Rattle.stream_spec.specs.Hearing.{heard}
 use Rattle.stream_spec.specs.Ready.{Chunk}
 use Rattle.stream_spec.specs.Still.{still, still_history}
 use Rattle.stream_spec.specs.Own.{Own, own_packet}
@@ -23,7 +24,7 @@ use Rattle.mixer_spec.specs.Headlines.{hop_behind}
 use Rattle.named_spec.specs.Heard.{HearsNamed}
 use Rattle.named_spec.specs.Seen.{ShowsNamed}
 use Rattle.link_spec.specs.Links.{Takes}
-use Rattle.serve_spec.specs.Served.{Closed, End, IsServed, came_live, chunks_live, heard_live}
+use Rattle.serve_spec.specs.Served.{Closed, End, IsServed, came_live, chunks_live, heard_live, is_followed, sender_live, told_live}
 
 -- What was given to the terminal j, where this is the leg j: the packets of the history that they tell, which is lawful and of the
 -- mixer's own making. At `Closed` each text was repeated as often as it is to be.
@@ -33,14 +34,19 @@ pub record IsGiven (c : Conf) (table : Table) (end : End) (j : ℕ) (leg : LegLi
   pub packets : map (λ octets. text_of octets (Some c.mixer.ssrc) leg.pts) given ≡ map (λ x. Ok (own_packet (told_at (setup c) table j) x)) (placed (told_at (setup c) table j))
   pub closed : end ≡ Closed → histories.Closed leg.gens (told_at (setup c) table j)
 
--- what came of the leg i is of the lawful history h
+-- nobody took over from the sender of the leg i
+abbrev pub HasOneSender : Conf → (ℕ → Takes) → ℕ → Type 0
+HasOneSender c takes i = (told_live c takes i).before ≡ []
+
+-- what came of the leg i is of one sender, and of the lawful history h
 pub record IsFromLive (c : Conf) (takes : ℕ → Takes) (i : ℕ) (h : History) : Type 0 where
+  pub alone : HasOneSender c takes i
   pub lawful : Lawful h
   pub come : Come h (came_live c takes i)
 
 -- the hop from the leg i, of whom the history h was sent, but for keep-alives
 abbrev pub inward_live : Conf → (ℕ → Takes) → ℕ → History → Hop
-inward_live c takes i h = record { sent = still_history h; wait = c.wait; came = still (came_live c takes i); source = (setup c).ssrc i }
+inward_live c takes i h = record { sent = still_history h; wait = c.wait; came = still (came_live c takes i); source = sender_live c takes i }
 
 -- Of the leg i the aware terminal j is given a front of what is heard of it, in order. At `Closed` it is given all of that.
 pub record IsToldLive (c : Conf) (takes : ℕ → Takes) (table : Table) (end : End) (j i : ℕ) : Type 0 where
@@ -49,6 +55,8 @@ pub record IsToldLive (c : Conf) (takes : ℕ → Takes) (table : Table) (end : 
   pub whole : end ≡ Closed → Carries (told_at (setup c) table j) ((setup c).ssrc i) (heard_live c takes i)
   -- What is left waits for its turn at the terminal, or was not taken by the mixer.
   pub left : (behind : List Chunk) × (chunks_taken (table.taken i) ++ behind ≡ chunks_live c takes i) × (rest ≡ waiting_texts table j i ++ texts_of behind)
+  -- The hop to the terminal by itself, whatever comes of what it is given.
+  pub one_hop : (wait : ℕ) (came : List Arrival) → Come (told_at (setup c) table j) came → OneHop (hop_behind (setup c) table j i wait came)
   -- The headline, for every lawful history of which the leg's packets come, and whatever comes to the terminal of what it is given.
   pub headline : (h : History) → IsFromLive c takes i h
       → (wait : ℕ) (came : List Arrival) → Come (told_at (setup c) table j) came
@@ -88,6 +96,22 @@ ServedIsHeadLive =
     → IsServed c takes given end printed
     → HeadLive c takes given end printed
 
+-- ---- senders
+-- Where nobody took over, a leg is heard as one stream, that of its sender.
+abbrev pub OneSenderIsHeard : Type 0
+OneSenderIsHeard =
+    (c : Conf) (takes : ℕ → Takes) (i : ℕ)
+    → HasOneSender c takes i
+    → heard_live c takes i ≡ heard c.wait (still (came_live c takes i)) (sender_live c takes i)
+
+-- From the sender of a leg that is not followed nobody takes over, and that is the SSRC of the conference.
+abbrev pub UnfollowedHasOneSender : Type 0
+UnfollowedHasOneSender =
+    (c : Conf) (takes : ℕ → Takes) (i : ℕ)
+    → is_followed (leg_at c.legs i) ≡ false
+    → HasOneSender c takes i × (sender_live c takes i ≡ (setup c).ssrc i)
+
+-- ---- links
 -- the input of each leg is a port, and no two legs have one
 pub record HavePorts (c : Conf) : Type 0 where
   pub each : (j : ℕ) (leg : LegLine) → leg_at c.legs j ≡ Some leg → IsSome (port leg.input)

@@ -1,14 +1,12 @@
 -- What a live call gives and prints (profile). Legs and their terminals are numbered from 0. Takes stand newest first, what is
 -- given to a terminal oldest first.
-use Rattle.std.specs.Prelude.{◌≡◌, ◌<◌, ◌≤◌, ◌⊎◌, ℕ, true, Option, None, Some, List, [], ◌++◌, codes, length, map, flat_map, remove, if◌then◌else◌}
+use Rattle.std.specs.Prelude.{◌≡◌, ◌<◌, ◌≤◌, ◌⊎◌, ℕ, Bool, true, false, Option, None, Some, List, [], ◌++◌, codes, length, map, flat_map, remove, unwrap_or, if◌then◌else◌}
 use Rattle.std.specs.List.{enumerate_from}
 use Rattle.rtt_base.specs.declared.text_packets.Pts.{Pts}
 use Rattle.wire_spec.specs.Packets.{Arrival}
 use Rattle.wire_spec.specs.SentPackets.{packet_written}
 use Rattle.wire_spec.specs.Dump.{Item, sent_item}
-use Rattle.stream_spec.specs.Hearing.{heard}
 use Rattle.stream_spec.specs.Ready.{Chunk}
-use Rattle.stream_spec.specs.Still.{still}
 use Rattle.file_spec.specs.declared.conf_lines.LegLine.{LegLine}
 use Rattle.file_spec.specs.Conf.{Conf}
 use Rattle.mixer_spec.specs.Setups.{leg_at, setup, ssrc_of}
@@ -16,7 +14,7 @@ use Rattle.mixer_spec.specs.Table.{Table, chunks_taken, is_idle, turned}
 use Rattle.view_spec.specs.Seen.{aware_seen, unaware_seen}
 use Rattle.command_spec.specs.Mixing.{reception_of, sent_to, speaker_of}
 use Rattle.link_spec.specs.Links.{Takes, is_closed}
-use Rattle.live_spec.specs.Told.{Hearing, told_by}
+use Rattle.live_spec.specs.Told.{Hearing, Told, heard_told, told_by}
 use Rattle.live_spec.specs.Live.{IsOver, Live, at_last, live_chunks}
 
 -- how a live call ended: all turns were made, or all links are closed and nothing is left, or it broke off before
@@ -30,17 +28,29 @@ abbrev pub pts_of : Option LegLine → Pts
 pts_of None = record { t140 = 0; red = 0 }
 pts_of (Some leg) = leg.pts
 
+-- whether whoever sends from its terminal is heard
+abbrev pub is_followed : Option LegLine → Bool
+is_followed None = false
+is_followed (Some leg) = leg.follow
+
 -- how the leg i is heard
 abbrev pub hearing_at : Conf → ℕ → Hearing
-hearing_at c i = record { leg = i; ssrc = ssrc_of (leg_at c.legs i); pts = pts_of (leg_at c.legs i); wait = c.wait }
+hearing_at c i = record { leg = i; ssrc = ssrc_of (leg_at c.legs i); pts = pts_of (leg_at c.legs i); wait = c.wait; follow = is_followed (leg_at c.legs i) }
 
--- the packets of text that came of it, newest first
-abbrev pub came_live : Conf → (ℕ → Takes) → ℕ → List Arrival
-came_live c takes i = (told_by (hearing_at c i) (takes i)).past
+abbrev pub told_live : Conf → (ℕ → Takes) → ℕ → Told
+told_live c takes i = told_by (hearing_at c i) (takes i)
 
 -- its texts, but for keep-alives
 abbrev pub heard_live : Conf → (ℕ → Takes) → ℕ → List (List ℕ)
-heard_live c takes i = heard c.wait (still (came_live c takes i)) (ssrc_of (leg_at c.legs i))
+heard_live c takes i = heard_told (hearing_at c i) (told_live c takes i)
+
+-- the packets of text that came of its sender, newest first
+abbrev pub came_live : Conf → (ℕ → Takes) → ℕ → List Arrival
+came_live c takes i = (told_live c takes i).past
+
+-- the SSRC of its sender, or that of the conference, while there is none
+abbrev pub sender_live : Conf → (ℕ → Takes) → ℕ → ℕ
+sender_live c takes i = unwrap_or (told_live c takes i).sender (ssrc_of (leg_at c.legs i))
 
 -- and each with the moment from which it may be mixed
 abbrev pub chunks_live : Conf → (ℕ → Takes) → ℕ → List Chunk

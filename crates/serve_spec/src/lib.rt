@@ -3,4 +3,6 @@
 
 mod laws;
 
-pub use laws::{links_are_apart, links_stay, live_calls_keep};
+pub use laws::{
+    calls_tell_in_turn, links_are_apart, links_stay, live_calls_keep, one_sender_is_heard,
+};

@@ -1,0 +1,80 @@
+-- A packet of one SSRC is read alike, whether that is asked for or any is.
+use Rattle.std.proofs.Common.{◌≡◌, ℕ, Bool, true, false, inl, inr, Some, None, List, Ok, Err, Result, refl, ap, sym, ◌∙◌}
+use Rattle.std.specs.Prelude.{◌==◌, length, nat_lt, if◌then◌else◌}
+use Rattle.std.proofs.lemmas.Bool.{cases_eq, eq-eqb, false≢true, ne_eqb}
+use Rattle.rtt_base.specs.Steps.{◌>>=◌}
+use Rattle.rtt_base.proofs.Steps.{bind_ok}
+use Rattle.rtt_base.specs.declared.blocks.TextBlock.{TextBlock}
+use Rattle.rtt_base.specs.declared.text_packets.Pts.{Pts}
+use Rattle.rtt_base.specs.declared.limits.TheConstants.{MOST_PACKET_OCTETS}
+use Rattle.wire_spec.specs.declared.faults.TextFault.{TextFault}
+use Rattle.wire_spec.specs.declared.faults.TextFault.TheVariants.{Sources, Long, Foreign}
+use Rattle.wire_spec.specs.declared.faults.RtpFault.{RtpFault}
+use Rattle.wire_spec.specs.Faults.{header_fault, blocks_fault}
+use Rattle.wire_spec.specs.Packets.{Packet}
+use Rattle.wire_spec.specs.Red.{red}
+use Rattle.wire_spec.specs.Rtp.{Reading, rtp}
+use Rattle.wire_spec.specs.Text.{accepted, refused_as, text_of, text_of_short, text_packet}
+
+pub eqb_true : (m n : ℕ) → (m == n) ≡ true → m ≡ n
+eqb_true m n e = elim (cases_eq m n) [ inl q ↦ q | inr k ↦ absurd (false≢true (sym (ne_eqb m n k) ∙ e)) ]
+
+-- ---- of a header that is read
+abbrev one_source : Reading → Result Reading TextFault
+one_source r = if nat_lt 1 r.cc then Err Sources else Ok r
+
+abbrev blocks_read : Pts → Reading → Result Packet TextFault
+blocks_read pts r = refused_as blocks_fault (red r.payload r.pt pts) >>= λ blocks. Ok (text_packet r blocks)
+
+source_is : (r s : Reading) → one_source r ≡ Ok s → r ≡ s
+source_is r s e = go (nat_lt 1 r.cc) e
+  where
+    go : (b : Bool) → (if b then Err Sources else Ok r) ≡ Ok s → r ≡ s
+    go true q = absurd (cc q)
+    go false q = cc q
+
+ssrc_is : (pts : Pts) (r : Reading) (p : Packet) → (one_source r >>= blocks_read pts) ≡ Ok p → p.ssrc ≡ r.ssrc
+ssrc_is pts r p e =
+    let a = bind_ok (one_source r) (blocks_read pts) p e in
+    let b = bind_ok (refused_as blocks_fault (red a.0.payload a.0.pt pts)) (λ (blocks : List TextBlock). Ok (text_packet a.0 blocks)) p a.2 in
+    let same : text_packet a.0 b.0 ≡ p = cc b.2 in
+    sym (ap (λ (q : Packet). q.ssrc) same) ∙ sym (ap (λ (q : Reading). q.ssrc) (source_is r a.0 a.1))
+
+abbrev Reads : Pts → (s : ℕ) → Result Reading RtpFault → Packet → Type 0
+Reads pts s header p = (refused_as header_fault header >>= λ reading. accepted (Some s) reading >>= blocks_read pts) ≡ Ok p
+
+abbrev ReadsAny : Pts → Result Reading RtpFault → Packet → Type 0
+ReadsAny pts header p = (refused_as header_fault header >>= λ reading. accepted None reading >>= blocks_read pts) ≡ Ok p
+
+own_read : (pts : Pts) (header : Result Reading RtpFault) (p : Packet) → ReadsAny pts header p → Reads pts p.ssrc header p
+own_read pts (Err f) p e = absurd (cc e)
+own_read pts (Ok r) p e = ap (λ (b : Bool). (if b then one_source r else Err Foreign) >>= blocks_read pts) (eq-eqb r.ssrc p.ssrc (sym (ssrc_is pts r p e))) ∙ e
+
+any_read : (pts : Pts) (s : ℕ) (header : Result Reading RtpFault) (p : Packet) → Reads pts s header p → ReadsAny pts header p × (p.ssrc ≡ s)
+any_read pts s (Err f) p e = absurd (cc e)
+any_read pts s (Ok r) p e = go (r.ssrc == s) refl e
+  where
+    go : (b : Bool) → (r.ssrc == s) ≡ b → ((if b then one_source r else Err Foreign) >>= blocks_read pts) ≡ Ok p → ((one_source r >>= blocks_read pts) ≡ Ok p) × (p.ssrc ≡ s)
+    go true q e = (e, ssrc_is pts r p e ∙ eqb_true r.ssrc s q)
+    go false q e = absurd (cc e)
+
+-- ---- of octets
+-- one that is read at all is read where its SSRC is asked for
+pub own_asked : (octets : List ℕ) (pts : Pts) (p : Packet) → text_of octets None pts ≡ Ok p → text_of octets (Some p.ssrc) pts ≡ Ok p
+unfolding text_of text_of_short
+own_asked octets pts p e = go (nat_lt MOST_PACKET_OCTETS (length octets)) e
+  where
+    go : (b : Bool) → (if b then Err Long else (refused_as header_fault (rtp octets) >>= λ reading. accepted None reading >>= blocks_read pts)) ≡ Ok p
+        → (if b then Err Long else (refused_as header_fault (rtp octets) >>= λ reading. accepted (Some p.ssrc) reading >>= blocks_read pts)) ≡ Ok p
+    go true q = absurd (cc q)
+    go false q = own_read pts (rtp octets) p q
+
+-- one that is read where an SSRC is asked for has it
+pub any_asked : (octets : List ℕ) (s : ℕ) (pts : Pts) (p : Packet) → text_of octets (Some s) pts ≡ Ok p → (text_of octets None pts ≡ Ok p) × (p.ssrc ≡ s)
+unfolding text_of text_of_short
+any_asked octets s pts p e = go (nat_lt MOST_PACKET_OCTETS (length octets)) e
+  where
+    go : (b : Bool) → (if b then Err Long else (refused_as header_fault (rtp octets) >>= λ reading. accepted (Some s) reading >>= blocks_read pts)) ≡ Ok p
+        → ((if b then Err Long else (refused_as header_fault (rtp octets) >>= λ reading. accepted None reading >>= blocks_read pts)) ≡ Ok p) × (p.ssrc ≡ s)
+    go true q = absurd (cc q)
+    go false q = any_read pts s (rtp octets) p q
