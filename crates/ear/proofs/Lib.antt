@@ -4,3 +4,4 @@ pub mod Given
 pub mod ReadyBy
 pub mod Giving
 pub mod Plain
+pub mod Anew

@@ -9,7 +9,7 @@ use Rattle.stream_spec.specs.Hearing.{AreHeardTexts}
 use Rattle.stream_spec.specs.Ready.{Chunk, chunk, chunks}
 use Rattle.stream_spec.specs.Fronts.{is_ready_by}
 use Rattle.stream_spec.specs.ChunksBy.{chunks_by}
-use Rattle.gap_tracker.specs.Stories.{Story, Given, came, ended, dues, ready_dues}
+use Rattle.gap_tracker.specs.Stories.{Story, Given, begun, came, ended, dues, ready_dues}
 use Rattle.gap_tracker.specs.Tracks.{Tracks}
 use Rattle.gap_tracker.specs.States.{has_ready}
 use Rattle.gap_tracker.specs.States as tracker
@@ -97,6 +97,12 @@ IsGiving e = (conf : EarConf) × (source : ℕ) × (story : Story) × (gave : Li
 -- the ear gave them, having taken some of the packets that are ready
 abbrev pub GaveSome : Ear → EarConf → ℕ → Story → List Chunk → Type 0
 GaveSome e conf source story gave = (given : List Given) × Gave e conf source (record story { given = given }) gave
+
+-- whatever it gave before, it hears this source now, of which nothing came yet
+abbrev pub BeginsAnew : Ear → Ear → ℕ → Type 0
+BeginsAnew old new ssrc =
+    (conf : EarConf) (source : ℕ) (story : Story) (gave : List Chunk)
+    → Gave old conf source story gave → Gave new (record conf { ssrc = ssrc }) ssrc (begun conf.wait) []
 
 -- ---- by when it gave it
 

@@ -5,7 +5,7 @@ ghost use Rattle.stream_spec.specs.Ready.{chunk_of, chunk as heard_chunk};
 ghost use Rattle.gap_tracker.specs.Stories.{Story, begun, went, ended};
 ghost use Rattle.ear.specs.declared.confs.EarConf.{EarConf};
 ghost use Rattle.ear.specs.declared.answers.PlainAnswer.{PlainAnswer};
-ghost use Rattle.ear.specs.Hears.{conf_of, arrival_count, is_finished, is_clear, is_quiet, text_for, told, Hears, Gave, IsGiving, Becomes, GivesChunk, GivesNone, GaveReady, GaveFront, AllReady};
+ghost use Rattle.ear.specs.Hears.{conf_of, arrival_count, is_finished, is_clear, is_quiet, text_for, told, Hears, Gave, IsGiving, BeginsAnew, Becomes, GivesChunk, GivesNone, GaveReady, GaveFront, AllReady};
 ghost use Rattle.ear.specs.Each.{GathersEach, IsHearingEach};
 ghost use Rattle.ear.specs.Plain.{IsTextFor, HearsPlain, GivesPlain};
 ghost use Rattle.rtt_base.specs.declared.limits.TheConstants.{END_OF_MOMENTS, LONGEST_WAIT, MOST_ARRIVALS, MOST_SOURCES};
@@ -67,6 +67,22 @@ impl Ear {
             piece: Piece::none(),
             ready: 0,
         })
+    }
+
+    /// Begins anew, for the packets of this SSRC: nothing came of it yet. It is for an ear of one source, and takes no
+    /// memory.
+    pub fn restart(&mut self, ssrc: u32)
+        requires { ∥ IsGiving self.old ∥₁ }
+        ensures begins { BeginsAnew self.old self.new ssrc }
+        ensures conf { conf_of self.new ≡ record (conf_of self.old) { ssrc = ssrc } }
+        ensures quiet { is_quiet self.new ≡ Bool.true }
+        ensures arrivals { arrival_count self.new ≡ 0 }
+        ensures open { is_finished self.new ≡ Bool.false }
+    {
+        self.conf.ssrc = ssrc;
+        self.tracker.restart();
+        self.receiver.restart(ssrc);
+        self.piece = Piece::none();
     }
 
     /// Takes a packet that came at `now`. What is no packet of text of the stream is refused, and hands in no time.

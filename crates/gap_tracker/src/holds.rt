@@ -125,6 +125,22 @@ impl Hold {
         })
     }
 
+    /// Begins anew: nothing came yet, and what is inside is let go.
+    pub fn restart(&mut self)
+        ensures { IsButCurrent self.new (fresh self.old.wait) }
+    {
+        self.moment = 0;
+        self.arrivals = 0;
+        self.finished = false;
+        self.first = 0;
+        self.top = 0;
+        self.front = 0;
+        self.latest = 0;
+        self.settled.clear();
+        self.held.clear();
+        self.pool.restart();
+    }
+
     pub fn arrivals(&self) -> u64
         ensures { result ≡ self.now.arrivals }
     {

@@ -31,6 +31,13 @@ impl<T: Drop> Line<T> {
         })
     }
 
+    /// Drops all items. The room stays.
+    pub fn clear(&mut self)
+        ensures { self.new ≡ [] }
+    {
+        self.items.clear();
+    }
+
     pub fn is_empty(&self) -> bool
         ensures { result ≡ (length self.now == 0) }
     {

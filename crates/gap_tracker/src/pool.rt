@@ -45,6 +45,18 @@ impl PacketPool {
         })
     }
 
+    /// Keeps the room and one packet, which is current and whose content is of no use.
+    pub fn restart(&mut self)
+        requires { 0 < length self.old.packets }
+        ensures packets { length self.new.packets ≡ 1 }
+        ensures spare { self.new.spare ≡ [] }
+        ensures current { self.new.current ≡ 0 }
+    {
+        self.packets.truncate(1);
+        self.spare.clear();
+        self.current = 0;
+    }
+
     /// The current packet.
     pub fn packet(&self) -> &TextPacket
         requires { self.now.current < length self.now.packets }

@@ -3,7 +3,7 @@ ghost use Rattle.std.specs.Prelude.{◌≡◌, ◌+◌, ◌<◌, ◌≤◌, [], 
 ghost use Rattle.std.specs.Borrow.{sem};
 ghost use Rattle.rtt_base.specs.declared.limits.TheConstants.{END_OF_MOMENTS, LONGEST_WAIT, MOST_ARRIVALS};
 ghost use Rattle.gap_tracker.specs.Lends.{LendsPacket};
-ghost use Rattle.gap_tracker.specs.Stories.{begun, went, ended, is_used};
+ghost use Rattle.gap_tracker.specs.Stories.{Story, begun, went, ended, is_used};
 ghost use Rattle.gap_tracker.specs.States.{has_ready, packets_in, current_of, arrival_count, is_finished, IsNext};
 ghost use Rattle.gap_tracker.specs.Tracks.{Tracks};
 ghost use Rattle.gap_tracker.specs.Views.{next_number};
@@ -54,6 +54,18 @@ impl Tracker {
         Ok(Tracker {
             hold: Hold::new(alloc, wait)?,
         })
+    }
+
+    /// Begins anew, as if nothing came yet: what is held or settled is let go. The content of the current packet is of no
+    /// use. It takes no memory.
+    pub fn restart(&mut self)
+        ensures stands { (story : Story) → Tracks self.old story → Tracks self.new (begun story.wait) }
+        ensures ready { has_ready self.new ≡ false }
+        ensures packets { packets_in self.new ≡ [] }
+        ensures arrivals { arrival_count self.new ≡ 0 }
+        ensures finished { is_finished self.new ≡ false }
+    {
+        self.hold.restart();
     }
 
     /// The current packet.

@@ -245,6 +245,18 @@ impl Receiver {
         })
     }
 
+    /// Begins anew with another source, of which no packet came yet. It takes no memory.
+    pub fn restart(&mut self, source: u32)
+        requires { sources_count self.old ≡ 1 }
+        ensures stands { Stands self.new (source ∷ []) [] }
+        ensures latest { latest_number self.new ≡ None }
+        ensures count { sources_count self.new ≡ 1 }
+    {
+        self.listed[0] = Listed { source, seen: None };
+        self.latest = None;
+        self.missing = 0;
+    }
+
     /// How many numbers are missing up to this one.
     fn missing_with(&self, number: u64) -> u64
         requires { ForSome self.now.latest (λ latest. latest < number) }
