@@ -1,12 +1,14 @@
 -- What a leg gives, as that of the leg with any number.
-use Rattle.std.proofs.Common.{◌≡◌, ℕ, Bool, true, false, List, [], ◌∷◌, ◌++◌, refl, ap, sym, ◌∙◌}
+use Rattle.std.proofs.Common.{◌≡◌, ℕ, Bool, true, false, Option, None, Some, List, [], ◌∷◌, ◌++◌, refl, ap, sym, ◌∙◌}
 use Rattle.std.specs.Prelude.{filter, map}
 use Rattle.std.proofs.lemmas.List.{map-append}
 use Rattle.stream_spec.specs.Fronts.{IsFront, is_ready_by}
-use Rattle.stream_spec.specs.Ready.{chunks}
+use Rattle.wire_spec.specs.Packets.{Arrival}
+use Rattle.stream_spec.specs.Hearing.{marker}
+use Rattle.stream_spec.specs.Ready.{Chunk, chunk}
 use Rattle.stream_spec.specs.Still.{still}
 use Rattle.link_spec.specs.Links.{Came, Datagram, Large, Quiet, Closed, Takes}
-use Rattle.live_spec.specs.Told.{Hearing, Told, all_by, all_told, ready_by, ready_told, told_by, told_came}
+use Rattle.live_spec.specs.Told.{Former, Hearing, Told, all_by, all_former, all_told, former_chunks, last_chunks, ready_by, ready_told, ready_until, sender_chunks, told_by, told_came}
 use Rattle.mix_loop.specs.Ports.{of_leg}
 use Rattle.mix_loop.proofs.OfLeg.{chunks_of_leg, filter_of_leg}
 use Rattle.live_leg.specs.Items.{AreItems, Item, text_in, texts_in}
@@ -28,6 +30,10 @@ texts_as p j (x ∷ xs) =
     let more = texts_as p j xs in
     map-append (of_leg j) (text_in p x) (texts_in p xs) ∙ (λ ι. one ι ++ more ι)
 
+until_as : (leg t : ℕ) (cs : List Chunk) → map (of_leg leg) (map (ready_until t) cs) ≡ map (ready_until t) (map (of_leg leg) cs)
+until_as leg t [] = refl
+until_as leg t (c ∷ cs) = ap (λ ds. of_leg leg (ready_until t c) ∷ ds) (until_as leg t cs)
+
 module _ (leg : ℕ) (h : Hearing) where
   came_as : (d : Told) (t : ℕ) (c : Came) → told_came (as_leg leg h) d t c ≡ told_came h d t c
   came_as d t (Datagram octets) = refl
@@ -39,19 +45,39 @@ module _ (leg : ℕ) (h : Hearing) where
   told_as [] = refl
   told_as (a ∷ past) = came_as (told_by (as_leg leg h) past) a.at a.came ∙ ap (λ (d : Told). told_came h d a.at a.came) (told_as past)
 
+  last_as : (sender : Option ℕ) (past : List Arrival) → map (of_leg leg) (last_chunks h sender past) ≡ last_chunks (as_leg leg h) sender past
+  last_as None past = refl
+  last_as (Some ssrc) past = chunks_of_leg leg h.leg h.wait (still past) ssrc
+
+  former_as : (f : Former) → map (of_leg leg) (former_chunks h f) ≡ former_chunks (as_leg leg h) f
+  former_as f =
+      let cs = sender_chunks h f.ssrc f.past in
+      map-append (of_leg leg) (map (ready_until f.until) cs) (chunk h.leg f.until marker ∷ [])
+      ∙ ap (λ ds. ds ++ chunk leg f.until marker ∷ []) (until_as leg f.until cs ∙ ap (map (ready_until f.until)) (chunks_of_leg leg h.leg h.wait (still f.past) f.ssrc))
+
+  formers_as : (before : List Former) → map (of_leg leg) (all_former h before) ≡ all_former (as_leg leg h) before
+  formers_as [] = refl
+  formers_as (f ∷ before) =
+      let one = former_as f in
+      let more = formers_as before in
+      map-append (of_leg leg) (all_former h before) (former_chunks h f) ∙ (λ ι. more ι ++ one ι)
+
   all_told_as : (d : Told) → map (of_leg leg) (all_told h d) ≡ all_told (as_leg leg h) d
-  all_told_as d = chunks_of_leg leg h.leg h.wait (still d.past) h.ssrc
+  all_told_as d =
+      let before = formers_as d.before in
+      let last = last_as d.sender d.past in
+      map-append (of_leg leg) (all_former h d.before) (last_chunks h d.sender d.past) ∙ (λ ι. before ι ++ last ι)
 
   ready_told_as : (d : Told) → map (of_leg leg) (ready_told h d) ≡ ready_told (as_leg leg h) d
   ready_told_as d = go d.closed
     where
       some : Bool → Told
-      some b = record { past = d.past; moment = d.moment; closed = b }
+      some b = record { before = d.before; sender = d.sender; past = d.past; moment = d.moment; closed = b }
 
       go : (b : Bool) → map (of_leg leg) (ready_told h (some b)) ≡ ready_told (as_leg leg h) (some b)
       go true = all_told_as d
       go false =
-          sym (filter_of_leg (is_ready_by d.moment) leg (λ c. refl) (chunks h.wait h.leg (still d.past) h.ssrc))
+          sym (filter_of_leg (is_ready_by d.moment) leg (λ c. refl) (all_told h d))
           ∙ ap (λ cs. filter (is_ready_by d.moment) cs) (all_told_as d)
 
   pub all_as : (takes : Takes) → map (of_leg leg) (all_by h takes) ≡ all_by (as_leg leg h) takes

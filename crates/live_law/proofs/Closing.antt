@@ -2,16 +2,14 @@
 use Rattle.std.proofs.Common.{◌≡◌, true, false, true≢false, inl, inr, List, [], ◌∷◌, ◌++◌, refl, ap, sym, ◌∙◌, subst, append_assoc}
 use Rattle.std.specs.Prelude.{Bool}
 use Rattle.std.proofs.lemmas.List.{append-nil}
-use Rattle.gap_tracker.specs.Stories.{Story}
-use Rattle.ear.specs.declared.confs.EarConf.{EarConf}
-use Rattle.ear.specs.Hears.{conf_of}
 use Rattle.link_io.specs.declared.ends.LinkIn as links
 use Rattle.link_spec.specs.Links.{Takes, Came, Datagram, Large, Quiet, Closed, is_closed, is_closing}
 use Rattle.live_spec.specs.Told.{Hearing, all_by, ready_by, told_by}
+use Rattle.live_leg.specs.declared.confs.LegConf.{LegConf}
 use Rattle.live_leg.specs.Items.{Item}
 use Rattle.live_leg.specs.Items as item
 use Rattle.live_leg.specs.declared.states.State.{State}
-use Rattle.live_leg.specs.declared.states.State.TheVariants.{Idle, Giving, Blank, Ending, Over}
+use Rattle.live_leg.specs.declared.states.State.TheVariants.{Idle, Giving, Blank, Parting, Ending, Over}
 use Rattle.live_leg.specs.Items.{AreItems, mark_of, texts_in}
 use Rattle.live_leg.specs.Stands.{IsEnded, IsGivingSome, IsStop, PhaseAt}
 use Rattle.live_leg.specs.Stories.{hearing_of}
@@ -54,7 +52,7 @@ stop_no_end item.End F s e = s
 stop_no_end item.Quit F s e = true≢false (sym e)
 stop_no_end item.Fault F s e = true≢false (sym e)
 
-module _ (conf : EarConf) (takes : Takes) (gave popped left : List Item) (all : gave ≡ popped ++ left) (ends : has_end popped ≡ true) where
+module _ (conf : LegConf) (takes : Takes) (gave popped left : List Item) (all : gave ≡ popped ++ left) (ends : has_end popped ≡ true) where
   abbrev h : Hearing
   h = hearing_of conf
 
@@ -89,18 +87,19 @@ module _ (conf : EarConf) (takes : Takes) (gave popped left : List Item) (all : 
       nothing [] y e = refl
       nothing (k ∷ z) y e = absurd (cc e)
 
-  phase_all : (st : State) (F : Type 0) (story : Story) → PhaseAt st F conf takes gave story → (is_closed takes ≡ true) × (texts_in 0 popped ≡ all_by (hearing_of conf) takes)
-  phase_all Idle F story p = absurd (open_no_end (hearing_of conf) takes gave p.are p.open_still end_in)
-  phase_all Giving F story p = absurd (giving_no_end p)
-  phase_all Blank F story p = absurd (giving_no_end p)
-  phase_all Ending F story p = absurd (giving_no_end p.0)
-  phase_all Over F story (inl p) = ended_all p
-  phase_all Over F story (inr p) = absurd (elim (end_split p.before (p.last ∷ []) (sym (ap has_end p.items_are) ∙ end_in)) [
+  phase_all : (st : State) (F : Type 0) → PhaseAt st F (hearing_of conf) takes gave → (is_closed takes ≡ true) × (texts_in 0 popped ≡ all_by (hearing_of conf) takes)
+  phase_all Idle F p = absurd (open_no_end (hearing_of conf) takes gave p.are p.open_still end_in)
+  phase_all Giving F p = absurd (giving_no_end p)
+  phase_all Blank F p = absurd (giving_no_end p)
+  phase_all Parting F p = absurd (giving_no_end p)
+  phase_all Ending F p = absurd (giving_no_end p)
+  phase_all Over F (inl p) = ended_all p
+  phase_all Over F (inr p) = absurd (elim (end_split p.before (p.last ∷ []) (sym (ap has_end p.items_are) ∙ end_in)) [
     | inl before ↦ open_no_end (hearing_of conf) takes p.before p.are p.open_still before
     | inr last ↦ stop_no_end p.last F p.stops last
   ])
 
 pub end_law : {L : Type 0} (g : links.Ghosts L) → EndIsAll g
 end_law g leg first now gave popped left w all ends =
-    let r = phase_all (conf_of first.ear) w.so.takes gave popped left all ends now.state _ w.so.story w.so.phase in
-    (r.0, w.so.closed r.0, whole_as leg (hearing_of (conf_of first.ear)) w.so.takes popped r.1)
+    let r = phase_all first.conf w.so.takes gave popped left all ends now.state _ w.so.phase in
+    (r.0, w.so.closed r.0, whole_as leg (hearing_of first.conf) w.so.takes popped r.1)

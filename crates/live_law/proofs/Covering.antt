@@ -2,16 +2,14 @@
 use Rattle.std.proofs.Common.{◌≡◌, ℕ, true, false, inl, inr, List, [], ◌∷◌, ◌++◌, refl, sym, ◌∙◌, subst}
 use Rattle.std.proofs.lemmas.List.{append-nil}
 use Rattle.stream_spec.specs.Fronts.{IsFront}
-use Rattle.gap_tracker.specs.Stories.{Story}
-use Rattle.ear.specs.declared.confs.EarConf.{EarConf}
-use Rattle.ear.specs.Hears.{conf_of}
 use Rattle.link_io.specs.declared.ends.LinkIn as links
 use Rattle.link_spec.specs.Links.{Takes}
 use Rattle.live_spec.specs.Told.{Hearing, all_by}
+use Rattle.live_leg.specs.declared.confs.LegConf.{LegConf}
 use Rattle.live_leg.specs.Items.{Item}
 use Rattle.live_leg.specs.Items as item
 use Rattle.live_leg.specs.declared.states.State.{State}
-use Rattle.live_leg.specs.declared.states.State.TheVariants.{Idle, Giving, Blank, Ending, Over}
+use Rattle.live_leg.specs.declared.states.State.TheVariants.{Idle, Giving, Blank, Parting, Ending, Over}
 use Rattle.live_leg.specs.declared.legs.LinkLeg.{LinkLeg}
 use Rattle.live_leg.specs.Items.{AreItems, AreTexts, is_mark, is_text, texts_in}
 use Rattle.live_leg.specs.Stands.{IsGivingSome, IsStop, LegStands, PhaseAt}
@@ -58,17 +56,18 @@ covers_by h takes gave popped left all front later counting given tail last e ar
   front = subst (λ (l : List Item). IsFront (texts_in h.leg l) (all_by h takes)) is front;
 }
 
-module _ (conf : EarConf) (takes : Takes) (gave popped left : List Item) (all : gave ≡ popped ++ left) (front : IsFront (texts_in 0 gave) (all_by (hearing_of conf) takes)) where
+module _ (conf : LegConf) (takes : Takes) (gave popped left : List Item) (all : gave ≡ popped ++ left) (front : IsFront (texts_in 0 gave) (all_by (hearing_of conf) takes)) where
   some_covers : {b : _} {m : _} → IsGivingSome b m (hearing_of conf) takes gave → Covers (hearing_of conf) takes popped
   some_covers w = covers_by (hearing_of conf) takes gave popped left all front (w.last ∷ []) w.past w.before w.news (subst IsOpenBefore (sym w.takes_are) (open_takes (hearing_of conf) w.past w.open_before)) w.takes_are w.are (texts_no_marks w.news w.texts) w.items_are
 
-  phase_covers : (st : State) (F : Type 0) (story : Story) → PhaseAt st F conf takes gave story → Covers (hearing_of conf) takes popped
-  phase_covers Idle F story p = covers_by (hearing_of conf) takes gave popped left all front [] takes gave [] (open_before (hearing_of conf) takes p.open_still) refl p.are tt (sym (append-nil gave))
-  phase_covers Giving F story p = some_covers p
-  phase_covers Blank F story p = some_covers p
-  phase_covers Ending F story p = some_covers p.0
-  phase_covers Over F story (inl p) = covers_by (hearing_of conf) takes gave popped left all front [] takes gave [] (subst IsOpenBefore (sym p.some.takes_are) (open_takes (hearing_of conf) p.some.past p.some.open_before)) refl p.are tt (sym (append-nil gave))
-  phase_covers Over F story (inr p) = covers_by (hearing_of conf) takes gave popped left all front [] takes p.before (p.last ∷ []) (open_before (hearing_of conf) takes p.open_still) refl p.are (stop_no_mark p.last F p.stops, tt) p.items_are
+  phase_covers : (st : State) (F : Type 0) → PhaseAt st F (hearing_of conf) takes gave → Covers (hearing_of conf) takes popped
+  phase_covers Idle F p = covers_by (hearing_of conf) takes gave popped left all front [] takes gave [] (open_before (hearing_of conf) takes p.open_still) refl p.are tt (sym (append-nil gave))
+  phase_covers Giving F p = some_covers p
+  phase_covers Blank F p = some_covers p
+  phase_covers Parting F p = some_covers p
+  phase_covers Ending F p = some_covers p
+  phase_covers Over F (inl p) = covers_by (hearing_of conf) takes gave popped left all front [] takes gave [] (subst IsOpenBefore (sym p.some.takes_are) (open_takes (hearing_of conf) p.some.past p.some.open_before)) refl p.are tt (sym (append-nil gave))
+  phase_covers Over F (inr p) = covers_by (hearing_of conf) takes gave popped left all front [] takes p.before (p.last ∷ []) (open_before (hearing_of conf) takes p.open_still) refl p.are (stop_no_mark p.last F p.stops, tt) p.items_are
 
-pub covers : {L : Type 0} (g : links.Ghosts L) (leg : ℕ) (first now : LinkLeg L) (gave popped left : List Item) (w : LegStands g first now gave) → gave ≡ popped ++ left → Covers (as_leg leg (hearing_of (conf_of first.ear))) w.so.takes popped
-covers g leg first now gave popped left w all = covers_as leg (hearing_of (conf_of first.ear)) w.so.takes popped (phase_covers (conf_of first.ear) w.so.takes gave popped left all w.front now.state _ w.so.story w.so.phase)
+pub covers : {L : Type 0} (g : links.Ghosts L) (leg : ℕ) (first now : LinkLeg L) (gave popped left : List Item) (w : LegStands g first now gave) → gave ≡ popped ++ left → Covers (as_leg leg (hearing_of first.conf)) w.so.takes popped
+covers g leg first now gave popped left w all = covers_as leg (hearing_of first.conf) w.so.takes popped (phase_covers first.conf w.so.takes gave popped left all w.front now.state _ w.so.phase)

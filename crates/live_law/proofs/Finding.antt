@@ -1,12 +1,12 @@
 -- The takes that count.
 use Rattle.std.proofs.Common.{◌≡◌, ◌≤◌, ◌<◌, ℕ, zero, suc, ◌+◌, ◌-◌, true, false, true≢false, inl, inr, ◌⊎◌, List, [], ◌∷◌, ◌++◌, ◌||◌, drop, length, length-append, refl, ap, sym, ◌∙◌, subst, append_assoc, arith}
-use Rattle.std.specs.Prelude.{Bool, if◌then◌else◌}
+use Rattle.std.specs.Prelude.{Bool, Option, None, Some, filter, if◌then◌else◌}
 use Rattle.std.proofs.lemmas.List.{append-nil}
 use Rattle.std.proofs.Math.Seq.{drop-append_seam}
-use Rattle.stream_spec.specs.Fronts.{IsFront}
+use Rattle.stream_spec.specs.Fronts.{IsFront, is_ready_by}
 use Rattle.stream_spec.specs.Ready.{Chunk}
 use Rattle.link_spec.specs.Links.{Taken, Takes, Came, Datagram, Large, Quiet, Closed, is_closed, is_closing}
-use Rattle.live_spec.specs.Told.{Hearing, ready_by}
+use Rattle.live_spec.specs.Told.{Hearing, first_sender, last_chunks, ready_by}
 use Rattle.live_spec.specs.Live.{IsHeardOut, IsUpToDate, first_takes, is_blank, is_quiet, most_takes}
 use Rattle.live_leg.specs.Items.{Item}
 use Rattle.live_leg.specs.Items as item
@@ -270,9 +270,23 @@ behind_none xs ys tail e none = front xs (subst AreNoMarks (sym e) none)
     front [] a = tt
     front (x ∷ xs) a = (a.0, front xs a.1)
 
+none_last : (h : Hearing) (sender : Option ℕ) → last_chunks h sender [] ≡ []
+none_last h None = refl
+none_last h (Some ssrc) = refl
+
+-- by no takes nothing is ready
+none_ready : (h : Hearing) → ready_by h [] ≡ []
+none_ready h = ap (λ (cs : List Chunk). filter (is_ready_by 0) cs) (none_last h (first_sender h))
+
 find_marks : (h : Hearing) (counting : Takes) (given before rest tail : List Item) → AreItems h counting given → AreNoMarks tail → before ++ rest ≡ given ++ tail → Found h counting before (AreCounted before)
 find_marks h [] given before rest tail a none e =
-    record { later = []; first = []; are = refl; enough = none_counted before rest tail none (e ∙ ap (λ k. k ++ tail) a); took = (texts_in h.leg before, refl) }
+    record {
+      later = [];
+      first = [];
+      are = refl;
+      enough = none_counted before rest tail none (e ∙ ap (λ k. k ++ tail) a);
+      took = (texts_in h.leg before, ap (λ (cs : List Chunk). cs ++ texts_in h.leg before) (sym (none_ready h)));
+    }
 find_marks h (w ∷ past) given before rest tail a none e =
     let bf = a.0 in
     let news = a.1 in

@@ -1,23 +1,18 @@
 -- A link that is closed stays so.
-use Rattle.std.proofs.Common.{◌≡◌, ℕ, true, false, true≢false, [], ◌∷◌, ◌++◌, ◌||◌, refl, sym, ◌∙◌}
-use Rattle.std.specs.Prelude.{Bool, Some, Result, Ok, Err}
-use Rattle.wire_spec.specs.declared.faults.TextFault.{TextFault}
-use Rattle.wire_spec.specs.Packets.{Packet}
-use Rattle.wire_spec.specs.Text.{text_of}
+use Rattle.std.proofs.Common.{◌≡◌, ℕ, true, false, true≢false, [], ◌∷◌, ◌++◌, ◌||◌, refl, ap, sym, ◌∙◌}
+use Rattle.std.specs.Prelude.{Bool}
 use Rattle.link_spec.specs.Links.{Takes, Came, Datagram, Large, Quiet, Closed, is_closed, is_closing}
-use Rattle.live_spec.specs.Told.{Hearing, Told, told_by, told_packet, told_came}
+use Rattle.live_spec.specs.Told.{Hearing, Told, told_by, told_came}
+use Rattle.live_spec.proofs.Fronts.{came_closed}
 use Rattle.live_law.specs.Marks.{IsOpenBefore}
 
 -- ---- once closed, for good
-packet_open : (d : Told) (t : ℕ) (r : Result Packet TextFault) → (told_packet d t r).closed ≡ d.closed
-packet_open d t (Ok p) = refl
-packet_open d t (Err f) = refl
+or_true : (b : Bool) → (b || true) ≡ true
+or_true true = refl
+or_true false = refl
 
 pub stays_closed : (h : Hearing) (d : Told) (t : ℕ) (w : Came) → d.closed ≡ true → (told_came h d t w).closed ≡ true
-stays_closed h d t (Datagram o) e = packet_open d t (text_of o (Some h.ssrc) h.pts) ∙ e
-stays_closed h d t Large e = e
-stays_closed h d t Quiet e = e
-stays_closed h d t Closed e = refl
+stays_closed h d t w e = came_closed h d t w ∙ (ap (λ (b : Bool). is_closing w || b) e ∙ or_true (is_closing w))
 
 pub closes_now : (h : Hearing) (d : Told) (t : ℕ) (w : Came) → is_closing w ≡ true → (told_came h d t w).closed ≡ true
 closes_now h d t (Datagram o) e = absurd (true≢false (sym e))

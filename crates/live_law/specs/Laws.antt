@@ -9,7 +9,6 @@ use Rattle.link_io.specs.declared.ends.LinkIn as links
 use Rattle.link_spec.specs.Links.{Takes, is_closed}
 use Rattle.live_spec.specs.Told.{Hearing, all_by}
 use Rattle.live_spec.specs.Live.{Live}
-use Rattle.ear.specs.Hears.{conf_of}
 use Rattle.live_leg.specs.declared.items.LegItem.{LegItem}
 use Rattle.live_leg.specs.declared.legs.LinkLeg.{LinkLeg}
 use Rattle.live_leg.specs.Items.{Item, items_of, texts_in}
@@ -37,7 +36,7 @@ abbrev pub LegsCover : {L : Type 0} → links.Ghosts L → Type 0
 LegsCover {L} g =
     (leg : ℕ) (first now : LinkLeg L) (gave popped left : List Item) (w : LegStands g first now gave)
     → gave ≡ popped ++ left
-    → Covers (as_leg leg (hearing_of (conf_of first.ear))) w.so.takes popped
+    → Covers (as_leg leg (hearing_of first.conf)) w.so.takes popped
 
 -- A leg that was started as `first`, ran, and came back.
 pub record IsJoined {L G : Type 0} (g : links.Ghosts L) (first back : LinkLeg L) (started now : Lane LegItem (LinkLeg L) G) : Type 0 where
@@ -48,7 +47,7 @@ pub record IsJoined {L G : Type 0} (g : links.Ghosts L) (first back : LinkLeg L)
 -- What its link gave covers what was popped of it, whichever number the leg has; where links tell it, that is what the inbound end has taken since.
 pub record IsAnswered {L G : Type 0} (g : links.Ghosts L) (first back : LinkLeg L) (now : Lane LegItem (LinkLeg L) G) : Type 0 where
   pub takes : Takes
-  pub covers : (leg : ℕ) → Covers (as_leg leg (hearing_of (conf_of first.ear))) takes (items_of (popped_of now))
+  pub covers : (leg : ℕ) → Covers (as_leg leg (hearing_of first.conf)) takes (items_of (popped_of now))
   pub taken : g.tells → g.taken back.link ≡ takes ++ g.taken first.link
 
 abbrev pub ServedAreAnswered : {L : Type 0} (G : Type 0) → links.Ghosts L → Type 0
@@ -71,7 +70,7 @@ EndIsAll {L} g =
     (leg : ℕ) (first now : LinkLeg L) (gave popped left : List Item) (w : LegStands g first now gave)
     → gave ≡ popped ++ left
     → has_end popped ≡ true
-    → (is_closed w.so.takes ≡ true) × (g.closed now.link ≡ true) × (texts_in leg popped ≡ all_by (as_leg leg (hearing_of (conf_of first.ear))) w.so.takes)
+    → (is_closed w.so.takes ≡ true) × (g.closed now.link ≡ true) × (texts_in leg popped ≡ all_by (as_leg leg (hearing_of first.conf)) w.so.takes)
 
 -- Of items that are covered and have the end the link is closed, and their texts are all that is heard.
 abbrev pub EndIsCovered : Type 0

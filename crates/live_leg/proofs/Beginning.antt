@@ -1,36 +1,56 @@
 -- A leg of whose link nothing was asked.
-use Rattle.std.proofs.Common.{◌≡◌, true≢false, [], refl, sym, subst, arith}
+use Rattle.std.proofs.Common.{◌≡◌, ℕ, true≢false, None, Some, [], refl, sym, ◌∙◌, ap, subst, arith}
+use Rattle.std.specs.Prelude.{Bool, true, false, if◌then◌else◌}
 use Rattle.gap_tracker.specs.Stories.{begun as begun_story}
 use Rattle.ear.specs.declared.confs.EarConf.{EarConf}
 use Rattle.ear.specs.Hears.{Gave, conf_of}
 use Rattle.rtt_io.specs.Counts.{Rose}
 use Rattle.link_io.specs.declared.ends.LinkIn as links
-use Rattle.live_spec.specs.Told.{all_by}
+use Rattle.live_spec.specs.Told.{all_by, untold}
 use Rattle.live_leg.specs.declared.states.State.{State}
 use Rattle.live_leg.specs.declared.states.State.TheVariants.{Idle}
 use Rattle.live_leg.specs.declared.legs.LinkLeg.{LinkLeg}
-use Rattle.live_leg.specs.Stories.{hearing_of}
-use Rattle.live_leg.specs.Stands.{LegStands, PhaseAt}
+use Rattle.live_leg.specs.Senders.{KnowsFirst}
+use Rattle.live_leg.specs.Stories.{IsOf, hearing_of}
+use Rattle.live_leg.specs.Stands.{EarStands, LegStands, PhaseAt}
 
-pub begun : {L : Type 0} (g : links.Ghosts L) (leg : LinkLeg L) (conf : EarConf) → Gave leg.ear conf conf.ssrc (begun_story conf.wait) [] → leg.state ≡ Idle → LegStands g leg leg []
-begun {L} g leg conf gave idle =
-    let own = conf_of leg.ear in
-    let story = begun_story own.wait in
+-- nothing came of the first sender, if there is one
+first_is : (b : Bool) (ssrc : ℕ) → IsOf (if b then None else Some ssrc) ssrc []
+first_is true ssrc = refl
+first_is false ssrc = refl
+
+pub begun : {L : Type 0} (g : links.Ghosts L) (leg : LinkLeg L) → Gave leg.ear leg.conf.ear leg.conf.ear.ssrc (begun_story leg.conf.ear.wait) [] → KnowsFirst (hearing_of leg.conf) leg.senders
+    → leg.state ≡ Idle → LegStands g leg leg []
+begun {L} g leg gave knows idle =
+    let h = hearing_of leg.conf in
+    let own : conf_of leg.ear ≡ leg.conf.ear = gave.hears.asked in
     record {
       so = record {
         takes = [];
-        story = story;
         conf = refl;
-        heard = [];
-        gave = subst (λ (k : EarConf). Gave leg.ear k k.ssrc (begun_story k.wait) []) (sym gave.hears.asked) gave;
-        texts = refl;
-        told = record { past = refl; moment = λ _. refl };
+        ear = subst (λ (st : State). EarStands leg.ear st leg.senders.moment leg.packet.value h [] []) (sym idle) (record {
+          part = untold h;
+          story = begun_story leg.conf.ear.wait;
+          heard = [];
+          gave = subst (λ (k : EarConf). Gave leg.ear k k.ssrc (begun_story leg.conf.ear.wait) []) (sym own) gave;
+          hears = record {
+            pts = ap (λ (k : EarConf). k.pts) own;
+            wait = ap (λ (k : EarConf). k.wait) own;
+            sender = subst (λ (k : EarConf). IsOf (untold h).sender k.ssrc []) (sym own) (first_is leg.conf.follow leg.conf.ear.ssrc);
+          };
+          past = refl;
+          at_moment = λ _. refl;
+          all = λ e. absurd (true≢false (sym e));
+          part_is = refl;
+          texts = refl;
+        });
+        knows = knows;
         taken = λ t. refl;
         closed = λ e. absurd (true≢false (sym e));
         never_falls = omega arith;
         counts = refl;
         port = refl;
-        phase = subst (λ (st : State). PhaseAt st (Rose (g.faults leg.link) (g.faults leg.link)) own [] [] story) (sym idle) (record { open_still = refl; are = refl });
+        phase = subst (λ (st : State). PhaseAt st (Rose (g.faults leg.link) (g.faults leg.link)) h [] []) (sym idle) (record { open_still = refl; are = refl });
       };
-      front = (all_by (hearing_of own) [], refl);
+      front = (all_by h [], refl);
     }

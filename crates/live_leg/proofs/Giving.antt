@@ -1,13 +1,14 @@
 -- A leg gives what is ready by its link's takes.
 use Rattle.std.proofs.Common.{◌≡◌, ◌≤◌, ℕ, Bool, true, false, true≢false, cond, inl, Option, None, Some, List, [], ◌∷◌, ◌++◌, refl, ap, sym, ◌∙◌, subst, append_assoc, ◌||◌}
-use Rattle.std.specs.Prelude.{filter, if◌then◌else◌, is_some, unwrap_or}
-use Rattle.std.proofs.lemmas.List.{append-nil}
+use Rattle.std.specs.Prelude.{filter, map, max, min, if◌then◌else◌, is_some, unwrap_or, Ok}
+use Rattle.std.proofs.lemmas.List.{append-nil, map-append}
 use Rattle.std.proofs.lemmas.List.Elements.{filter-append}
+use Rattle.wire_spec.specs.Packets.{Packet}
+use Rattle.wire_spec.specs.Text.{text_of}
 use Rattle.stream_spec.specs.Fronts.{IsFront, is_ready_by}
-use Rattle.stream_spec.specs.Ready.{Chunk, chunk, chunk_of, chunks}
-use Rattle.stream_spec.specs.Still.{is_lively_chunk, still}
-use Rattle.stream_spec.proofs.StillChunks.{chunks_still}
-use Rattle.wire_spec.specs.Packets.{Arrival}
+use Rattle.stream_spec.specs.Hearing.{marker}
+use Rattle.stream_spec.specs.Ready.{Chunk, chunk, chunk_of}
+use Rattle.stream_spec.specs.Still.{is_lively_chunk}
 use Rattle.gap_tracker.specs.Stories.{Story, Given}
 use Rattle.ear.specs.declared.confs.EarConf.{EarConf}
 use Rattle.ear.specs.declared.ears.Ear.{Ear}
@@ -16,18 +17,25 @@ use Rattle.rtt_io.specs.Counts.{Rose}
 use Rattle.item_queue.specs.Giving.{GivesMore, items_by}
 use Rattle.link_io.specs.declared.ends.LinkIn as links
 use Rattle.link_spec.specs.Links.{Takes, is_closed}
-use Rattle.live_spec.specs.Told.{Hearing, all_by, all_told, ready_by, told_by}
+use Rattle.live_spec.specs.Told.{Hearing, Told, all_by, all_former, all_told, former_after, last_chunks, ready_by, ready_until, taken_over, told_by}
+use Rattle.live_spec.proofs.Fronts.{all_good, behind, ready_is}
+use Rattle.live_leg.specs.declared.confs.LegConf.{LegConf}
+use Rattle.live_leg.specs.declared.senders.Senders.{Senders}
 use Rattle.live_leg.specs.declared.items.LegItem.{LegItem}
 use Rattle.live_leg.specs.declared.kinds.ItemKind.{ItemKind}
 use Rattle.live_leg.specs.declared.kinds.ItemKind.TheVariants as kind
 use Rattle.live_leg.specs.declared.states.State.{State}
-use Rattle.live_leg.specs.declared.states.State.TheVariants.{Idle, Giving, Blank, Ending, Over}
+use Rattle.live_leg.specs.declared.states.State.TheVariants.{Idle, Giving, Blank, Parting, Ending, Over}
 use Rattle.live_leg.specs.declared.legs.LinkLeg.{LinkLeg}
-use Rattle.live_leg.specs.Stories.{ToldAs, hearing_of}
+use Rattle.live_leg.specs.Senders.{Knows}
+use Rattle.live_leg.specs.Stories.{BeginsWith, IsEarOf, hearing_of}
 use Rattle.live_leg.specs.Items.{AreItems, Item, Text, Seen, Silent, End, has_fault, is_text, item_with, items_of, items_with, text_in, texts_in}
-use Rattle.live_leg.specs.States.{is_ending, is_giving}
-use Rattle.live_leg.specs.Stands.{Counts, GivesOf, GivesThen, IsGivingSome, LegGave, LegStands, Nearly, PhaseAt}
+use Rattle.live_leg.specs.States.{is_ending, is_giving, is_going, is_heard}
+use Rattle.live_leg.specs.Stands.{Counts, EarStands, GivesOf, GivesThen, IsGivingSome, IsPart, LegGave, LegStands, Nearly, PhaseAt, given_as, is_last}
 use Rattle.live_leg.specs.Stepping.{seen_as, unless_blank}
+use Rattle.live_leg.proofs.HowFar.{heard_giving}
+use Rattle.live_leg.proofs.Parting.{front_at, over_former, part_chunks, part_front}
+use Rattle.live_leg.proofs.Telling.{first_heard}
 use Rattle.live_leg.proofs.Texts.{all_texts, counts_same, fault_append, items_append, texts_append, texts_same}
 
 -- ---- what is ready
@@ -42,23 +50,28 @@ filter_swap p q (x ∷ xs) = go (p x) (q x) refl refl (filter_swap p q xs)
     go false true e f h = rw e h
     go false false e f h = h
 
--- what is ready by these takes, where the link is closed or not
-abbrev ready_where : Hearing → Takes → Bool → List Chunk
-ready_where h takes closed = let d = told_by h takes in if closed then all_told h d else filter (is_ready_by d.moment) (chunks h.wait h.leg (still d.past) h.ssrc)
+-- what is ready of all that was told, where the link is closed or not
+abbrev ready_where : Hearing → Told → Bool → List Chunk
+ready_where h d closed = if closed then all_told h d else filter (is_ready_by d.moment) (all_told h d)
 
-ready_open : (conf : EarConf) (takes : Takes) (story : Story) → (told_by (hearing_of conf) takes).closed ≡ false → ToldAs (hearing_of conf) takes story
-    → filter is_lively_chunk (ready_chunks conf conf.ssrc story) ≡ ready_by (hearing_of conf) takes
-ready_open conf takes story o s =
-    let d = told_by (hearing_of conf) takes in
-    filter_swap is_lively_chunk (is_ready_by story.moment) (chunks conf.wait 0 story.past conf.ssrc)
-    ∙ (ap (λ cs. filter (is_ready_by story.moment) cs) (sym (chunks_still conf.wait 0 story.past conf.ssrc))
-    ∙ (ap (λ (a : List Arrival). filter (is_ready_by story.moment) (chunks conf.wait 0 (still a) conf.ssrc)) s.past
-    ∙ (ap (λ (n : ℕ). filter (is_ready_by n) (chunks conf.wait 0 (still d.past) conf.ssrc)) (s.moment o) ∙ ap (ready_where (hearing_of conf) takes) (sym o))))
+ready_open : (lc : LegConf) (takes : Takes) (conf : EarConf) (story : Story) → (told_by (hearing_of lc) takes).closed ≡ false → IsEarOf (hearing_of lc) (told_by (hearing_of lc) takes) conf
+    → story.past ≡ (told_by (hearing_of lc) takes).past → story.moment ≡ (told_by (hearing_of lc) takes).moment
+    → all_former (hearing_of lc) (told_by (hearing_of lc) takes).before ++ filter is_lively_chunk (ready_chunks conf conf.ssrc story) ≡ ready_by (hearing_of lc) takes
+ready_open lc takes conf story o e past moment =
+    let h = hearing_of lc in
+    let d = told_by h takes in
+    let last : filter is_lively_chunk (ready_chunks conf conf.ssrc story) ≡ filter (is_ready_by d.moment) (last_chunks h d.sender d.past) =
+    filter_swap is_lively_chunk (is_ready_by story.moment) (story_chunks conf conf.ssrc story)
+    ∙ (ap (λ cs. filter (is_ready_by story.moment) cs) (part_chunks lc d conf story e past) ∙ ap (λ (n : ℕ). filter (is_ready_by n) (last_chunks h d.sender d.past)) moment) in
+    ap (λ cs. all_former h d.before ++ cs) last ∙ (sym (ready_is h d d.moment (all_good h takes).until) ∙ ap (ready_where h d) (sym o))
 
-ready_closed : (conf : EarConf) (takes : Takes) (story : Story) → (told_by (hearing_of conf) takes).closed ≡ true → ToldAs (hearing_of conf) takes story
-    → filter is_lively_chunk (story_chunks conf conf.ssrc story) ≡ ready_by (hearing_of conf) takes
-ready_closed conf takes story o s =
-    sym (chunks_still conf.wait 0 story.past conf.ssrc) ∙ (ap (λ (a : List Arrival). chunks conf.wait 0 (still a) conf.ssrc) s.past ∙ ap (ready_where (hearing_of conf) takes) (sym o))
+ready_closed : (lc : LegConf) (takes : Takes) (conf : EarConf) (story : Story) → (told_by (hearing_of lc) takes).closed ≡ true → IsEarOf (hearing_of lc) (told_by (hearing_of lc) takes) conf
+    → story.past ≡ (told_by (hearing_of lc) takes).past
+    → all_former (hearing_of lc) (told_by (hearing_of lc) takes).before ++ filter is_lively_chunk (story_chunks conf conf.ssrc story) ≡ ready_by (hearing_of lc) takes
+ready_closed lc takes conf story o e past =
+    let h = hearing_of lc in
+    let d = told_by h takes in
+    ap (λ cs. all_former h d.before ++ cs) (part_chunks lc d conf story e past) ∙ ap (ready_where h d) (sym o)
 
 one_lively : (c : Chunk) → is_lively_chunk c ≡ true → filter is_lively_chunk (c ∷ []) ≡ c ∷ []
 one_lively c e = ap (λ b. cond b (c ∷ []) []) e
@@ -66,9 +79,75 @@ one_lively c e = ap (λ b. cond b (c ∷ []) []) e
 none_lively : (c : Chunk) → is_lively_chunk c ≡ false → filter is_lively_chunk (c ∷ []) ≡ []
 none_lively c e = ap (λ b. cond b (c ∷ []) []) e
 
+-- ---- from one state to the next
+given_append : (st : State) (m : ℕ) (xs ys : List Chunk) → given_as st m (xs ++ ys) ≡ given_as st m xs ++ given_as st m ys
+given_append Idle m xs ys = refl
+given_append Giving m xs ys = refl
+given_append Blank m xs ys = refl
+given_append Parting m xs ys = map-append (ready_until m) xs ys
+given_append Ending m xs ys = refl
+given_append Over m xs ys = refl
+
+-- what holds of an ear in the one holds in the other
+record Turns (a b : State) : Type 0 where
+  given : (m : ℕ) (cs : List Chunk) → given_as b m cs ≡ given_as a m cs
+  part : (h : Hearing) (takes : Takes) (octets : List ℕ) (part : Told) → IsPart a h takes octets part → IsPart b h takes octets part
+  going : is_going b ≡ true → is_going a ≡ true
+  last : is_last b ≡ true → is_last a ≡ true
+
+stays : (a b : State) → b ≡ a → Turns a b
+stays a b e = subst (λ (x : State). Turns a x) (sym e) (record { given = λ m cs. refl; part = λ h takes octets part p. p; going = λ g. g; last = λ l. l })
+
+turns_idle : (a : State) → is_heard a ≡ true → is_ending a ≡ false → Turns a Idle
+turns_idle Idle g e = absurd (true≢false (sym g))
+turns_idle Giving g e = record { given = λ m cs. refl; part = λ h takes octets part p. p; going = λ g. refl; last = λ l. absurd (true≢false (sym l)) }
+turns_idle Blank g e = record { given = λ m cs. refl; part = λ h takes octets part p. p; going = λ g. refl; last = λ l. absurd (true≢false (sym l)) }
+turns_idle Parting g e = absurd (true≢false (sym g))
+turns_idle Ending g e = absurd (true≢false e)
+turns_idle Over g e = absurd (true≢false (sym g))
+
+turns_over : (a : State) → is_ending a ≡ true → Turns a Over
+turns_over Idle e = absurd (true≢false (sym e))
+turns_over Giving e = absurd (true≢false (sym e))
+turns_over Blank e = absurd (true≢false (sym e))
+turns_over Parting e = absurd (true≢false (sym e))
+turns_over Ending e = record { given = λ m cs. refl; part = λ h takes octets part p. p; going = λ g. absurd (true≢false (sym g)); last = λ l. absurd (true≢false (sym l)) }
+turns_over Over e = absurd (true≢false (sym e))
+
+-- an ear gave these chunks more
+ear_gave : (h : Hearing) (takes : Takes) (a b : State) (l m : Ear) (moment : ℕ) (octets : List ℕ) (items xs : List Item) (cs : List Chunk) → Turns a b → conf_of m ≡ conf_of l
+    → (s : EarStands l a moment octets h takes items) → GaveSome m (conf_of l) (conf_of l).ssrc s.story (s.heard ++ cs) → texts_in 0 xs ≡ given_as a moment (filter is_lively_chunk cs)
+    → EarStands m b moment octets h takes (items ++ xs)
+ear_gave h takes a b l m moment octets items xs cs turns conf s gives are =
+    let story = record s.story { given = gives.0 } in
+    record {
+      part = s.part;
+      story = story;
+      heard = s.heard ++ cs;
+      gave = subst (λ (k : EarConf). Gave m k k.ssrc story (s.heard ++ cs)) (sym conf) gives.1;
+      hears = subst (λ (k : EarConf). IsEarOf h s.part k) (sym conf) s.hears;
+      past = s.past;
+      at_moment = λ g. s.at_moment (turns.going g);
+      all = λ l. subst (λ (k : EarConf). ready_chunks k k.ssrc story ≡ story_chunks k k.ssrc story) (sym conf) (s.all (turns.last l));
+      part_is = turns.part h takes octets s.part s.part_is;
+      texts = texts_append 0 items xs
+          ∙ ((λ ι. s.texts ι ++ are ι)
+          ∙ (append_assoc (all_former h s.part.before) (given_as a moment (filter is_lively_chunk s.heard)) (given_as a moment (filter is_lively_chunk cs))
+          ∙ ap (λ ds. all_former h s.part.before ++ ds)
+          (sym (given_append a moment (filter is_lively_chunk s.heard) (filter is_lively_chunk cs))
+          ∙ (ap (given_as a moment) (sym (filter-append is_lively_chunk s.heard cs)) ∙ sym (turns.given moment (filter is_lively_chunk (s.heard ++ cs)))))));
+    }
+
+-- what it gave so far stands before all
+ear_front : (lc : LegConf) (takes : Takes) (st : State) (e : Ear) (moment : ℕ) (octets : List ℕ) (items : List Item) → GaveFront e → moment ≡ (told_by (hearing_of lc) takes).moment
+    → EarStands e st moment octets (hearing_of lc) takes items → IsFront (texts_in 0 items) (all_by (hearing_of lc) takes)
+ear_front lc takes st e moment octets items f m s =
+    subst (λ cs. IsFront cs (all_by (hearing_of lc) takes)) (sym s.texts)
+    (front_at st (hearing_of lc) takes octets moment s.part (filter is_lively_chunk s.heard) s.part_is m (part_front lc s.part e s.story s.heard f s.hears s.past s.gave))
+
 -- ---- one item more
-with_text : (closing : Bool) (mark : Item) (conf : EarConf) (takes : Takes) (items : List Item) (x : Item) → is_text x ≡ true → IsGivingSome closing mark (hearing_of conf) takes items → IsGivingSome closing mark (hearing_of conf) takes (items ++ x ∷ [])
-with_text closing mark conf takes items x e w = record {
+with_text : (closing : Bool) (mark : Item) (h : Hearing) (takes : Takes) (items : List Item) (x : Item) → is_text x ≡ true → IsGivingSome closing mark h takes items → IsGivingSome closing mark h takes (items ++ x ∷ [])
+with_text closing mark h takes items x e w = record {
   last = w.last;
   past = w.past;
   before = w.before;
@@ -84,10 +163,10 @@ with_text closing mark conf takes items x e w = record {
 }
 
 -- the answer's mark behind its texts, which are all that is ready
-with_mark : (closing : Bool) (conf : EarConf) (takes : Takes) (items : List Item) (x : Item) → texts_in 0 (items ++ x ∷ []) ≡ ready_by (hearing_of conf) takes
-    → IsGivingSome closing x (hearing_of conf) takes items → AreItems (hearing_of conf) takes (items ++ x ∷ [])
-with_mark closing conf takes items x all w =
-    let h = hearing_of conf in
+with_mark : (closing : Bool) (lc : LegConf) (takes : Takes) (items : List Item) (x : Item) → texts_in 0 (items ++ x ∷ []) ≡ ready_by (hearing_of lc) takes
+    → IsGivingSome closing x (hearing_of lc) takes items → AreItems (hearing_of lc) takes (items ++ x ∷ [])
+with_mark closing lc takes items x all w =
+    let h = hearing_of lc in
     subst (λ (ps : Takes). AreItems h ps (items ++ x ∷ [])) (sym w.takes_are) (
       w.before,
       w.news,
@@ -97,161 +176,318 @@ with_mark closing conf takes items x all w =
       all ∙ ap (λ (ps : Takes). ready_by h ps) w.takes_are,
     )
 
-closing_by : (conf : EarConf) (takes : Takes) (items : List Item) → IsGivingSome true End (hearing_of conf) takes items → is_closed takes ≡ true
-closing_by conf takes items w = ap is_closed w.takes_are ∙ ap (λ b. b || is_closed w.past) w.closes
+closing_by : (h : Hearing) (takes : Takes) (items : List Item) → IsGivingSome true End h takes items → is_closed takes ≡ true
+closing_by h takes items w = ap is_closed w.takes_are ∙ ap (λ b. b || is_closed w.past) w.closes
+
+text_phase : (st : State) (F G : Type 0) (h : Hearing) (takes : Takes) (items : List Item) (x : Item) → is_text x ≡ true → is_giving st ≡ true
+    → PhaseAt st F h takes items → PhaseAt st G h takes (items ++ x ∷ [])
+text_phase Idle F G h takes items x t e p = absurd (true≢false (sym e))
+text_phase Giving F G h takes items x t e p = with_text false Seen h takes items x t p
+text_phase Blank F G h takes items x t e p = with_text false Silent h takes items x t p
+text_phase Parting F G h takes items x t e p = with_text false Seen h takes items x t p
+text_phase Ending F G h takes items x t e p = with_text true End h takes items x t p
+text_phase Over F G h takes items x t e p = absurd (true≢false (sym e))
+
+same_phase : (st : State) (F G : Type 0) (h : Hearing) (takes : Takes) (items : List Item) → is_giving st ≡ true → PhaseAt st F h takes items → PhaseAt st G h takes items
+same_phase Idle F G h takes items e p = absurd (true≢false (sym e))
+same_phase Giving F G h takes items e p = p
+same_phase Blank F G h takes items e p = p
+same_phase Parting F G h takes items e p = p
+same_phase Ending F G h takes items e p = p
+same_phase Over F G h takes items e p = absurd (true≢false (sym e))
+
+giving_is : (st : State) (F : Type 0) (h : Hearing) (takes : Takes) (items : List Item) (c : Chunk) → is_heard st ≡ true → is_ending st ≡ false → PhaseAt st F h takes items
+    → IsGivingSome false (item_with (seen_as st) c) h takes items
+giving_is Idle F h takes items c e d p = absurd (true≢false (sym e))
+giving_is Giving F h takes items c e d p = p
+giving_is Blank F h takes items c e d p = p
+giving_is Parting F h takes items c e d p = absurd (true≢false (sym e))
+giving_is Ending F h takes items c e d p = absurd (true≢false d)
+giving_is Over F h takes items c e d p = absurd (true≢false (sym e))
+
+ending_is : (st : State) (F : Type 0) (h : Hearing) (takes : Takes) (items : List Item) → is_ending st ≡ true → PhaseAt st F h takes items → IsGivingSome true End h takes items
+ending_is Idle F h takes items e p = absurd (true≢false (sym e))
+ending_is Giving F h takes items e p = absurd (true≢false (sym e))
+ending_is Blank F h takes items e p = absurd (true≢false (sym e))
+ending_is Parting F h takes items e p = absurd (true≢false (sym e))
+ending_is Ending F h takes items e p = p
+ending_is Over F h takes items e p = absurd (true≢false (sym e))
+
+ending_last : (st : State) → is_ending st ≡ true → is_last st ≡ true
+ending_last Idle e = absurd (true≢false (sym e))
+ending_last Giving e = absurd (true≢false (sym e))
+ending_last Blank e = absurd (true≢false (sym e))
+ending_last Parting e = absurd (true≢false (sym e))
+ending_last Ending e = refl
+ending_last Over e = absurd (true≢false (sym e))
+
+-- a state in which the sender is heard: the part is all that was told
+part_now : (st : State) (h : Hearing) (takes : Takes) (octets : List ℕ) (part : Told) → is_heard st ≡ true → IsPart st h takes octets part → part ≡ told_by h takes
+part_now Idle h takes octets part e p = p
+part_now Giving h takes octets part e p = p
+part_now Blank h takes octets part e p = p
+part_now Parting h takes octets part e p = absurd (true≢false (sym e))
+part_now Ending h takes octets part e p = p
+part_now Over h takes octets part e p = p
+
+as_now : (st : State) (m : ℕ) (cs : List Chunk) → is_heard st ≡ true → given_as st m cs ≡ cs
+as_now Idle m cs e = refl
+as_now Giving m cs e = refl
+as_now Blank m cs e = refl
+as_now Parting m cs e = absurd (true≢false (sym e))
+as_now Ending m cs e = refl
+as_now Over m cs e = refl
+
+heard_if : (st : State) → is_ending st ≡ true → is_heard st ≡ true
+heard_if Idle e = absurd (true≢false (sym e))
+heard_if Giving e = refl
+heard_if Blank e = refl
+heard_if Parting e = absurd (true≢false (sym e))
+heard_if Ending e = refl
+heard_if Over e = absurd (true≢false (sym e))
+
+going_if : (st : State) → is_heard st ≡ true → is_ending st ≡ false → is_going st ≡ true
+going_if Idle e d = refl
+going_if Giving e d = refl
+going_if Blank e d = refl
+going_if Parting e d = absurd (true≢false (sym e))
+going_if Ending e d = absurd (true≢false d)
+going_if Over e d = absurd (true≢false (sym e))
+
+no_text : (st : State) (c : Chunk) (leg : ℕ) → text_in leg (item_with (seen_as st) c) ≡ []
+no_text Idle c leg = refl
+no_text Giving c leg = refl
+no_text Blank c leg = refl
+no_text Parting c leg = refl
+no_text Ending c leg = refl
+no_text Over c leg = refl
+
+no_fault : (st : State) (c : Chunk) → has_fault (item_with (seen_as st) c ∷ []) ≡ false
+no_fault Idle c = refl
+no_fault Giving c = refl
+no_fault Blank c = refl
+no_fault Parting c = refl
+no_fault Ending c = refl
+no_fault Over c = refl
+
+-- the chunk as it is given
+abbrev given_chunk : State → ℕ → Chunk → Chunk
+given_chunk Idle m c = c
+given_chunk Giving m c = c
+given_chunk Blank m c = c
+given_chunk Parting m c = ready_until m c
+given_chunk Ending m c = c
+given_chunk Over m c = c
+
+given_one : (st : State) (m : ℕ) (c : Chunk) → given_as st m (c ∷ []) ≡ given_chunk st m c ∷ []
+given_one Idle m c = refl
+given_one Giving m c = refl
+given_one Blank m c = refl
+given_one Parting m c = refl
+given_one Ending m c = refl
+given_one Over m c = refl
+
+given_none : (st : State) (m : ℕ) → given_as st m [] ≡ []
+given_none Idle m = refl
+given_none Giving m = refl
+given_none Blank m = refl
+given_none Parting m = refl
+given_none Ending m = refl
+given_none Over m = refl
+
+given_lively : (st : State) (m : ℕ) (c : Chunk) → is_lively_chunk (given_chunk st m c) ≡ is_lively_chunk c
+given_lively Idle m c = refl
+given_lively Giving m c = refl
+given_lively Blank m c = refl
+given_lively Parting m c = refl
+given_lively Ending m c = refl
+given_lively Over m c = refl
+
+given_source : (st : State) (m : ℕ) (c : Chunk) → c.source ≡ 0 → (given_chunk st m c).source ≡ 0
+given_source Idle m c e = e
+given_source Giving m c e = e
+given_source Blank m c e = e
+given_source Parting m c e = e
+given_source Ending m c e = e
+given_source Over m c e = e
+
+pub given_heard : (st : State) (m : ℕ) (c : Chunk) → is_heard st ≡ true → given_chunk st m c ≡ c
+given_heard Idle m c e = refl
+given_heard Giving m c e = refl
+given_heard Blank m c e = refl
+given_heard Parting m c e = absurd (true≢false (sym e))
+given_heard Ending m c e = refl
+given_heard Over m c e = refl
+
+pub given_parting : (st : State) (m t : ℕ) (c x : Chunk) → st ≡ Parting → t ≡ m → x ≡ ready_until t c → x ≡ given_chunk st m c
+given_parting st m t c x p e is = is ∙ (ap (λ (n : ℕ). ready_until n c) e ∙ sym (ap (λ (s : State). given_chunk s m c) p))
 
 module _ {L : Type 0} (g : links.Ghosts L) where
-  front_of : (e : Ear) (conf : EarConf) (takes : Takes) (story : Story) (cs : List Chunk) → GaveFront e → ToldAs (hearing_of conf) takes story → Gave e conf conf.ssrc story cs
-      → IsFront (filter is_lively_chunk cs) (all_by (hearing_of conf) takes)
-  front_of e conf takes story cs f s w =
-      let r = f conf conf.ssrc story cs w in (
-        filter is_lively_chunk r.0,
-        ap (λ (a : List Arrival). chunks conf.wait 0 (still a) conf.ssrc) (sym s.past)
-            ∙ (chunks_still conf.wait 0 story.past conf.ssrc ∙ (ap (λ xs. filter is_lively_chunk xs) r.1 ∙ filter-append is_lively_chunk cs r.0)),
-      )
+  -- what a leg did that gives: all but its ear and how far it is stays
+  abbrev Same : LinkLeg L → LinkLeg L → Type 0
+  Same l m = (m.link ≡ l.link) × (m.conf ≡ l.conf) × (m.senders ≡ l.senders) × (m.packet.value ≡ l.packet.value)
 
-  text_phase : (st : State) (F G : Type 0) (conf : EarConf) (takes : Takes) (items : List Item) (x : Item) (story : Story) (given : List Given) → is_text x ≡ true → is_giving st ≡ true
-      → PhaseAt st F conf takes items story → PhaseAt st G conf takes (items ++ x ∷ []) (record story { given = given })
-  text_phase Idle F G conf takes items x story given t e p = absurd (true≢false (sym e))
-  text_phase Giving F G conf takes items x story given t e p = with_text false Seen conf takes items x t p
-  text_phase Blank F G conf takes items x story given t e p = with_text false Silent conf takes items x t p
-  text_phase Ending F G conf takes items x story given t e p = (with_text true End conf takes items x t p.0, p.1)
-  text_phase Over F G conf takes items x story given t e p = absurd (true≢false (sym e))
+  moment_is : (l : LinkLeg L) (h : Hearing) (takes : Takes) → Knows l.senders h (told_by h takes) → l.senders.moment ≡ (told_by h takes).moment
+  moment_is l h takes k = k.moment
 
-  same_phase : (st : State) (F G : Type 0) (conf : EarConf) (takes : Takes) (items : List Item) (story : Story) (given : List Given) → is_giving st ≡ true
-      → PhaseAt st F conf takes items story → PhaseAt st G conf takes items (record story { given = given })
-  same_phase Idle F G conf takes items story given e p = absurd (true≢false (sym e))
-  same_phase Giving F G conf takes items story given e p = p
-  same_phase Blank F G conf takes items story given e p = p
-  same_phase Ending F G conf takes items story given e p = p
-  same_phase Over F G conf takes items story given e p = absurd (true≢false (sym e))
-
-  told_given : (conf : EarConf) (takes : Takes) (story : Story) (given : List Given) → ToldAs (hearing_of conf) takes story → ToldAs (hearing_of conf) takes (record story { given = given })
-  told_given conf takes story given s = record { past = s.past; moment = s.moment }
-
-  -- what the ear gave more, and with which items
-  gave_more : (l m : LinkLeg L) (more : List Chunk) (xs : List Item) → has_fault xs ≡ false → m.link ≡ l.link → conf_of m.ear ≡ conf_of l.ear → GaveFront m.ear
-      → (first : LinkLeg L) (items : List Item) (n : Nearly g first l items)
-      → GaveSome m.ear (conf_of first.ear) (conf_of first.ear).ssrc n.story (n.heard ++ more)
-      → texts_in 0 xs ≡ filter is_lively_chunk more
-      → ((given : List Given) → PhaseAt m.state (Rose (g.faults first.link) (g.faults m.link)) (conf_of first.ear) n.takes (items ++ xs) (record n.story { given = given }))
+  -- these items more
+  stands_more : (first l m : LinkLeg L) (items xs : List Item) → has_fault xs ≡ false → Same l m → (n : Nearly g first l items)
+      → EarStands m.ear m.state l.senders.moment l.packet.value (hearing_of first.conf) n.takes (items ++ xs)
+      → IsFront (texts_in 0 (items ++ xs)) (all_by (hearing_of first.conf) n.takes)
+      → PhaseAt m.state (Rose (g.faults first.link) (g.faults m.link)) (hearing_of first.conf) n.takes (items ++ xs)
       → LegStands g first m (items ++ xs)
-  gave_more l m more xs well link conf_is front first items n gives are phase =
-      let conf = conf_of first.ear in
-      let story = record n.story { given = gives.0 } in
-      let told = told_given conf n.takes n.story gives.0 n.told in
-      let texts : texts_in 0 (items ++ xs) ≡ filter is_lively_chunk (n.heard ++ more) =
-      texts_append 0 items xs ∙ ((λ ι. n.texts ι ++ are ι) ∙ sym (filter-append is_lively_chunk n.heard more)) in
+  stands_more first l m items xs well same n ear front phase =
+      let h = hearing_of first.conf in
+      let link = same.0 in
       record {
         so = record {
           takes = n.takes;
-          story = story;
-          conf = conf_is ∙ n.conf;
-          heard = n.heard ++ more;
-          gave = gives.1;
-          texts = texts;
-          told = told;
+          conf = same.1 ∙ n.conf;
+          ear = subst (λ (k : Senders). EarStands m.ear m.state k.moment m.packet.value h n.takes (items ++ xs)) (sym same.2)
+              (subst (λ (os : List ℕ). EarStands m.ear m.state l.senders.moment os h n.takes (items ++ xs)) (sym same.3) ear);
+          knows = subst (λ (k : Senders). Knows k h (told_by h n.takes)) (sym same.2) n.knows;
           taken = λ t. ap g.taken link ∙ n.taken t;
           closed = λ e. ap g.closed link ∙ n.closed e;
           never_falls = subst (λ (k : L). g.faults first.link ≤ g.faults k) (sym link) n.never_falls;
           counts = subst (λ b. Counts b (g.faults first.link) (g.faults m.link)) (sym (fault_append items xs ∙ ap (λ b. has_fault items || b) well))
               (counts_same (has_fault items) (g.faults first.link) (g.faults m.link) (subst (λ (k : L). Counts (has_fault items) (g.faults first.link) (g.faults k)) (sym link) n.counts));
           port = ap g.port link ∙ n.port;
-          phase = phase gives.0;
+          phase = phase;
         };
-        front = subst (λ cs. IsFront cs (all_by (hearing_of conf) n.takes)) (sym texts) (front_of m.ear conf n.takes story (n.heard ++ more) front told gives.1);
+        front = front;
       }
 
-  -- a text was given, or a keep-alive was passed over
-  pub gives_next : (l m : LinkLeg L) (c : Chunk) → is_giving l.state ≡ true → m.state ≡ l.state → m.link ≡ l.link → conf_of m.ear ≡ conf_of l.ear
-      → GivesChunk l.ear m.ear c → GaveFront m.ear → c.source ≡ 0 → (given : Option ItemKind) → given ≡ unless_blank c → GivesOf g l m (items_with given c)
-  gives_next l m c giving state link conf_is gives front own given is first items n = subst (λ (k : Option ItemKind). LegStands g first m (items ++ items_with k c)) (sym is) (go (is_lively_chunk c) refl)
-    where
-      conf : EarConf
-      conf = conf_of first.ear
+  -- what the ear gave more, and with which items
+  gave_more : (l m : LinkLeg L) (cs : List Chunk) (xs : List Item) → has_fault xs ≡ false → Same l m → Turns l.state m.state → conf_of m.ear ≡ conf_of l.ear → GaveFront m.ear
+      → (first : LinkLeg L) (items : List Item) (n : Nearly g first l items)
+      → GaveSome m.ear (conf_of l.ear) (conf_of l.ear).ssrc n.ear.story (n.ear.heard ++ cs)
+      → texts_in 0 xs ≡ given_as l.state l.senders.moment (filter is_lively_chunk cs)
+      → PhaseAt m.state (Rose (g.faults first.link) (g.faults m.link)) (hearing_of first.conf) n.takes (items ++ xs)
+      → LegStands g first m (items ++ xs)
+  gave_more l m cs xs well same turns conf_is front first items n gives are phase =
+      let h = hearing_of first.conf in
+      let ear = ear_gave h n.takes l.state m.state l.ear m.ear l.senders.moment l.packet.value items xs cs turns conf_is n.ear gives are in
+      stands_more first l m items xs well same n ear (ear_front first.conf n.takes m.state m.ear l.senders.moment l.packet.value (items ++ xs) front n.knows.moment ear) phase
 
-      go : (b : Bool) → is_lively_chunk c ≡ b → LegStands g first m (items ++ items_with (if b then Some kind.Text else None) c)
-      go true e = gave_more l m (c ∷ []) (Text c.ready c.text ∷ []) refl link conf_is front first items n (gives conf conf.ssrc n.story n.heard n.gave)
-          (ap (λ k. chunk k c.ready c.text ∷ []) (sym own) ∙ sym (one_lively c e))
-          (λ given. subst (λ (st : State). PhaseAt st (Rose (g.faults first.link) (g.faults m.link)) conf n.takes (items ++ Text c.ready c.text ∷ []) (record n.story { given = given })) (sym state)
-          (text_phase l.state _ _ conf n.takes items (Text c.ready c.text) n.story given refl giving n.phase))
-      go false e = gave_more l m (c ∷ []) [] refl link conf_is front first items n (gives conf conf.ssrc n.story n.heard n.gave)
-          (sym (none_lively c e))
-          (λ given. subst (λ (its : List Item). PhaseAt m.state (Rose (g.faults first.link) (g.faults m.link)) conf n.takes its (record n.story { given = given })) (sym (append-nil items))
-          (subst (λ (st : State). PhaseAt st (Rose (g.faults first.link) (g.faults m.link)) conf n.takes items (record n.story { given = given })) (sym state)
-          (same_phase l.state _ _ conf n.takes items n.story given giving n.phase)))
+  -- a text was given, or a keep-alive was passed over
+  pub gives_next : (l m : LinkLeg L) (c x : Chunk) → is_giving l.state ≡ true → m.state ≡ l.state → Same l m → conf_of m.ear ≡ conf_of l.ear
+      → GivesChunk l.ear m.ear c → GaveFront m.ear → c.source ≡ 0 → x ≡ given_chunk l.state l.senders.moment c → (given : Option ItemKind) → given ≡ unless_blank x → GivesOf g l m (items_with given x)
+  gives_next l m c x giving state same conf_is gives front own shown given is first items n = subst (λ (k : Option ItemKind). LegStands g first m (items ++ items_with k x)) (sym is) (go (is_lively_chunk x) refl)
+    where
+      h : Hearing
+      h = hearing_of first.conf
+
+      live : is_lively_chunk x ≡ is_lively_chunk c
+      live = ap is_lively_chunk shown ∙ given_lively l.state l.senders.moment c
+
+      source : x.source ≡ 0
+      source = ap (λ (k : Chunk). k.source) shown ∙ given_source l.state l.senders.moment c own
+
+      go : (b : Bool) → is_lively_chunk x ≡ b → LegStands g first m (items ++ items_with (if b then Some kind.Text else None) x)
+      go true e = gave_more l m (c ∷ []) (Text x.ready x.text ∷ []) refl same (stays l.state m.state state) conf_is front first items n (gives (conf_of l.ear) (conf_of l.ear).ssrc n.ear.story n.ear.heard n.ear.gave)
+          (ap (λ k. chunk k x.ready x.text ∷ []) (sym source)
+          ∙ (ap (λ (k : Chunk). k ∷ []) shown ∙ (sym (given_one l.state l.senders.moment c) ∙ ap (given_as l.state l.senders.moment) (sym (one_lively c (sym live ∙ e))))))
+          (subst (λ (st : State). PhaseAt st (Rose (g.faults first.link) (g.faults m.link)) h n.takes (items ++ Text x.ready x.text ∷ [])) (sym state)
+          (text_phase l.state _ _ h n.takes items (Text x.ready x.text) refl giving n.phase))
+      go false e = gave_more l m (c ∷ []) [] refl same (stays l.state m.state state) conf_is front first items n (gives (conf_of l.ear) (conf_of l.ear).ssrc n.ear.story n.ear.heard n.ear.gave)
+          (sym (given_none l.state l.senders.moment) ∙ ap (given_as l.state l.senders.moment) (sym (none_lively c (sym live ∙ e))))
+          (subst (λ (its : List Item). PhaseAt m.state (Rose (g.faults first.link) (g.faults m.link)) h n.takes its) (sym (append-nil items))
+          (subst (λ (st : State). PhaseAt st (Rose (g.faults first.link) (g.faults m.link)) h n.takes items) (sym state) (same_phase l.state _ _ h n.takes items giving n.phase)))
 
   -- nothing more was given: all that is ready was
-  marked : (l m : LinkLeg L) (x : Item) → ((leg : ℕ) → text_in leg x ≡ []) → has_fault (x ∷ []) ≡ false → m.link ≡ l.link → conf_of m.ear ≡ conf_of l.ear → GivesNone l.ear m.ear → GaveFront m.ear
+  marked : (l m : LinkLeg L) (x : Item) → ((leg : ℕ) → text_in leg x ≡ []) → has_fault (x ∷ []) ≡ false → Same l m → Turns l.state m.state → conf_of m.ear ≡ conf_of l.ear → GivesNone l.ear m.ear → GaveFront m.ear
       → (first : LinkLeg L) (items : List Item) (n : Nearly g first l items)
-      → ((given : List Given) → PhaseAt m.state (Rose (g.faults first.link) (g.faults m.link)) (conf_of first.ear) n.takes (items ++ x ∷ []) (record n.story { given = given }))
+      → PhaseAt m.state (Rose (g.faults first.link) (g.faults m.link)) (hearing_of first.conf) n.takes (items ++ x ∷ [])
       → LegStands g first m (items ++ x ∷ [])
-  marked l m x none well link conf_is gives front first items n phase =
-      let conf = conf_of first.ear in
-      gave_more l m [] (x ∷ []) well link conf_is front first items n
-      (subst (λ cs. GaveSome m.ear conf conf.ssrc n.story cs) (sym (append-nil n.heard)) (gives conf conf.ssrc n.story n.heard n.gave))
-      (append-nil (text_in 0 x) ∙ none 0) phase
-
-  giving_is : (st : State) (F : Type 0) (conf : EarConf) (takes : Takes) (items : List Item) (story : Story) (c : Chunk) → is_giving st ≡ true → is_ending st ≡ false → PhaseAt st F conf takes items story
-      → IsGivingSome false (item_with (seen_as st) c) (hearing_of conf) takes items
-  giving_is Idle F conf takes items story c e d p = absurd (true≢false (sym e))
-  giving_is Giving F conf takes items story c e d p = p
-  giving_is Blank F conf takes items story c e d p = p
-  giving_is Ending F conf takes items story c e d p = absurd (true≢false d)
-  giving_is Over F conf takes items story c e d p = absurd (true≢false (sym e))
-
-  ending_is : (st : State) (F : Type 0) (conf : EarConf) (takes : Takes) (items : List Item) (story : Story) → is_ending st ≡ true → PhaseAt st F conf takes items story
-      → IsGivingSome true End (hearing_of conf) takes items × (ready_chunks conf conf.ssrc story ≡ story_chunks conf conf.ssrc story)
-  ending_is Idle F conf takes items story e p = absurd (true≢false (sym e))
-  ending_is Giving F conf takes items story e p = absurd (true≢false (sym e))
-  ending_is Blank F conf takes items story e p = absurd (true≢false (sym e))
-  ending_is Ending F conf takes items story e p = p
-  ending_is Over F conf takes items story e p = absurd (true≢false (sym e))
-
-  no_text : (st : State) (c : Chunk) (leg : ℕ) → text_in leg (item_with (seen_as st) c) ≡ []
-  no_text Idle c leg = refl
-  no_text Giving c leg = refl
-  no_text Blank c leg = refl
-  no_text Ending c leg = refl
-  no_text Over c leg = refl
-
-  no_fault : (st : State) (c : Chunk) → has_fault (item_with (seen_as st) c ∷ []) ≡ false
-  no_fault Idle c = refl
-  no_fault Giving c = refl
-  no_fault Blank c = refl
-  no_fault Ending c = refl
-  no_fault Over c = refl
+  marked l m x none well same turns conf_is gives front first items n phase =
+      let conf = conf_of l.ear in
+      gave_more l m [] (x ∷ []) well same turns conf_is front first items n
+      (subst (λ cs. GaveSome m.ear conf conf.ssrc n.ear.story cs) (sym (append-nil n.ear.heard)) (gives conf conf.ssrc n.ear.story n.ear.heard n.ear.gave))
+      (append-nil (text_in 0 x) ∙ (none 0 ∙ sym (given_none l.state l.senders.moment))) phase
 
   -- that all was given, as it is said there
-  gives_seen : (l m : LinkLeg L) (c : Chunk) → is_giving l.state ≡ true → is_ending l.state ≡ false → m.state ≡ Idle → m.link ≡ l.link → conf_of m.ear ≡ conf_of l.ear
+  gives_seen : (l m : LinkLeg L) (c : Chunk) → is_heard l.state ≡ true → is_ending l.state ≡ false → m.state ≡ Idle → Same l m → conf_of m.ear ≡ conf_of l.ear
       → GivesNone l.ear m.ear → GaveReady l.ear → GaveFront m.ear → GivesOf g l m (item_with (seen_as l.state) c ∷ [])
-  gives_seen l m c giving not_ending state link conf_is gives ready front first items n =
-      let conf = conf_of first.ear in
+  gives_seen l m c giving not_ending state same conf_is gives ready front first items n =
+      let lc = first.conf in
+      let h = hearing_of lc in
+      let e = n.ear in
+      let conf = conf_of l.ear in
       let x = item_with (seen_as l.state) c in
       let F = Rose (g.faults first.link) (g.faults m.link) in
-      let w = giving_is l.state _ conf n.takes items n.story c giving not_ending n.phase in
-      let all : texts_in 0 (items ++ x ∷ []) ≡ ready_by (hearing_of conf) n.takes = texts_same 0 items x (no_text l.state c 0)
-      ∙ (n.texts ∙ (ap (λ cs. filter is_lively_chunk cs) (ready conf conf.ssrc n.story n.heard n.gave) ∙ ready_open conf n.takes n.story w.closed n.told)) in
-      marked l m x (no_text l.state c) (no_fault l.state c) link conf_is gives front first items n
-      (λ given. subst (λ (st : State). PhaseAt st F conf n.takes (items ++ x ∷ []) (record n.story { given = given })) (sym state)
-      (record { open_still = w.closed; are = with_mark false conf n.takes items x all w }))
+      let w = giving_is l.state _ h n.takes items c giving not_ending n.phase in
+      let part = part_now l.state h n.takes l.packet.value e.part giving e.part_is in
+      let all : texts_in 0 (items ++ x ∷ []) ≡ ready_by h n.takes = texts_same 0 items x (no_text l.state c 0)
+      ∙ (e.texts ∙ (ap (λ cs. all_former h e.part.before ++ cs) (as_now l.state l.senders.moment (filter is_lively_chunk e.heard) giving)
+      ∙ (ap (λ cs. all_former h e.part.before ++ filter is_lively_chunk cs) (ready conf conf.ssrc e.story e.heard e.gave)
+      ∙ (ap (λ (d : Told). all_former h d.before ++ filter is_lively_chunk (ready_chunks conf conf.ssrc e.story)) part
+      ∙ ready_open lc n.takes conf e.story w.closed (subst (λ (d : Told). IsEarOf h d conf) part e.hears) (e.past ∙ ap (λ (d : Told). d.past) part)
+      (e.at_moment (going_if l.state giving not_ending) ∙ ap (λ (d : Told). d.moment) part))))) in
+      marked l m x (no_text l.state c) (no_fault l.state c) same (subst (λ (st : State). Turns l.state st) (sym state) (turns_idle l.state giving not_ending)) conf_is gives front first items n
+      (subst (λ (st : State). PhaseAt st F h n.takes (items ++ x ∷ [])) (sym state) (record { open_still = w.closed; are = with_mark false lc n.takes items x all w }))
 
-  pub gives_said : (l m : LinkLeg L) (c : Chunk) (said : ItemKind) → said ≡ seen_as l.state → is_giving l.state ≡ true → is_ending l.state ≡ false → m.state ≡ Idle → m.link ≡ l.link → conf_of m.ear ≡ conf_of l.ear
+  pub gives_said : (l m : LinkLeg L) (c : Chunk) (said : ItemKind) → said ≡ seen_as l.state → is_heard l.state ≡ true → is_ending l.state ≡ false → m.state ≡ Idle → Same l m → conf_of m.ear ≡ conf_of l.ear
       → GivesNone l.ear m.ear → GaveReady l.ear → GaveFront m.ear → GivesOf g l m (items_with (Some said) c)
-  gives_said l m c said is giving open_still state link conf_is gives ready front first items n =
-      subst (λ (k : ItemKind). LegStands g first m (items ++ item_with k c ∷ [])) (sym is) (gives_seen l m c giving open_still state link conf_is gives ready front first items n)
+  gives_said l m c said is giving open_still state same conf_is gives ready front first items n =
+      subst (λ (k : ItemKind). LegStands g first m (items ++ item_with k c ∷ [])) (sym is) (gives_seen l m c giving open_still state same conf_is gives ready front first items n)
 
-  pub gives_end : (l m : LinkLeg L) → is_ending l.state ≡ true → m.state ≡ Over → m.link ≡ l.link → conf_of m.ear ≡ conf_of l.ear
+  pub gives_end : (l m : LinkLeg L) → is_ending l.state ≡ true → m.state ≡ Over → Same l m → conf_of m.ear ≡ conf_of l.ear
       → GivesNone l.ear m.ear → GaveReady l.ear → GaveFront m.ear → GivesOf g l m (End ∷ [])
-  gives_end l m ending state link conf_is gives ready front first items n =
-      let conf = conf_of first.ear in
+  gives_end l m ending state same conf_is gives ready front first items n =
+      let lc = first.conf in
+      let h = hearing_of lc in
+      let e = n.ear in
+      let conf = conf_of l.ear in
       let F = Rose (g.faults first.link) (g.faults m.link) in
-      let w = ending_is l.state _ conf n.takes items n.story ending n.phase in
-      let all : texts_in 0 (items ++ End ∷ []) ≡ ready_by (hearing_of conf) n.takes = texts_same 0 items End refl
-      ∙ (n.texts ∙ (ap (λ cs. filter is_lively_chunk cs) (ready conf conf.ssrc n.story n.heard n.gave ∙ w.1) ∙ ready_closed conf n.takes n.story w.0.closed n.told)) in
-      marked l m End (λ leg. refl) refl link conf_is gives front first items n
-      (λ given. subst (λ (st : State). PhaseAt st F conf n.takes (items ++ End ∷ []) (record n.story { given = given })) (sym state)
-      (inl (record { closed = closing_by conf n.takes items w.0; some = record { last = w.0.last; past = w.0.past; takes_are = w.0.takes_are; closes = w.0.closes; open_before = w.0.open_before }; are = with_mark true conf n.takes items End all w.0 })))
+      let w = ending_is l.state _ h n.takes items ending n.phase in
+      let heard = heard_if l.state ending in
+      let part = part_now l.state h n.takes l.packet.value e.part heard e.part_is in
+      let all : texts_in 0 (items ++ End ∷ []) ≡ ready_by h n.takes = texts_same 0 items End refl
+      ∙ (e.texts ∙ (ap (λ cs. all_former h e.part.before ++ cs) (as_now l.state l.senders.moment (filter is_lively_chunk e.heard) heard)
+      ∙ (ap (λ cs. all_former h e.part.before ++ filter is_lively_chunk cs) (ready conf conf.ssrc e.story e.heard e.gave ∙ e.all (ending_last l.state ending))
+      ∙ (ap (λ (d : Told). all_former h d.before ++ filter is_lively_chunk (story_chunks conf conf.ssrc e.story)) part
+      ∙ ready_closed lc n.takes conf e.story w.closed (subst (λ (d : Told). IsEarOf h d conf) part e.hears) (e.past ∙ ap (λ (d : Told). d.past) part))))) in
+      marked l m End (λ leg. refl) refl same (subst (λ (st : State). Turns l.state st) (sym state) (turns_over l.state ending)) conf_is gives front first items n
+      (subst (λ (st : State). PhaseAt st F h n.takes (items ++ End ∷ [])) (sym state)
+      (inl (record { closed = closing_by h n.takes items w; some = record { last = w.last; past = w.past; takes_are = w.takes_are; closes = w.closes; open_before = w.open_before }; are = with_mark true lc n.takes items End all w })))
+
+  -- all of a sender was given from whom another took over: a marker, and the other is heard
+  gives_turn : (l m : LinkLeg L) (mid : Ear) (c : Chunk) → l.state ≡ Parting → m.state ≡ Giving → Same l m → conf_of mid ≡ conf_of l.ear → GivesNone l.ear mid → GaveReady l.ear
+      → BeginsWith mid m.ear (unwrap_or l.senders.sender 0) l.senders.moment l.packet.value → c ≡ chunk 0 l.senders.moment marker → GivesOf g l m (Text c.ready c.text ∷ [])
+  gives_turn l m mid c parting state same conf_is gives ready begins is first items n =
+      let lc = first.conf in
+      let h = hearing_of lc in
+      let e = subst (λ (st : State). EarStands l.ear st l.senders.moment l.packet.value h n.takes items) parting n.ear in
+      let conf = conf_of l.ear in
+      let moment = l.senders.moment in
+      let v = e.part_is in
+      let x = Text c.ready c.text in
+      let at : moment ≡ max e.part.moment v.at = n.knows.moment ∙ ap (λ (d : Told). d.moment) v.over in
+      let there : l.senders.sender ≡ Some v.packet.ssrc = n.knows.sender ∙ ap (λ (d : Told). d.sender) v.over in
+      let gone = gives conf conf.ssrc e.story e.heard e.gave in
+      let all : filter is_lively_chunk e.heard ≡ last_chunks h e.part.sender e.part.past =
+      ap (λ cs. filter is_lively_chunk cs) (ready conf conf.ssrc e.story e.heard e.gave ∙ e.all refl) ∙ part_chunks lc e.part conf e.story e.hears e.past in
+      let texts : texts_in 0 (items ++ x ∷ []) ≡ all_former h (taken_over e.part v.at v.packet).before = texts_append 0 items (x ∷ [])
+      ∙ (ap (λ cs. cs ++ texts_in 0 (x ∷ [])) (e.texts ∙ ap (λ cs. all_former h e.part.before ++ map (ready_until moment) cs) all)
+      ∙ (append_assoc (all_former h e.part.before) (map (ready_until moment) (last_chunks h e.part.sender e.part.past)) (texts_in 0 (x ∷ []))
+      ∙ (ap (λ (k : Chunk). all_former h e.part.before ++ (map (ready_until moment) (last_chunks h e.part.sender e.part.past) ++ chunk 0 k.ready k.text ∷ [])) is
+      ∙ (ap (λ (t : ℕ). all_former h e.part.before ++ (map (ready_until t) (last_chunks h e.part.sender e.part.past) ++ chunk 0 t marker ∷ [])) at
+      ∙ sym (over_former h e.part v.at v.ssrc v.sender))))) in
+      let ear : EarStands m.ear m.state moment l.packet.value h n.takes (items ++ x ∷ []) =
+      first_heard lc mid m.ear m.state moment l.packet.value l.packet.value n.takes (items ++ x ∷ []) e.part v.at v.packet (unwrap_or l.senders.sender 0)
+      (record e.story { given = gone.0 }) e.heard (subst (λ (k : EarConf). Gave mid k k.ssrc (record e.story { given = gone.0 }) e.heard) (sym conf_is) gone.1)
+      (ap (λ (k : EarConf). k.pts) conf_is ∙ e.hears.pts) (ap (λ (k : EarConf). k.wait) conf_is ∙ e.hears.wait)
+      begins (ap (λ (o : Option ℕ). unwrap_or o 0) there) at v.reads v.over state texts in
+      stands_more first l m items (x ∷ []) refl same n ear
+      (subst (λ cs. IsFront cs (all_by h n.takes)) (sym texts)
+      (subst (λ (d : Told). IsFront (all_former h (taken_over e.part v.at v.packet).before) (all_told h d)) (sym v.over)
+      (last_chunks h (taken_over e.part v.at v.packet).sender (taken_over e.part v.at v.packet).past, refl)))
+      (subst (λ (st : State). PhaseAt st (Rose (g.faults first.link) (g.faults m.link)) h n.takes (items ++ x ∷ [])) (sym state)
+      (with_text false Seen h n.takes items x refl (subst (λ (st : State). PhaseAt st (Rose (g.faults first.link) (g.faults l.link)) h n.takes items) parting n.phase)))
+
+  pub gives_marker : (l m : LinkLeg L) (mid : Ear) (c : Chunk) → l.state ≡ Parting → m.state ≡ Giving → Same l m → conf_of mid ≡ conf_of l.ear → GivesNone l.ear mid → GaveReady l.ear
+      → BeginsWith mid m.ear (unwrap_or l.senders.sender 0) l.senders.moment l.packet.value → c ≡ chunk 0 l.senders.moment marker → GivesOf g l m (items_with (Some kind.Text) c)
+  gives_marker l m mid c parting state same conf_is gives ready begins is = gives_turn l m mid c parting state same conf_is gives ready begins is
 
   -- ---- as items that are used again
   pub gave_with : (l m : LinkLeg L) (given : Option ItemKind) (some : Bool) (x : LegItem) → some ≡ is_some given → x.kind ≡ unwrap_or given kind.Seen

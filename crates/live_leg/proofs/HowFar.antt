@@ -1,31 +1,46 @@
 -- How far a leg is.
 use Rattle.std.proofs.Common.{◌≡◌, true, false, true≢false, refl, ap, sym, ◌∙◌}
-use Rattle.link_io.specs.declared.ends.Came.{Came}
-use Rattle.link_io.specs.declared.ends.Came.TheVariants as came
-use Rattle.link_io.specs.Taking.{closes}
 use Rattle.live_leg.specs.declared.states.State.{State}
-use Rattle.live_leg.specs.declared.states.State.TheVariants.{Idle, Giving, Blank, Ending, Over}
-use Rattle.live_leg.specs.States.{is_ending, is_giving, is_going}
-use Rattle.live_leg.specs.Stepping.{state_after}
+use Rattle.live_leg.specs.declared.states.State.TheVariants.{Idle, Giving, Blank, Parting, Ending, Over}
+use Rattle.live_leg.specs.States.{is_ending, is_giving, is_going, is_heard, is_parting}
 
-pub giving_not_idle : (st : State) → is_giving st ≡ true → st ≡ Idle → ⊥
-giving_not_idle st g i = true≢false (sym g ∙ ap is_giving i)
+pub heard_not_idle : (st : State) → is_heard st ≡ true → st ≡ Idle → ⊥
+heard_not_idle st g i = true≢false (sym g ∙ ap is_heard i)
 
-pub still_going : (st : State) → is_giving st ≡ true → is_ending st ≡ false → is_going st ≡ true
+pub heard_giving : (st : State) → is_heard st ≡ true → is_giving st ≡ true
+heard_giving Idle h = absurd (true≢false (sym h))
+heard_giving Giving h = refl
+heard_giving Blank h = refl
+heard_giving Parting h = absurd (true≢false (sym h))
+heard_giving Ending h = refl
+heard_giving Over h = absurd (true≢false (sym h))
+
+pub still_going : (st : State) → is_heard st ≡ true → is_ending st ≡ false → is_going st ≡ true
 still_going Idle g e = refl
 still_going Giving g e = refl
 still_going Blank g e = refl
+still_going Parting g e = absurd (true≢false (sym g))
 still_going Ending g e = absurd (true≢false e)
 still_going Over g e = absurd (true≢false (sym g))
 
-pub asked_not_idle : (c : Came) → state_after c ≡ Idle → ⊥
-asked_not_idle came.Datagram i = cc i
-asked_not_idle came.Large i = cc i
-asked_not_idle came.Quiet i = cc i
-asked_not_idle came.Closed i = cc i
+pub parts_or_hears : (st : State) → is_giving st ≡ true → is_parting st ≡ false → is_heard st ≡ true
+parts_or_hears Idle g p = absurd (true≢false (sym g))
+parts_or_hears Giving g p = refl
+parts_or_hears Blank g p = refl
+parts_or_hears Parting g p = absurd (true≢false p)
+parts_or_hears Ending g p = refl
+parts_or_hears Over g p = absurd (true≢false (sym g))
 
-pub going_is_open : (c : Came) → is_going (state_after c) ≡ true → closes c ≡ false
-going_is_open came.Datagram o = refl
-going_is_open came.Large o = refl
-going_is_open came.Quiet o = refl
-going_is_open came.Closed o = absurd (true≢false (sym o))
+pub parting_is : (st : State) → is_parting st ≡ true → st ≡ Parting
+parting_is Idle p = absurd (true≢false (sym p))
+parting_is Giving p = absurd (true≢false (sym p))
+parting_is Blank p = absurd (true≢false (sym p))
+parting_is Parting p = refl
+parting_is Ending p = absurd (true≢false (sym p))
+parting_is Over p = absurd (true≢false (sym p))
+
+pub parting_not_idle : (st : State) → st ≡ Parting → st ≡ Idle → ⊥
+parting_not_idle st p i = true≢false (sym (ap is_parting p) ∙ ap is_parting i)
+
+pub parting_not_going : (st : State) → st ≡ Parting → is_going st ≡ true → ⊥
+parting_not_going st p g = true≢false (sym g ∙ ap is_going p)

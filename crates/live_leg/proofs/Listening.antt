@@ -1,12 +1,9 @@
--- A leg asks its link.
-use Rattle.std.proofs.Common.{◌≡◌, ◌≤◌, ℕ, true, false, inl, inr, List, [], ◌∷◌, ◌++◌, ◌||◌, refl, ap, sym, ◌∙◌, subst, arith}
-use Rattle.std.specs.Prelude.{Bool}
+-- A leg's link gives more, or the leg stops.
+use Rattle.std.proofs.Common.{◌≡◌, ℕ, ◌≤◌, Bool, true, false, true≢false, inl, inr, None, Some, List, [], ◌∷◌, ◌++◌, ◌||◌, refl, ap, sym, ◌∙◌, subst, arith}
+use Rattle.std.specs.Prelude.{filter, if◌then◌else◌}
 use Rattle.std.proofs.lemmas.List.{append-nil}
-use Rattle.stream_spec.specs.Fronts.{IsFront}
-use Rattle.gap_tracker.specs.Stories.{Story, ended}
-use Rattle.ear.specs.declared.confs.EarConf.{EarConf}
+use Rattle.stream_spec.specs.Fronts.{IsFront, is_ready_by}
 use Rattle.ear.specs.declared.ears.Ear.{Ear}
-use Rattle.ear.specs.Hears.{AllReady, Becomes, Gave, conf_of, ready_chunks, story_chunks}
 use Rattle.rtt_io.specs.Counts.{Rose}
 use Rattle.link_io.specs.declared.ends.LinkIn as links
 use Rattle.link_io.specs.declared.ends.Came.{Came}
@@ -14,19 +11,50 @@ use Rattle.link_io.specs.declared.ends.Came.TheVariants as came
 use Rattle.link_io.specs.declared.ends.Taken.{Taken}
 use Rattle.link_io.specs.Taking.{taken_of, closes, came_of}
 use Rattle.link_spec.specs.Links.{Takes, is_closed, is_closing}
-use Rattle.live_spec.specs.Told.{all_by}
+use Rattle.wire_spec.specs.Text.{text_of}
+use Rattle.live_spec.specs.Told.{Hearing, Told, all_by, last_chunks, ready_by, told_by}
+use Rattle.live_spec.proofs.Fronts.{came_closed}
+use Rattle.live_leg.specs.declared.confs.LegConf.{LegConf}
+use Rattle.live_leg.specs.declared.senders.Senders.{Senders}
+use Rattle.live_leg.specs.declared.senders.Sent.{Sent}
+use Rattle.live_leg.specs.declared.senders.Sent.TheVariants.{Nobody, Sender, First, Other}
 use Rattle.live_leg.specs.declared.states.State.{State}
 use Rattle.live_leg.specs.declared.states.State.TheVariants.{Idle, Over}
 use Rattle.live_leg.specs.declared.legs.LinkLeg.{LinkLeg}
-use Rattle.live_leg.specs.Stories.{after_came, after_taken, hearing_of}
-use Rattle.live_leg.specs.Items.{Item, has_fault, is_fault, mark_of, text_in}
-use Rattle.live_leg.specs.Stepping.{state_after}
-use Rattle.live_leg.specs.Stands.{Counts, GivesThen, IsGivingSome, IsIdle, IsStop, Listens, PhaseAt}
-use Rattle.live_leg.proofs.Telling.{closed_by, closing_is, told_more}
+use Rattle.live_leg.specs.Senders.{Knows, sent_of}
+use Rattle.live_leg.specs.Stories.{hearing_of, state_of_sent}
+use Rattle.live_leg.specs.Taking.{Follows, HearsTaken}
+use Rattle.live_leg.specs.Items.{AreItems, Item, Seen, has_fault, is_fault, mark_of, text_in, texts_in}
+use Rattle.live_leg.specs.Stands.{Counts, EarStands, GivesThen, IsGivingSome, IsIdle, IsStop, Listens, PhaseAt}
+use Rattle.live_leg.proofs.Telling.{told_more}
 use Rattle.live_leg.proofs.Texts.{fault_append, texts_same}
 
-idle_is : (st : State) (F : Type 0) (conf : EarConf) (takes : Takes) (items : List Item) (story : Story) → st ≡ Idle → PhaseAt st F conf takes items story → IsIdle (hearing_of conf) takes items
-idle_is st F conf takes items story e p = subst (λ (x : State). PhaseAt x F conf takes items story) e p
+idle_is : (st : State) (F : Type 0) (h : Hearing) (takes : Takes) (items : List Item) → st ≡ Idle → PhaseAt st F h takes items → IsIdle h takes items
+idle_is st F h takes items e p = subst (λ (x : State). PhaseAt x F h takes items) e p
+
+-- all that is ready was given
+ready_is : (lc : LegConf) (takes : Takes) (items : List Item) → AreItems (hearing_of lc) takes items → texts_in 0 items ≡ ready_by (hearing_of lc) takes
+ready_is lc [] items a = ap (texts_in 0) a ∙ go lc.follow
+  where
+    go : (b : Bool) → [] ≡ filter (is_ready_by 0) (last_chunks (hearing_of lc) (if b then None else Some lc.ear.ssrc) [])
+    go true = refl
+    go false = refl
+ready_is lc (t ∷ past) items a = a.5
+
+closing_is : (c : Came) (octets : List ℕ) → is_closing (came_of c octets) ≡ closes c
+closing_is came.Datagram octets = refl
+closing_is came.Large octets = refl
+closing_is came.Quiet octets = refl
+closing_is came.Closed octets = refl
+
+-- the link is closed by the last take, or not
+closed_now : (h : Hearing) (takes : Takes) (t : ℕ) (c : Came) (octets : List ℕ) → (told_by h takes).closed ≡ false → (told_by h (record { at = t; came = came_of c octets } ∷ takes)).closed ≡ closes c
+closed_now h takes t c octets o =
+    came_closed h (told_by h takes) t (came_of c octets) ∙ (ap (λ (b : Bool). is_closing (came_of c octets) || b) o ∙ (or_none (is_closing (came_of c octets)) ∙ closing_is c octets))
+  where
+    or_none : (b : Bool) → (b || false) ≡ b
+    or_none true = refl
+    or_none false = refl
 
 pub rose_since : (first old new : ℕ) → first ≤ old → Rose old new → Rose first new
 rose_since first old new f (inl r) = inl (omega (arith, f, r))
@@ -42,12 +70,11 @@ closes_with false b old new rest e n r c = n ∙ ap (λ x. x || b) (r c)
 
 module _ {L : Type 0} (g : links.Ghosts L) where
   -- what is given of an answer begins
-  begins : (F : Type 0) (conf : EarConf) (takes : Takes) (items : List Item) (story : Story) (t : ℕ) (c : Came) (octets : List ℕ)
-      → IsIdle (hearing_of conf) takes items → (closes c ≡ true → ready_chunks conf conf.ssrc (ended story) ≡ story_chunks conf conf.ssrc story)
-      → PhaseAt (state_after c) F conf (record { at = t; came = came_of c octets } ∷ takes) items (after_came conf story t c octets)
-  begins F conf takes items story t c octets i all = go c all (some c)
+  begins : (F : Type 0) (h : Hearing) (takes : Takes) (items : List Item) (t : ℕ) (c : Came) (octets : List ℕ) (old new : Ear) (before after : Senders) (st : State)
+      → IsIdle h takes items → Follows old new before after t c octets st h (told_by h takes) → PhaseAt st F h (record { at = t; came = came_of c octets } ∷ takes) items
+  begins F h takes items t c octets old new before after st i f = go c f (some c)
     where
-      some : (c : Came) → IsGivingSome (closes c) (mark_of (came_of c octets)) (hearing_of conf) (record { at = t; came = came_of c octets } ∷ takes) items
+      some : (c : Came) → IsGivingSome (closes c) (mark_of (came_of c octets)) h (record { at = t; came = came_of c octets } ∷ takes) items
       some c = record {
         last = record { at = t; came = came_of c octets };
         past = takes;
@@ -60,72 +87,91 @@ module _ {L : Type 0} (g : links.Ghosts L) where
         closes = closing_is c octets;
         marks = refl;
         open_before = i.open_still;
-        closed = closed_by conf takes t c octets i.open_still;
+        closed = closed_now h takes t c octets i.open_still;
       }
 
-      go : (c : Came) → (closes c ≡ true → ready_chunks conf conf.ssrc (ended story) ≡ story_chunks conf conf.ssrc story)
-          → IsGivingSome (closes c) (mark_of (came_of c octets)) (hearing_of conf) (record { at = t; came = came_of c octets } ∷ takes) items
-          → PhaseAt (state_after c) F conf (record { at = t; came = came_of c octets } ∷ takes) items (after_came conf story t c octets)
-      go came.Datagram all w = w
-      go came.Large all w = w
-      go came.Quiet all w = w
-      go came.Closed all w = (w, all refl)
+      sent : (x : Sent) → st ≡ state_of_sent x → IsGivingSome false Seen h (record { at = t; came = came_of came.Datagram octets } ∷ takes) items
+          → PhaseAt st F h (record { at = t; came = came_of came.Datagram octets } ∷ takes) items
+      sent Nobody e w = subst (λ (y : State). PhaseAt y F h (record { at = t; came = came_of came.Datagram octets } ∷ takes) items) (sym e) w
+      sent Sender e w = subst (λ (y : State). PhaseAt y F h (record { at = t; came = came_of came.Datagram octets } ∷ takes) items) (sym e) w
+      sent First e w = subst (λ (y : State). PhaseAt y F h (record { at = t; came = came_of came.Datagram octets } ∷ takes) items) (sym e) w
+      sent Other e w = subst (λ (y : State). PhaseAt y F h (record { at = t; came = came_of came.Datagram octets } ∷ takes) items) (sym e) w
 
-  pub listens : (l m : LinkLeg L) (taken : Taken) (octets : List ℕ) → l.state ≡ Idle → m.state ≡ state_after taken.came
-      → Becomes l.ear m.ear (λ conf story. after_taken conf story taken octets) → (closes taken.came ≡ true → AllReady l.ear) → conf_of m.ear ≡ conf_of l.ear
+      go : (c : Came) → Follows old new before after t c octets st h (told_by h takes) → IsGivingSome (closes c) (mark_of (came_of c octets)) h (record { at = t; came = came_of c octets } ∷ takes) items
+          → PhaseAt st F h (record { at = t; came = came_of c octets } ∷ takes) items
+      go came.Datagram f w = sent (sent_of h (told_by h takes) t (text_of octets None h.pts)) f.hears.1 w
+      go came.Large f w = subst (λ (y : State). PhaseAt y F h (record { at = t; came = came_of came.Large octets } ∷ takes) items) (sym f.hears.1) w
+      go came.Quiet f w = subst (λ (y : State). PhaseAt y F h (record { at = t; came = came_of came.Quiet octets } ∷ takes) items) (sym f.hears.1) w
+      go came.Closed f w = subst (λ (y : State). PhaseAt y F h (record { at = t; came = came_of came.Closed octets } ∷ takes) items) (sym f.hears.1) w
+
+  pub listens : (l m : LinkLeg L) (taken : Taken) (octets : List ℕ) → l.state ≡ Idle → m.conf ≡ l.conf → m.packet.value ≡ octets → HearsTaken l.ear m.ear l.senders m.senders taken octets m.state
       → (g.tells → g.taken m.link ≡ taken_of taken octets ∷ g.taken l.link) → g.closed m.link ≡ (g.closed l.link || closes taken.came)
       → g.faults l.link ≤ g.faults m.link → g.faults m.link ≡ g.faults l.link → g.port m.link ≡ g.port l.link
       → Listens g l m
-  listens l m taken octets idle state b all conf_is appended closing falls calm port first items s =
-      let conf = conf_of first.ear in
+  listens l m taken octets idle same packet hears appended closing falls calm port first items s =
       let n = s.so in
+      let h = hearing_of first.conf in
       let F = Rose (g.faults first.link) (g.faults m.link) in
-      let i = idle_is l.state _ conf n.takes items n.story idle n.phase in
+      let i = idle_is l.state _ h n.takes items idle n.phase in
+      let f = hears h (told_by h n.takes) n.knows in
+      let ear = subst (λ (st : State). EarStands l.ear st l.senders.moment l.packet.value h n.takes items) idle n.ear in
       record {
         takes = taken_of taken octets ∷ n.takes;
-        story = after_taken conf n.story taken octets;
-        conf = conf_is ∙ n.conf;
-        heard = n.heard;
-        gave = b.gave conf conf.ssrc n.story n.heard n.gave;
-        texts = n.texts;
-        told = told_more conf n.takes n.story taken.at taken.came octets i.open_still n.told;
+        conf = same ∙ n.conf;
+        ear = subst (λ (os : List ℕ). EarStands m.ear m.state m.senders.moment os h (taken_of taken octets ∷ n.takes) items) (sym packet)
+            (told_more first.conf n.takes items l.ear m.ear octets l.packet.value l.senders.moment l.senders m.senders taken.at taken.came m.state ear i.open_still (ready_is first.conf n.takes items i.are) f);
+        knows = f.knows;
         taken = λ t. appended t ∙ ap (λ (ps : Takes). taken_of taken octets ∷ ps) (n.taken t);
         closed = closes_with (is_closing (came_of taken.came octets)) (closes taken.came) (g.closed l.link) (g.closed m.link) (is_closed n.takes) (closing_is taken.came octets) closing n.closed;
         never_falls = omega (arith, n.never_falls, falls);
         counts = subst (λ (k : ℕ). Counts (has_fault items) (g.faults first.link) k) (sym calm) n.counts;
         port = port ∙ n.port;
-        phase = subst (λ (st : State). PhaseAt st F conf (taken_of taken octets ∷ n.takes) items (after_taken conf n.story taken octets)) (sym state)
-            (begins F conf n.takes items n.story taken.at taken.came octets i (λ e. (all e conf (conf.ssrc ∷ []) n.story n.gave.hears).chunks conf.ssrc));
+        phase = begins F h n.takes items taken.at taken.came octets l.ear m.ear l.senders m.senders m.state i f;
       }
 
+  over_ear : (e : Ear) (moment moment2 : ℕ) (octets octets2 : List ℕ) (h : Hearing) (takes : Takes) (items : List Item) (x : Item) → text_in 0 x ≡ []
+      → EarStands e Idle moment octets h takes items → EarStands e Over moment2 octets2 h takes (items ++ x ∷ [])
+  over_ear e moment moment2 octets octets2 h takes items x none s = record {
+    part = s.part;
+    story = s.story;
+    heard = s.heard;
+    gave = s.gave;
+    hears = s.hears;
+    past = s.past;
+    at_moment = λ q. absurd (true≢false (sym q));
+    all = λ q. absurd (true≢false (sym q));
+    part_is = s.part_is;
+    texts = texts_same 0 items x none ∙ s.texts;
+  }
+
   -- it is over, with this last item
-  pub stops : (l m : LinkLeg L) (x : Item) → ((leg : ℕ) → text_in leg x ≡ []) → l.state ≡ Idle → m.state ≡ Over → m.ear ≡ l.ear
+  pub stops : (l m : LinkLeg L) (x : Item) → ((leg : ℕ) → text_in leg x ≡ []) → l.state ≡ Idle → m.state ≡ Over → m.ear ≡ l.ear → m.conf ≡ l.conf → m.senders ≡ l.senders
       → (g.tells → g.taken m.link ≡ g.taken l.link) → g.closed m.link ≡ g.closed l.link → g.faults l.link ≤ g.faults m.link → g.port m.link ≡ g.port l.link
       → ((f : ℕ) → f ≤ g.faults l.link → IsStop x (Rose f (g.faults m.link)))
       → ((b : Bool) (f : ℕ) → f ≤ g.faults l.link → Counts b f (g.faults l.link) → Counts (b || (is_fault x || false)) f (g.faults m.link))
       → GivesThen g l m (x ∷ [])
-  stops l m x none idle state ear same closed falls port stop counts first items s =
-      let conf = conf_of first.ear in
+  stops l m x none idle state ear conf senders same closed falls port stop counts first items s =
+      let h = hearing_of first.conf in
       let n = s.so in
       let texts = texts_same 0 items x (none 0) in
-      let i = idle_is l.state _ conf n.takes items n.story idle n.phase in
+      let i = idle_is l.state _ h n.takes items idle n.phase in
       let F = Rose (g.faults first.link) (g.faults m.link) in
+      let before = subst (λ (st : State). EarStands l.ear st l.senders.moment l.packet.value h n.takes items) idle n.ear in
       record {
         so = record {
           takes = n.takes;
-          story = n.story;
-          conf = ap conf_of ear ∙ n.conf;
-          heard = n.heard;
-          gave = subst (λ (e : Ear). Gave e conf conf.ssrc n.story n.heard) (sym ear) n.gave;
-          texts = texts ∙ n.texts;
-          told = n.told;
+          conf = conf ∙ n.conf;
+          ear = subst (λ (st : State). EarStands m.ear st m.senders.moment m.packet.value h n.takes (items ++ x ∷ [])) (sym state)
+              (subst (λ (e : Ear). EarStands e Over m.senders.moment m.packet.value h n.takes (items ++ x ∷ [])) (sym ear)
+              (over_ear l.ear l.senders.moment m.senders.moment l.packet.value m.packet.value h n.takes items x (none 0) before));
+          knows = subst (λ (k : Senders). Knows k h (told_by h n.takes)) (sym senders) n.knows;
           taken = λ t. same t ∙ n.taken t;
           closed = λ e. closed ∙ n.closed e;
           never_falls = omega (arith, n.never_falls, falls);
           counts = subst (λ b. Counts b (g.faults first.link) (g.faults m.link)) (sym (fault_append items (x ∷ []))) (counts (has_fault items) (g.faults first.link) n.never_falls n.counts);
           port = port ∙ n.port;
-          phase = subst (λ (st : State). PhaseAt st F conf n.takes (items ++ x ∷ []) n.story) (sym state)
+          phase = subst (λ (st : State). PhaseAt st F h n.takes (items ++ x ∷ [])) (sym state)
               (inr (record { before = items; last = x; items_are = refl; open_still = i.open_still; are = i.are; stops = stop (g.faults first.link) n.never_falls }));
         };
-        front = subst (λ cs. IsFront cs (all_by (hearing_of conf) n.takes)) (sym texts) s.front;
+        front = subst (λ cs. IsFront cs (all_by h n.takes)) (sym texts) s.front;
       }

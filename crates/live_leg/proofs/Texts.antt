@@ -8,7 +8,7 @@ use Rattle.stream_spec.specs.Ready.{Chunk}
 use Rattle.live_leg.specs.declared.kinds.ItemKind.{ItemKind}
 use Rattle.live_leg.specs.declared.items.LegItem.{LegItem}
 use Rattle.live_leg.specs.declared.states.State.{State}
-use Rattle.live_leg.specs.declared.states.State.TheVariants.{Idle, Giving, Blank, Ending, Over}
+use Rattle.live_leg.specs.declared.states.State.TheVariants.{Idle, Giving, Blank, Parting, Ending, Over}
 use Rattle.live_leg.specs.Stepping.{seen_as}
 use Rattle.rtt_io.specs.Counts.{Rose}
 use Rattle.live_leg.specs.Stands.{Counts}
@@ -40,6 +40,7 @@ pub seen_text : (state : State) (c : Chunk) → HasText (seen_as state) c
 seen_text Idle c = λ e. absurd (cc e)
 seen_text Giving c = λ e. absurd (cc e)
 seen_text Blank c = λ e. absurd (cc e)
+seen_text Parting c = λ e. absurd (cc e)
 seen_text Ending c = λ e. absurd (cc e)
 seen_text Over c = λ e. absurd (cc e)
 

@@ -1,5 +1,7 @@
 pub mod States
 pub mod Stories
+pub mod Senders
+pub mod Taking
 pub mod Texts
 pub mod Items
 pub mod Stands

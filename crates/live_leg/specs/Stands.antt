@@ -1,22 +1,25 @@
 -- What a leg over a link gave, by what the takes of its link gave.
-use Rattle.std.specs.Prelude.{◌≡◌, ◌≤◌, ◌⊎◌, ℕ, Bool, true, false, List, [], ◌∷◌, ◌++◌, filter}
+use Rattle.std.specs.Prelude.{◌≡◌, ◌≤◌, ◌⊎◌, ℕ, Bool, true, false, None, Some, Ok, List, [], ◌∷◌, ◌++◌, filter, map}
 use Rattle.rtt_base.specs.declared.limits.TheConstants.{MOST_ARRIVALS}
 use Rattle.stream_spec.specs.Fronts.{IsFront}
 use Rattle.stream_spec.specs.Ready.{Chunk}
 use Rattle.stream_spec.specs.Still.{is_lively_chunk}
 use Rattle.gap_tracker.specs.Stories.{Story}
-use Rattle.ear.specs.declared.confs.EarConf.{EarConf}
+use Rattle.wire_spec.specs.Packets.{Packet}
+use Rattle.wire_spec.specs.Text.{text_of}
+use Rattle.ear.specs.declared.ears.Ear.{Ear}
 use Rattle.ear.specs.Hears.{Gave, arrival_count, conf_of, ready_chunks, story_chunks}
 use Rattle.rtt_io.specs.Counts.{Rose}
 use Rattle.link_io.specs.declared.ends.LinkIn as links
-use Rattle.link_spec.specs.Links.{Taken, Takes, is_closed, is_closing}
-use Rattle.live_spec.specs.Told.{Hearing, all_by, told_by}
+use Rattle.link_spec.specs.Links.{Taken, Takes, Datagram, is_closed, is_closing}
+use Rattle.live_spec.specs.Told.{Hearing, Told, all_by, all_former, ready_until, taken_over, told_by}
 use Rattle.live_leg.specs.declared.items.LegItem.{LegItem}
 use Rattle.live_leg.specs.declared.states.State.{State}
-use Rattle.live_leg.specs.declared.states.State.TheVariants.{Idle, Giving, Blank, Ending, Over}
+use Rattle.live_leg.specs.declared.states.State.TheVariants.{Idle, Giving, Blank, Parting, Ending, Over}
 use Rattle.live_leg.specs.declared.legs.LinkLeg.{LinkLeg}
-use Rattle.live_leg.specs.Stories.{ToldAs, hearing_of}
-use Rattle.live_leg.specs.States.{is_giving}
+use Rattle.live_leg.specs.Senders.{Knows}
+use Rattle.live_leg.specs.Stories.{IsEarOf, hearing_of}
+use Rattle.live_leg.specs.States.{is_giving, is_going}
 use Rattle.live_leg.specs.Items.{AreItems, AreTexts, Item, Text, Seen, Silent, End, Quit, Fault, has_fault, items_of, mark_of, texts_in}
 
 -- This is the last item of a leg that was told to stop, or whose link failed.
@@ -77,36 +80,83 @@ pub record IsStopped (Faulted : Type 0) (h : Hearing) (takes : Takes) (items : L
   pub are : AreItems h takes before
   pub stops : IsStop last Faulted
 
-abbrev pub PhaseAt : State → (Faulted : Type 0) → EarConf → Takes → List Item → Story → Type 0
-PhaseAt Idle Faulted conf takes items story = IsIdle (hearing_of conf) takes items
-PhaseAt Giving Faulted conf takes items story = IsGivingSome false Seen (hearing_of conf) takes items
-PhaseAt Blank Faulted conf takes items story = IsGivingSome false Silent (hearing_of conf) takes items
-PhaseAt Ending Faulted conf takes items story =
-    IsGivingSome true End (hearing_of conf) takes items × (ready_chunks conf conf.ssrc story ≡ story_chunks conf conf.ssrc story)
-PhaseAt Over Faulted conf takes items story = IsEnded (hearing_of conf) takes items ⊎ IsStopped Faulted (hearing_of conf) takes items
+abbrev pub PhaseAt : State → (Faulted : Type 0) → Hearing → Takes → List Item → Type 0
+PhaseAt Idle Faulted h takes items = IsIdle h takes items
+PhaseAt Giving Faulted h takes items = IsGivingSome false Seen h takes items
+PhaseAt Blank Faulted h takes items = IsGivingSome false Silent h takes items
+PhaseAt Parting Faulted h takes items = IsGivingSome false Seen h takes items
+PhaseAt Ending Faulted h takes items = IsGivingSome true End h takes items
+PhaseAt Over Faulted h takes items = IsEnded h takes items ⊎ IsStopped Faulted h takes items
+
+-- ---- whom the ear hears
+-- The last take gave these octets: a packet of one who took over from the sender of the part.
+pub record IsTakenOver (h : Hearing) (takes : Takes) (octets : List ℕ) (part : Told) : Type 0 where
+  pub at : ℕ
+  pub past : Takes
+  pub takes_are : takes ≡ record { at = at; came = Datagram octets } ∷ past
+  pub part_is : part ≡ told_by h past
+  pub packet : Packet
+  pub reads : text_of octets None h.pts ≡ Ok packet
+  pub over : told_by h takes ≡ taken_over part at packet
+  pub ssrc : ℕ
+  pub sender : part.sender ≡ Some ssrc
+
+-- The part that is being given: all that was told, or, where one took over, what was told before.
+abbrev pub IsPart : State → Hearing → Takes → List ℕ → Told → Type 0
+IsPart Idle h takes octets part = part ≡ told_by h takes
+IsPart Giving h takes octets part = part ≡ told_by h takes
+IsPart Blank h takes octets part = part ≡ told_by h takes
+IsPart Parting h takes octets part = IsTakenOver h takes octets part
+IsPart Ending h takes octets part = part ≡ told_by h takes
+IsPart Over h takes octets part = part ≡ told_by h takes
+
+-- what is left of a sender is ready when the other took over at the latest
+abbrev pub given_as : State → ℕ → List Chunk → List Chunk
+given_as Idle t cs = cs
+given_as Giving t cs = cs
+given_as Blank t cs = cs
+given_as Parting t cs = map (ready_until t) cs
+given_as Ending t cs = cs
+given_as Over t cs = cs
+
+-- nothing of what the ear was told is waited for any longer
+abbrev pub is_last : State → Bool
+is_last state = elim state [ Parting ↦ true | Ending ↦ true | _ ↦ false ]
+
+-- What is known of the ear of a leg that is heard so and so far, of whose link these takes came, the last with these octets where
+-- it gave a datagram: what it was told and gave. The texts of the leg's items are those of the senders before, and what the ear gave,
+-- but for keep-alives.
+pub record EarStands (e : Ear) (state : State) (moment : ℕ) (octets : List ℕ) (h : Hearing) (takes : Takes) (items : List Item) : Type 0 where
+  pub part : Told
+  pub story : Story
+  pub heard : List Chunk
+  pub gave : Gave e (conf_of e) (conf_of e).ssrc story heard
+  pub hears : IsEarOf h part (conf_of e)
+  pub past : story.past ≡ part.past
+  pub at_moment : is_going state ≡ true → story.moment ≡ part.moment
+  pub all : is_last state ≡ true → ready_chunks (conf_of e) (conf_of e).ssrc story ≡ story_chunks (conf_of e) (conf_of e).ssrc story
+  pub part_is : IsPart state h takes octets part
+  pub texts : texts_in 0 items ≡ all_former h part.before ++ given_as state moment (filter is_lively_chunk heard)
 
 module _ {L : Type 0} (g : links.Ghosts L) where
   -- From `first` on, of which nothing was asked, the takes of its link gave this, newest first, and it gave these items, oldest
-  -- first. Their texts are what its ear gave, but for keep-alives.
+  -- first.
   pub record Nearly (first now : LinkLeg L) (items : List Item) : Type 0 where
     pub takes : Takes
-    pub story : Story
-    pub conf : conf_of now.ear ≡ conf_of first.ear
-    pub heard : List Chunk
-    pub gave : Gave now.ear (conf_of first.ear) (conf_of first.ear).ssrc story heard
-    pub texts : texts_in 0 items ≡ filter is_lively_chunk heard
-    pub told : ToldAs (hearing_of (conf_of first.ear)) takes story
+    pub conf : now.conf ≡ first.conf
+    pub ear : EarStands now.ear now.state now.senders.moment now.packet.value (hearing_of first.conf) takes items
+    pub knows : Knows now.senders (hearing_of first.conf) (told_by (hearing_of first.conf) takes)
     pub taken : g.tells → g.taken now.link ≡ takes ++ g.taken first.link
     pub closed : is_closed takes ≡ true → g.closed now.link ≡ true
     pub never_falls : g.faults first.link ≤ g.faults now.link
     pub counts : Counts (has_fault items) (g.faults first.link) (g.faults now.link)
     pub port : g.port now.link ≡ g.port first.link
-    pub phase : PhaseAt now.state (Rose (g.faults first.link) (g.faults now.link)) (conf_of first.ear) takes items story
+    pub phase : PhaseAt now.state (Rose (g.faults first.link) (g.faults now.link)) (hearing_of first.conf) takes items
 
   -- and its texts are the first of all that are heard by these takes
   pub record LegStands (first now : LinkLeg L) (items : List Item) : Type 0 where
     pub so : Nearly first now items
-    pub front : IsFront (texts_in 0 items) (all_by (hearing_of (conf_of first.ear)) so.takes)
+    pub front : IsFront (texts_in 0 items) (all_by (hearing_of first.conf) so.takes)
 
   abbrev pub LegGave : LinkLeg L → LinkLeg L → List LegItem → Type 0
   LegGave first now gave = LegStands first now (items_of gave)

@@ -2,19 +2,10 @@
 use Rattle.std.specs.Prelude.{Option, None, Some, if◌then◌else◌}
 use Rattle.stream_spec.specs.Ready.{Chunk}
 use Rattle.stream_spec.specs.Still.{is_lively_chunk}
-use Rattle.link_io.specs.declared.ends.Came.{Came}
-use Rattle.link_io.specs.declared.ends.Came.TheVariants as came
 use Rattle.live_leg.specs.declared.kinds.ItemKind.{ItemKind}
 use Rattle.live_leg.specs.declared.kinds.ItemKind.TheVariants.{Text, Seen, Silent}
 use Rattle.live_leg.specs.declared.states.State.{State}
-use Rattle.live_leg.specs.declared.states.State.TheVariants.{Idle, Giving, Blank, Ending, Over}
-
--- how far it is, of whose link this came
-abbrev pub state_after : Came → State
-state_after came.Datagram = Giving
-state_after came.Large = Giving
-state_after came.Quiet = Blank
-state_after came.Closed = Ending
+use Rattle.live_leg.specs.declared.states.State.TheVariants.{Blank}
 
 -- what a text that is heard comes to: a keep-alive is none
 abbrev pub unless_blank : Chunk → Option ItemKind

@@ -1,29 +1,69 @@
 -- What an ear was told, by what the takes of a link gave (profile).
-use Rattle.std.specs.Prelude.{◌≡◌, ℕ, false, List}
-use Rattle.gap_tracker.specs.Stories.{Story, went, ended}
+use Rattle.std.specs.Prelude.{◌≡◌, ℕ, Option, None, Some, List, []}
+use Rattle.stream_spec.specs.Ready.{Chunk}
+use Rattle.wire_spec.specs.Packets.{Arrival}
+use Rattle.gap_tracker.specs.Stories.{Story, begun, went, ended}
 use Rattle.ear.specs.declared.confs.EarConf.{EarConf}
-use Rattle.ear.specs.Hears.{told, text_for}
+use Rattle.ear.specs.declared.ears.Ear.{Ear}
+use Rattle.ear.specs.Hears.{AllReady, Becomes, Gave, conf_of, told, text_for}
 use Rattle.link_io.specs.declared.ends.Came.{Came}
 use Rattle.link_io.specs.declared.ends.Came.TheVariants.{Datagram, Large, Quiet, Closed}
-use Rattle.link_io.specs.declared.ends.Taken.{Taken}
-use Rattle.link_spec.specs.Links.{Takes}
-use Rattle.live_spec.specs.Told.{Hearing, told_by}
+use Rattle.live_spec.specs.Told.{Hearing, Told}
+use Rattle.live_leg.specs.declared.confs.LegConf.{LegConf}
+use Rattle.live_leg.specs.declared.senders.Sent.{Sent}
+use Rattle.live_leg.specs.declared.senders.Sent.TheVariants.{Nobody, Sender, First, Other}
+use Rattle.live_leg.specs.declared.states.State.{State}
+use Rattle.live_leg.specs.declared.states.State.TheVariants.{Giving, Parting}
 
--- this came at the moment t, beside which these octets were handed out
-abbrev pub after_came : EarConf → Story → ℕ → Came → List ℕ → Story
-after_came conf story t Datagram octets = told story t (text_for conf octets)
-after_came conf story t Large octets = went story t
-after_came conf story t Quiet octets = went story t
-after_came conf story t Closed octets = ended story
+-- what is heard of a leg that is asked for this, its texts with the source 0: whose they are is set by who mixes
+abbrev pub hearing_of : LegConf → Hearing
+hearing_of conf = record { leg = 0; ssrc = conf.ear.ssrc; pts = conf.ear.pts; wait = conf.ear.wait; follow = conf.follow }
 
-abbrev pub after_taken : EarConf → Story → Taken → List ℕ → Story
-after_taken conf story taken octets = after_came conf story taken.at taken.came octets
+-- ---- what an ear is told
+-- a packet of the sender came at `now`
+pub record HearsMore (old new : Ear) (now : ℕ) (octets : List ℕ) : Type 0 where
+  pub becomes : Becomes old new (λ conf story. told story now (text_for conf octets))
+  pub conf : conf_of new ≡ conf_of old
 
--- what an ear hears that is asked for this, its texts with the source 0: whose they are is set by who mixes
-abbrev pub hearing_of : EarConf → Hearing
-hearing_of conf = record { leg = 0; ssrc = conf.ssrc; pts = conf.pts; wait = conf.wait }
+-- whatever it heard before, it hears the packets of this SSRC now, of which this is the first
+pub record BeginsWith (old new : Ear) (ssrc now : ℕ) (octets : List ℕ) : Type 0 where
+  pub begins : (conf : EarConf) (source : ℕ) (story : Story) (gave : List Chunk) → Gave old conf source story gave
+      → Gave new (record conf { ssrc = ssrc }) ssrc (told (begun conf.wait) now (text_for (record conf { ssrc = ssrc }) octets)) []
+  pub conf : conf_of new ≡ record (conf_of old) { ssrc = ssrc }
 
--- an ear with this story was told of what these takes gave
-pub record ToldAs (h : Hearing) (takes : Takes) (story : Story) : Type 0 where
-  pub past : story.past ≡ (told_by h takes).past
-  pub moment : (told_by h takes).closed ≡ false → story.moment ≡ (told_by h takes).moment
+-- time goes on to `now`
+pub record Waits (old new : Ear) (now : ℕ) : Type 0 where
+  pub becomes : Becomes old new (λ conf story. went story now)
+  pub conf : conf_of new ≡ conf_of old
+
+-- nothing of it is waited for any longer
+pub record Ends (old new : Ear) : Type 0 where
+  pub becomes : Becomes old new (λ conf story. ended story)
+  pub all : AllReady old
+  pub conf : conf_of new ≡ conf_of old
+
+-- who sent a datagram, and what the ear is told of it; `now` is the greatest moment, `ssrc` that of the sender
+abbrev pub HearsSent : Sent → (old new : Ear) (ssrc now : ℕ) (octets : List ℕ) → Type 0
+HearsSent Nobody old new ssrc now octets = new ≡ old
+HearsSent Sender old new ssrc now octets = HearsMore old new now octets
+HearsSent First old new ssrc now octets = BeginsWith old new ssrc now octets
+HearsSent Other old new ssrc now octets = Ends old new
+
+-- how far a leg is of which that was sent: who takes over from another waits until what is left of that one is given
+abbrev pub state_of_sent : Sent → State
+state_of_sent Nobody = Giving
+state_of_sent Sender = Giving
+state_of_sent First = Giving
+state_of_sent Other = Parting
+
+-- ---- by what was told
+-- the sender's, or that of a leg of which nobody was heard
+abbrev pub IsOf : Option ℕ → (ssrc : ℕ) → List Arrival → Type 0
+IsOf None ssrc past = past ≡ []
+IsOf (Some s) ssrc past = ssrc ≡ s
+
+-- an ear asked for this hears the sender
+pub record IsEarOf (h : Hearing) (d : Told) (conf : EarConf) : Type 0 where
+  pub pts : conf.pts ≡ h.pts
+  pub wait : conf.wait ≡ h.wait
+  pub sender : IsOf d.sender conf.ssrc d.past

@@ -4,7 +4,9 @@ ghost use Rattle.ear.specs.Hears.{IsGiving, is_finished, is_quiet};
 ghost use Rattle.live_leg.specs.States.{is_going};
 ghost use Rattle.live_leg.specs.declared.states.State.TheVariants.{Idle};
 
+use crate::confs::LegConf;
 use crate::paces::Pace;
+use crate::senders::Senders;
 use crate::states::State;
 use ear::Ear;
 use rtt_base::Packet;
@@ -15,7 +17,11 @@ use std::sync::atomic::AtomicBool;
 /// A leg over the inbound end of a link, which stops where a word says so.
 #[derive(Drop)]
 pub struct LinkLeg<L> {
+    /// What it was asked for.
+    pub(crate) conf: LegConf,
+    /// Hears the sender.
     pub(crate) ear: Ear,
+    pub(crate) senders: Senders,
     pub(crate) link: L,
     /// The datagram that came last.
     pub(crate) packet: Box<Packet>,

@@ -1,9 +1,6 @@
 //! How far a leg is.
 ghost use Rattle.std.specs.Prelude.{◌≡◌};
-ghost use Rattle.live_leg.specs.States.{is_ending, is_over};
-ghost use Rattle.live_leg.specs.Stepping.{state_after};
-
-use link_io::Came;
+ghost use Rattle.live_leg.specs.States.{is_ending, is_over, is_parting};
 
 /// How far a leg is.
 #[derive(Clone, Copy, Debug, PartialEq, Eq)]
@@ -14,6 +11,8 @@ pub(crate) enum State {
     Giving,
     /// The link had nothing, and what is ready by then is being given.
     Blank,
+    /// One took over from the sender, and what is left of that one is being given. The datagram is not heard yet.
+    Parting,
     /// The link is closed, and what is left is being given.
     Ending,
     /// The last item was given.
@@ -32,15 +31,10 @@ impl State {
     {
         matches!(self, State::Ending)
     }
-}
 
-/// How far a leg is of whose link this came.
-pub(crate) fn state_after(came: Came) -> State
-    ensures { result ≡ state_after came }
-{
-    match came {
-        Came::Closed => State::Ending,
-        Came::Quiet => State::Blank,
-        _ => State::Giving,
+    pub(crate) fn is_parting(self) -> bool
+        ensures { result ≡ is_parting self }
+    {
+        matches!(self, State::Parting)
     }
 }

@@ -1,20 +1,24 @@
 //! What a leg over a link gives next.
 ghost use Rattle.std.specs.Prelude.{◌≡◌, ◌≤◌, ◌<◌, true, false, None, [], ◌∷◌, IfOk, IfErr, IfSome, OnOk, OnErr};
 ghost use Rattle.rtt_base.specs.declared.limits.TheConstants.{LONGEST_WAIT, MOST_ARRIVALS};
-ghost use Rattle.stream_spec.specs.Ready.{chunk_of};
+ghost use Rattle.stream_spec.specs.Hearing.{marker};
+ghost use Rattle.stream_spec.specs.Ready.{chunk as heard_chunk, chunk_of};
+ghost use Rattle.live_spec.specs.Told.{ready_until};
 ghost use Rattle.live_leg.specs.Stepping.{seen_as, unless_blank};
-ghost use Rattle.ear.specs.Hears.{arrival_count, conf_of};
+ghost use Rattle.ear.specs.Hears.{arrival_count};
 ghost use Rattle.live_leg.specs.Items.{Item, items_with};
 ghost use Rattle.live_leg.specs.Stands.{GetsOn, GivesOf, GivesThen, LegStands, Listens};
-ghost use Rattle.live_leg.specs.States.{is_giving, is_over};
+ghost use Rattle.live_leg.specs.States.{is_giving, is_heard, is_over, is_parting};
 ghost use Rattle.live_leg.specs.Texts.{HasText};
 
-use crate::hearing::hear_taken;
+use crate::confs::LegConf;
+use crate::hearing::{begin_with, hear_taken};
 use crate::kinds::ItemKind;
 use crate::legs::LinkLeg;
 use crate::paces::Pace;
-use crate::states::{State, state_after};
-use ear::{Ear, EarConf, is_blank};
+use crate::senders::Senders;
+use crate::states::State;
+use ear::{Ear, is_blank};
 use link_io::LinkIn;
 use rtt_base::limits::MOST_ARRIVALS;
 use rtt_base::{Chunk, Failed, Packet};
@@ -30,6 +34,26 @@ fn unless_blank(chunk: &Chunk) -> Option<ItemKind>
         return None;
     }
     Some(ItemKind::Text)
+}
+
+/// U+FFFD, which stands where text may be missing (T.140, Addendum 1).
+const MARKER: [u8; 3] = [0xEF, 0xBF, 0xBD];
+
+/// Puts a marker that is ready at this moment in place of what is in `chunk`.
+fn write_marker(chunk: &mut Chunk, ready: u64)
+    ensures { chunk_of chunk.new ≡ heard_chunk 0 ready marker }
+{
+    chunk.source = 0;
+    chunk.ready = ready;
+    chunk.text.clear();
+    let _ = chunk.text.append(&MARKER);
+}
+
+/// Lets what is in `chunk` be ready at this moment at the latest: nothing is waited for beyond it.
+fn hasten(chunk: &mut Chunk, moment: u64)
+    ensures { chunk_of chunk.new ≡ ready_until moment (chunk_of chunk.old) }
+{
+    chunk.ready = chunk.ready.min(moment);
 }
 
 /// How it is said that all was given which is ready by what the link gave, where a leg is so far.
@@ -49,26 +73,31 @@ impl<L: LinkIn> LinkLeg<L> {
     pub fn new(
         alloc: Global,
         link: L,
-        conf: EarConf,
+        conf: LegConf,
         tick: u64,
         stop: Arc<AtomicBool, Global>,
     ) -> Result<LinkLeg<L>, L>
-        requires wait { conf.wait ≤ LONGEST_WAIT }
+        requires wait { conf.ear.wait ≤ LONGEST_WAIT }
         requires tick { 0 < tick }
-        ensures conf { IfOk result (λ leg. conf_of leg.ear ≡ conf) }
+        ensures conf { IfOk result (λ leg. leg.conf ≡ conf) }
         ensures link { IfOk result (λ leg. leg.link ≡ link) }
         ensures open { IfOk result (λ leg. is_over leg.state ≡ false) }
         ensures stands { IfOk result (λ leg. LegStands L.LinkIn leg leg []) }
         ensures lost { IfErr result (λ back. back ≡ link) }
     {
-        let Ok(ear) = Ear::new(alloc, conf, &[conf.ssrc]) else {
+        let Ok(ear) = Ear::new(alloc, conf.ear, &[conf.ear.ssrc]) else {
+            return Err(link);
+        };
+        let Ok(senders) = Senders::new(alloc, conf) else {
             return Err(link);
         };
         let Ok(packet) = Box::new(alloc, Packet::new()) else {
             return Err(link);
         };
         Ok(LinkLeg {
+            conf,
             ear,
+            senders,
             link,
             packet,
             stop,
@@ -82,7 +111,9 @@ impl<L: LinkIn> LinkLeg<L> {
         ensures { result ≡ self.link }
     {
         let LinkLeg {
+            conf: _,
             ear: _,
+            senders: _,
             link,
             packet: _,
             stop: _,
@@ -103,8 +134,8 @@ impl<L: LinkIn> LinkLeg<L> {
     {
         match self.link.take(&mut self.packet, self.pace.until()) {
             Ok(taken) => {
-                hear_taken(&mut self.ear, taken, self.packet.as_slice());
-                self.state = state_after(taken.came);
+                let octets = self.packet.as_slice();
+                self.state = hear_taken(&mut self.ear, &mut self.senders, taken, octets);
                 self.pace = self.pace.after(taken);
                 Ok(())
             }
@@ -117,8 +148,8 @@ impl<L: LinkIn> LinkLeg<L> {
 
     /// Puts the next text that is ready in place of what is in `chunk`, or says that this was all. Where a keep-alive is heard, it
     /// is passed over, and nothing is given.
-    fn give(&mut self, chunk: &mut Chunk) -> Option<ItemKind>
-        requires { is_giving self.old.state ≡ true }
+    fn give_ready(&mut self, chunk: &mut Chunk) -> Option<ItemKind>
+        requires { is_heard self.old.state ≡ true }
         ensures gives { GivesOf L.LinkIn self.old self.new (items_with result (chunk_of chunk.new)) }
         ensures text { IfSome result (λ kind. HasText kind (chunk_of chunk.new)) }
         ensures later { result ≡ None → is_giving self.new.state ≡ true }
@@ -133,6 +164,40 @@ impl<L: LinkIn> LinkLeg<L> {
         let said = seen_as(self.state);
         self.state = State::Idle;
         Some(said)
+    }
+
+    /// Puts the next text of the sender before in place of what is in `chunk`. All of it is ready when the other took over at the
+    /// latest. Where this was all it is a marker: what was lost with that one nobody knows. The ear begins anew with the other.
+    fn part(&mut self, chunk: &mut Chunk) -> Option<ItemKind>
+        requires { self.old.state ≡ State.Parting }
+        ensures gives { GivesOf L.LinkIn self.old self.new (items_with result (chunk_of chunk.new)) }
+        ensures text { IfSome result (λ kind. HasText kind (chunk_of chunk.new)) }
+        ensures later { result ≡ None → is_giving self.new.state ≡ true }
+    {
+        if self.ear.next(chunk) {
+            hasten(chunk, self.senders.moment());
+            return unless_blank(chunk);
+        }
+        let moment = self.senders.moment();
+        let octets = self.packet.as_slice();
+        begin_with(&mut self.ear, self.senders.ssrc(), moment, octets);
+        self.state = State::Giving;
+        write_marker(chunk, moment);
+        Some(ItemKind::Text)
+    }
+
+    /// Gives the next item of what came, if there is one.
+    fn give(&mut self, chunk: &mut Chunk) -> Option<ItemKind>
+        requires { is_giving self.old.state ≡ true }
+        ensures gives { GivesOf L.LinkIn self.old self.new (items_with result (chunk_of chunk.new)) }
+        ensures text { IfSome result (λ kind. HasText kind (chunk_of chunk.new)) }
+        ensures later { result ≡ None → is_giving self.new.state ≡ true }
+    {
+        if self.state.is_parting() {
+            self.part(chunk)
+        } else {
+            self.give_ready(chunk)
+        }
     }
 
     /// Stops.
@@ -182,7 +247,7 @@ impl<L: LinkIn> LinkLeg<L> {
         ensures later { result ≡ None → GetsOn self.old self.new }
     {
         match self.state {
-            State::Giving | State::Blank | State::Ending => self.give(chunk),
+            State::Giving | State::Blank | State::Parting | State::Ending => self.give(chunk),
             State::Idle => self.ask_unless_stopped(chunk),
             State::Over => None,
         }

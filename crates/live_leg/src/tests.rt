@@ -1,4 +1,7 @@
-use crate::{ItemKind, LegItem, LinkLeg};
+ghost use Rattle.std.specs.Prelude.{◌≤◌};
+ghost use Rattle.rtt_base.specs.declared.limits.TheConstants.{LONGEST_WAIT};
+
+use crate::{ItemKind, LegConf, LegItem, LinkLeg};
 use ear::EarConf;
 use item_queue::{Gives, Reuse};
 use link_io::{Came, MemIn, Planned};
@@ -8,10 +11,20 @@ use std::sync::atomic::AtomicBool;
 use std::sync::{Arc, Wait};
 use std::test::Fail;
 
-const ANN: EarConf = EarConf {
+const EAR: EarConf = EarConf {
     ssrc: 1001,
     pts: Pts { t140: 98, red: 100 },
     wait: 1000,
+};
+
+const ANN: LegConf = LegConf {
+    ear: EAR,
+    follow: false,
+};
+
+const FOLLOWED: LegConf = LegConf {
+    ear: EAR,
+    follow: true,
 };
 
 // Ann types A, and then nothing but U+FEFF.
@@ -28,20 +41,32 @@ const SHE_IDLES: Coming = (100, Came::Datagram, IDLE);
 
 const SHE_CLOSES: Coming = (200, Came::Closed, b"");
 
-// Her leg over this link, told to stop or not, and an item for what it gives.
+// Her leg over this link, followed or not, told to stop or not, and an item for what it gives.
 fn over(
     alloc: Global,
     link: MemIn,
+    conf: LegConf,
     is_stopped: bool,
-) -> Result<(LinkLeg<MemIn>, LegItem), NoMemory> {
+) -> Result<(LinkLeg<MemIn>, LegItem), NoMemory>
+    requires { conf.ear.wait ≤ LONGEST_WAIT }
+{
     let item = LegItem::blank(alloc)?;
     let Ok(stop) = Arc::new(alloc, AtomicBool::new(is_stopped)) else {
         return Err(NoMemory);
     };
-    match LinkLeg::new(alloc, link, ANN, 100, stop) {
+    match LinkLeg::new(alloc, link, conf, 100, stop) {
         Ok(leg) => Ok((leg, item)),
         Err(_) => Err(NoMemory),
     }
+}
+
+// A link where this comes.
+fn linked(alloc: Global, comings: &[Coming]) -> Result<MemIn, NoMemory> {
+    let mut link = MemIn::new(alloc, 5001);
+    for (at, came, octets) in comings {
+        link.plan(Planned::new(alloc, *at, *came, *octets)?)?;
+    }
+    Ok(link)
 }
 
 // Her leg where this comes.
@@ -50,11 +75,12 @@ fn ann(
     comings: &[Coming],
     is_stopped: bool,
 ) -> Result<(LinkLeg<MemIn>, LegItem), NoMemory> {
-    let mut link = MemIn::new(alloc, 5001);
-    for (at, came, octets) in comings {
-        link.plan(Planned::new(alloc, *at, *came, *octets)?)?;
-    }
-    over(alloc, link, is_stopped)
+    over(alloc, linked(alloc, comings)?, ANN, is_stopped)
+}
+
+// The same, where she is followed.
+fn followed(alloc: Global, comings: &[Coming]) -> Result<(LinkLeg<MemIn>, LegItem), NoMemory> {
+    over(alloc, linked(alloc, comings)?, FOLLOWED, false)
 }
 
 // What a leg gives next, if it gives something.
@@ -114,7 +140,7 @@ fn a_leg_that_is_told_to_stop_asks_no_more(rt: HostRuntime) -> Result<(), Fail> 
 fn a_fault_is_the_last(rt: HostRuntime) -> Result<(), Fail> {
     let mut link = MemIn::new(rt.alloc(), 5001);
     link.fail_at(2)?;
-    let (mut leg, mut item) = over(rt.alloc(), link, false)?;
+    let (mut leg, mut item) = over(rt.alloc(), link, ANN, false)?;
     assert!(rt; gives(&rt, &mut leg, &mut item, ItemKind::Silent));
     assert!(rt; gives(&rt, &mut leg, &mut item, ItemKind::Fault));
     assert!(rt; leg.is_over());
@@ -137,5 +163,85 @@ fn a_leg_that_hears_nothing_waits_for_the_next_turn(rt: HostRuntime) -> Result<(
     assert!(rt; is_silent_at(&rt, &mut leg, &mut item, 130));
     assert!(rt; is_silent_at(&rt, &mut leg, &mut item, 200));
     assert!(rt; is_silent_at(&rt, &mut leg, &mut item, 300));
+    Ok(())
+}
+
+// Letters of the SSRCs 5 and 6, with their numbers.
+const A5: &[u8] = b"\x80\x62\0\0\0\0\0\0\0\0\0\x05A";
+
+const C5: &[u8] = b"\x80\x62\0\x02\0\0\0\x64\0\0\0\x05C";
+
+const B6: &[u8] = b"\x80\x62\0\0\0\0\0\0\0\0\0\x06B";
+
+// What it says next is this text, from this moment on.
+fn says<F: Gives<LegItem>, R: Wait>(
+    rt: &R,
+    leg: &mut F,
+    item: &mut LegItem,
+    text: &[u8],
+    ready: u64,
+) -> bool {
+    gives(rt, leg, item, ItemKind::Text) && is_said(item, text, ready)
+}
+
+const MARKER: &[u8] = b"\xEF\xBF\xBD";
+
+#[test]
+fn a_terminal_that_begins_anew_is_heard_behind_a_marker(rt: HostRuntime) -> Result<(), Fail> {
+    let comings = [(0, Came::Datagram, A5), (5000, Came::Datagram, B6)];
+    let (mut leg, mut item) = followed(rt.alloc(), &comings)?;
+    assert!(rt; says(&rt, &mut leg, &mut item, b"A", 0));
+    assert!(rt; gives(&rt, &mut leg, &mut item, ItemKind::Seen));
+    assert!(rt; says(&rt, &mut leg, &mut item, MARKER, 5000));
+    assert!(rt; says(&rt, &mut leg, &mut item, b"B", 5000));
+    assert!(rt; gives(&rt, &mut leg, &mut item, ItemKind::Seen));
+    assert!(rt; gives(&rt, &mut leg, &mut item, ItemKind::Silent));
+    Ok(())
+}
+
+#[test]
+fn one_of_before_comes_back_where_the_sender_was_quiet(rt: HostRuntime) -> Result<(), Fail> {
+    let comings = [
+        (0, Came::Datagram, A5),
+        (500, Came::Datagram, B6),
+        (1499, Came::Datagram, C5),
+        (1500, Came::Datagram, C5),
+    ];
+    let (mut leg, mut item) = followed(rt.alloc(), &comings)?;
+    assert!(rt; says(&rt, &mut leg, &mut item, b"A", 0));
+    assert!(rt; gives(&rt, &mut leg, &mut item, ItemKind::Seen));
+    assert!(rt; says(&rt, &mut leg, &mut item, MARKER, 500));
+    assert!(rt; says(&rt, &mut leg, &mut item, b"B", 500));
+    assert!(rt; gives(&rt, &mut leg, &mut item, ItemKind::Seen));
+    assert!(rt; gives(&rt, &mut leg, &mut item, ItemKind::Seen));
+    assert!(rt; says(&rt, &mut leg, &mut item, MARKER, 1500));
+    assert!(rt; says(&rt, &mut leg, &mut item, b"C", 1500));
+    Ok(())
+}
+
+#[test]
+fn a_hole_of_one_before_is_waited_for_no_longer(rt: HostRuntime) -> Result<(), Fail> {
+    let comings = [
+        (0, Came::Datagram, A5),
+        (100, Came::Datagram, C5),
+        (500, Came::Datagram, B6),
+    ];
+    let (mut leg, mut item) = followed(rt.alloc(), &comings)?;
+    assert!(rt; says(&rt, &mut leg, &mut item, b"A", 0));
+    assert!(rt; gives(&rt, &mut leg, &mut item, ItemKind::Seen));
+    assert!(rt; gives(&rt, &mut leg, &mut item, ItemKind::Seen));
+    assert!(rt; says(&rt, &mut leg, &mut item, MARKER, 500));
+    assert!(rt; says(&rt, &mut leg, &mut item, b"C", 500));
+    assert!(rt; says(&rt, &mut leg, &mut item, MARKER, 500));
+    assert!(rt; says(&rt, &mut leg, &mut item, b"B", 500));
+    Ok(())
+}
+
+#[test]
+fn whoever_sends_first_is_heard(rt: HostRuntime) -> Result<(), Fail> {
+    let (mut leg, mut item) = followed(rt.alloc(), &[(100, Came::Datagram, A5)])?;
+    assert!(rt; says(&rt, &mut leg, &mut item, b"A", 100));
+    let (mut other, mut item) = ann(rt.alloc(), &[(100, Came::Datagram, A5)], false)?;
+    assert!(rt; gives(&rt, &mut other, &mut item, ItemKind::Seen));
     Ok(())
 }

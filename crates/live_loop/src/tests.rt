@@ -7,7 +7,7 @@ use crate::{LivePort, Turned, drain_all, inlets_of, ports_over, take_turns};
 use ear::EarConf;
 use item_lanes::{Lane, LaneRoom, Started, join_lanes, keep_lanes};
 use link_io::{Beat, Came, LinkIn, Links, MemIn, MemLinks, Planned};
-use live_leg::{LegItem, LinkLeg};
+use live_leg::{LegConf, LegItem, LinkLeg};
 use mix_loop::Mixes;
 use rtt_base::{Bytes, Chunk, Full, NoMemory, Pts};
 use rtt_io::StillGate;
@@ -158,10 +158,13 @@ fn alone(alloc: Global, leg: LinkLeg<MemIn>) -> Option<Vec<LinkLeg<MemIn>>>
     }
 }
 
-const ANN: EarConf = EarConf {
-    ssrc: 1001,
-    pts: Pts { t140: 98, red: 100 },
-    wait: 1000,
+const ANN: LegConf = LegConf {
+    ear: EarConf {
+        ssrc: 1001,
+        pts: Pts { t140: 98, red: 100 },
+        wait: 1000,
+    },
+    follow: false,
 };
 
 // A leg over this link, alone, and its stop word.

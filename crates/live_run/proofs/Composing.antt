@@ -16,8 +16,7 @@ use Rattle.mixer_posts.specs.States.{SendingState}
 use Rattle.mixer_posts.specs.Posts.{sent_by, sents_to, with_posts}
 use Rattle.mixer_posts.proofs.Entering.{entered_law, some_sent}
 use Rattle.mixer_posts.proofs.Posting.{with_one}
-use Rattle.ear.specs.declared.confs.EarConf.{EarConf}
-use Rattle.ear.specs.Hears.{conf_of}
+use Rattle.live_leg.specs.declared.confs.LegConf.{LegConf}
 use Rattle.link_spec.specs.Links.{Takes, is_closed}
 use Rattle.link_io.specs.declared.ends.LinkIn as ins
 use Rattle.link_io.specs.declared.ends.LinkOut as outs
@@ -37,7 +36,7 @@ use Rattle.live_loop.specs.Clocks.{ArePaced, AtTicks, RiseTo, StandsPaced, momen
 use Rattle.live_loop.specs.Order.{AreInTurn, up_to_turn}
 use Rattle.live_loop.specs.Walks.{BrokenTo, HaltsThen, RanTo, WasFaulted, WasStopped}
 use Rattle.mix_loop.proofs.Lists.{lt_or_ge}
-use Rattle.serve_spec.specs.Served.{End, IsCutShort, IsServed, given_to, hearing_at, live_printed, pts_of}
+use Rattle.serve_spec.specs.Served.{End, IsCutShort, IsServed, given_to, hearing_at, is_followed, live_printed, pts_of}
 use Rattle.serve_spec.specs.Served as served
 use Rattle.live_law.specs.Covers.{Covers, as_leg}
 use Rattle.live_law.specs.Served.{IsOfConf}
@@ -56,7 +55,7 @@ use Rattle.live_run.specs.declared.running.Ended.{Ended}
 use Rattle.live_run.specs.Jobs.{GaveFirst, RanAs, popped_in}
 use Rattle.live_run.specs.Mixers.{GivesFor, HaltsGiving, HasAll, all_admitted}
 use Rattle.live_run.specs.Listeners.{HasHeard}
-use Rattle.live_run.specs.Opened.{AreUnused, OpenEnds, OpenLegs, ear_at, link_in}
+use Rattle.live_run.specs.Opened.{AreUnused, OpenEnds, OpenLegs, leg_conf_at, link_in}
 use Rattle.live_run.specs.Spans.{Span}
 use Rattle.live_run.specs.Taps.{HaltsTold, IsUnsentIn, Learns, Notice, Shows, TellsFor, ended_with, notices_by}
 use Rattle.live_run.proofs.Failing.{closed_calm, fault_rose}
@@ -104,9 +103,9 @@ module _ {T : Type 0} (none : T) (holds : ℕ → T → Type 0) (n : ℕ) (each 
   pick_none : (j : ℕ) → n ≤ j → pick j ≡ none
   pick_none j h = picked_none j (lt_or_ge j n) h
 
-hearing_line : (c : Conf) (j : ℕ) (line : LegLine) → leg_at c.legs j ≡ Some line → hearing_at c j ≡ as_leg j (hearing_of (ear_at c line))
+hearing_line : (c : Conf) (j : ℕ) (line : LegLine) → leg_at c.legs j ≡ Some line → hearing_at c j ≡ as_leg j (hearing_of (leg_conf_at c line))
 hearing_line c j line at =
-    let hears : Option LegLine → Hearing = λ l. record { leg = j; ssrc = ssrc_of l; pts = pts_of l; wait = c.wait } in
+    let hears : Option LegLine → Hearing = λ l. record { leg = j; ssrc = ssrc_of l; pts = pts_of l; wait = c.wait; follow = is_followed l } in
     ap hears at
 
 -- ---- legs that were opened as the first, gave what was popped at these ports, and came back
@@ -128,7 +127,7 @@ module _ {I G : Type 0} (i : ins.Ghosts I) (tells : Type 0) (opened : ℕ → Bo
       let w = gave j p.0 first.0 back.0 p.1 first.1 back.1 in
       let o = are j first.0 first.1 line.0 line.1 in
       let takes = w.1.so.takes in
-      let hears : as_leg j (hearing_of (conf_of first.0.ear)) ≡ hearing_at c j = ap (λ (k : EarConf). as_leg j (hearing_of k)) o.conf ∙ sym (hearing_line c j line.0 line.1) in
+      let hears : as_leg j (hearing_of first.0.conf) ≡ hearing_at c j = ap (λ (k : LegConf). as_leg j (hearing_of k)) o.conf ∙ sym (hearing_line c j line.0 line.1) in
       let here : Covers (hearing_at c j) takes (popped_in p.0.inlet) = subst (λ (h : Hearing). Covers h takes (popped_in p.0.inlet)) hears (covers i j first.0 back.0 (popped_in p.0.inlet ++ w.0) (popped_in p.0.inlet) w.0 w.1 refl) in (
         takes,
         record {

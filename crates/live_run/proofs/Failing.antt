@@ -2,15 +2,12 @@
 use Rattle.std.proofs.Common.{◌≡◌, Bool, true, false, true≢false, inl, inr, List, [], ◌∷◌, ◌++◌, refl, ap, sym, ◌∙◌, subst}
 use Rattle.std.specs.Prelude.{◌||◌}
 use Rattle.rtt_io.specs.Counts.{Rose}
-use Rattle.gap_tracker.specs.Stories.{Story}
-use Rattle.ear.specs.declared.confs.EarConf.{EarConf}
-use Rattle.ear.specs.Hears.{conf_of}
 use Rattle.link_spec.specs.Links.{Came, Datagram, Large, Quiet, Closed, Takes, is_closed}
 use Rattle.link_io.specs.declared.ends.LinkIn as links
 use Rattle.live_spec.specs.Told.{Hearing}
 use Rattle.live_law.proofs.Opening.{open_takes}
 use Rattle.live_leg.specs.declared.states.State.{State}
-use Rattle.live_leg.specs.declared.states.State.TheVariants.{Idle, Giving, Blank, Ending, Over}
+use Rattle.live_leg.specs.declared.states.State.TheVariants.{Idle, Giving, Blank, Parting, Ending, Over}
 use Rattle.live_leg.specs.declared.legs.LinkLeg.{LinkLeg}
 use Rattle.live_leg.specs.Items.{AreItems, AreTexts, Item, has_fault, is_fault, is_text, mark_of}
 use Rattle.live_leg.specs.Items as item
@@ -62,15 +59,16 @@ items_calm h (t ∷ past) items a =
 some_calm : (closing : Bool) (mark : Item) (h : Hearing) (takes : Takes) (items : List Item) → IsGivingSome closing mark h takes items → has_fault items ≡ false
 some_calm closing mark h takes items p = ap has_fault p.items_are ∙ both_calm p.before p.news (items_calm h p.past p.before p.are) (texts_calm p.news p.texts)
 
-phase_calm : (st : State) (F : Type 0) (conf : EarConf) (takes : Takes) (items : List Item) (story : Story) → PhaseAt st F conf takes items story → is_closed takes ≡ true → has_fault items ≡ false
-phase_calm Idle F conf takes items story p e = items_calm (hearing_of conf) takes items p.are
-phase_calm Giving F conf takes items story p e = some_calm false item.Seen (hearing_of conf) takes items p
-phase_calm Blank F conf takes items story p e = some_calm false item.Silent (hearing_of conf) takes items p
-phase_calm Ending F conf takes items story p e = some_calm true item.End (hearing_of conf) takes items p.0
-phase_calm Over F conf takes items story (inl p) e = items_calm (hearing_of conf) takes items p.are
-phase_calm Over F conf takes items story (inr p) e = absurd (true≢false (sym e ∙ open_takes (hearing_of conf) takes p.open_still))
+phase_calm : (st : State) (F : Type 0) (h : Hearing) (takes : Takes) (items : List Item) → PhaseAt st F h takes items → is_closed takes ≡ true → has_fault items ≡ false
+phase_calm Idle F h takes items p e = items_calm h takes items p.are
+phase_calm Giving F h takes items p e = some_calm false item.Seen h takes items p
+phase_calm Blank F h takes items p e = some_calm false item.Silent h takes items p
+phase_calm Parting F h takes items p e = some_calm false item.Seen h takes items p
+phase_calm Ending F h takes items p e = some_calm true item.End h takes items p
+phase_calm Over F h takes items (inl p) e = items_calm h takes items p.are
+phase_calm Over F h takes items (inr p) e = absurd (true≢false (sym e ∙ open_takes h takes p.open_still))
 
 -- none of its takes failed
 pub closed_calm : {L : Type 0} (g : links.Ghosts L) (first back : LinkLeg L) (items : List Item) (w : LegStands g first back items) → is_closed w.so.takes ≡ true → g.faults back.link ≡ g.faults first.link
 closed_calm g first back items w e =
-    subst (λ (b : Bool). Counts b (g.faults first.link) (g.faults back.link)) (phase_calm back.state _ (conf_of first.ear) w.so.takes items w.so.story w.so.phase e) w.so.counts
+    subst (λ (b : Bool). Counts b (g.faults first.link) (g.faults back.link)) (phase_calm back.state _ (hearing_of first.conf) w.so.takes items w.so.phase e) w.so.counts

@@ -95,7 +95,7 @@ first_all c listeners k views low first = λ given heard.
 -- ---- lists
 -- stands for a leg where none is looked at
 abbrev pub no_leg : LegLine
-no_leg = record { line = 0; name = []; aware = false; ssrc = 0; input = []; output = []; pts = record { t140 = 0; red = 0 }; gens = 0; stay = record { from = 0; until = None } }
+no_leg = record { line = 0; name = []; aware = false; ssrc = 0; input = []; output = []; pts = record { t140 = 0; red = 0 }; gens = 0; stay = record { from = 0; until = None }; follow = false }
 
 pub get_seam : {X : Type 0} (xs : List X) (x : X) (rest : List X) → slice_get (xs ++ x ∷ rest) (length xs) ≡ Some x
 get_seam [] x rest = refl

@@ -5,18 +5,17 @@ use Rattle.rtt_io.specs.Counts.{Rose}
 use Rattle.file_spec.specs.declared.conf_lines.LegLine.{LegLine}
 use Rattle.file_spec.specs.Conf.{Conf, port}
 use Rattle.mixer_spec.specs.Setups.{leg_at}
-use Rattle.ear.specs.declared.confs.EarConf.{EarConf}
-use Rattle.ear.specs.Hears.{conf_of}
 use Rattle.link_io.specs.declared.ends.LinkIn as ins
 use Rattle.link_io.specs.declared.ends.LinkOut as outs
+use Rattle.live_leg.specs.declared.confs.LegConf.{LegConf}
 use Rattle.live_leg.specs.declared.legs.LinkLeg.{LinkLeg}
 use Rattle.live_leg.specs.Stands.{LegStands}
 use Rattle.live_run.specs.declared.faults.LiveFault.{LiveFault}
 use Rattle.live_run.specs.declared.faults.LiveFault.TheVariants.{Link, NoMemory}
 
 -- how a leg is heard
-abbrev pub ear_at : Conf → LegLine → EarConf
-ear_at c leg = record { ssrc = leg.ssrc; pts = leg.pts; wait = c.wait }
+abbrev pub leg_conf_at : Conf → LegLine → LegConf
+leg_conf_at c leg = record { ear = record { ssrc = leg.ssrc; pts = leg.pts; wait = c.wait }; follow = leg.follow }
 
 -- the input of each leg is a port
 abbrev pub HavePorts : Conf → Type 0
@@ -50,7 +49,7 @@ LeadsAll c old new = new ≡ old ++ map link_of c.legs
 -- ---- that are opened
 -- The leg j over the inbound end of its link, of which nothing was taken. Where the world tells it, a link is opened at its port.
 pub record IsOpenedLeg {I : Type 0} (g : ins.Ghosts I) (tells : Type 0) (opened : ℕ → Bool) (c : Conf) (j : ℕ) (line : LegLine) (leg : LinkLeg I) : Type 0 where
-  pub conf : conf_of leg.ear ≡ ear_at c line
+  pub conf : leg.conf ≡ leg_conf_at c line
   pub new : LegStands g leg leg []
   pub at : port line.input ≡ Some (g.port leg.link)
   pub fresh : g.faults leg.link ≡ 0

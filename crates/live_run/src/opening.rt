@@ -3,14 +3,14 @@ ghost use Rattle.std.specs.Prelude.{◌≡◌, ◌<◌, ◌≤◌, ◌⊎◌, []
 ghost use Rattle.std.specs.Vec.{vec_capacity};
 ghost use Rattle.link_io.specs.Ports.{NoneFalls, Same, StayOpened};
 ghost use Rattle.conference.specs.Conferences.{conf_of};
-ghost use Rattle.live_run.specs.Opened.{AreCalm, AreEmptyAt, AreStored, FaultsRose, GivesNothing, HavePorts, IsNotOpened, IsRefusedAt, LeadsAll, LeadsOne, LeadsSome, OpenEnds, OpenLegs, OpensEnd, OpensLeg, ear_at, link_in};
+ghost use Rattle.live_run.specs.Opened.{AreCalm, AreEmptyAt, AreStored, FaultsRose, GivesNothing, HavePorts, IsNotOpened, IsRefusedAt, LeadsAll, LeadsOne, LeadsSome, OpenEnds, OpenLegs, OpensEnd, OpensLeg, leg_conf_at, link_in};
 
 use crate::LiveFault;
 use conference::{Conf, LegLine};
 use ear::EarConf;
 use file_lines::number_from;
 use link_io::{LinkIn, LinkOut, Links};
-use live_leg::LinkLeg;
+use live_leg::{LegConf, LinkLeg};
 use rtt_base::NoMemory;
 use std::alloc::Global;
 use std::sync::Arc;
@@ -23,13 +23,16 @@ pub(crate) struct Opened<I, O> {
 }
 
 /// How a leg is heard.
-fn ear_conf(conf: &Conf, leg: &LegLine) -> EarConf
-    ensures { result ≡ ear_at (conf_of conf.now) leg.now }
+fn leg_conf(conf: &Conf, leg: &LegLine) -> LegConf
+    ensures { result ≡ leg_conf_at (conf_of conf.now) leg.now }
 {
-    EarConf {
-        ssrc: leg.ssrc,
-        pts: leg.pts,
-        wait: u64::from(conf.wait),
+    LegConf {
+        ear: EarConf {
+            ssrc: leg.ssrc,
+            pts: leg.pts,
+            wait: u64::from(conf.wait),
+        },
+        follow: leg.follow,
     }
 }
 
@@ -113,7 +116,7 @@ fn open_link<W: Links>(
         return Err(LiveFault::Link { leg: own });
     };
     let tick = u64::from(conf.tick);
-    match LinkLeg::new(alloc, inbound, ear_conf(conf, leg), tick, stop) {
+    match LinkLeg::new(alloc, inbound, leg_conf(conf, leg), tick, stop) {
         Ok(leg) => Ok((leg, outbound)),
         Err(inbound) => {
             world.done_in(inbound);

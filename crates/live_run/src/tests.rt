@@ -179,6 +179,142 @@ fn an_hour_of_turns_ends_as_a_short_call(rt: HostRuntime) -> Result<(), Fail> {
     Ok(())
 }
 
+/// The same, where Ann's leg is followed.
+const FOLLOWED: &[u8] = b"leg Ann aware 1001 5004 127.0.0.1:6004\n\
+    leg Bob aware 1002 5006 127.0.0.1:6006\n\
+    mixer 9000 100 5000\n\
+    follow Ann\n";
+
+/// A datagram from Ann's terminal.
+fn from_ann(at: u32, octets: &'static [u8]) -> Coming {
+    Coming {
+        port: 5004,
+        at,
+        came: Came::Datagram,
+        octets,
+    }
+}
+
+/// A link that is closed at last.
+fn closes(port: u16) -> Coming {
+    Coming {
+        port,
+        at: 9000,
+        came: Came::Closed,
+        octets: b"",
+    }
+}
+
+fn has(text: &[u8], part: &[u8]) -> bool {
+    (0..text.len()).any(|start| text[start..].starts_with(part))
+}
+
+/// Whether in a call of this conference this is Bob's line of Ann, where these datagrams come from her terminal.
+fn bob_is_shown<R: Threads + Wait + Sync>(
+    rt: &R,
+    alloc: Global,
+    conf: &[u8],
+    datagrams: &[Coming],
+    line: &[u8],
+) -> Result<bool, NoMemory> {
+    let Ok(conf) = read_conf(alloc, conf, Form::Links) else {
+        return Ok(false);
+    };
+    let mut comings = Vec::new(alloc);
+    comings.extend_from_slice(datagrams)?;
+    comings.push(closes(5004))?;
+    comings.push(closes(5006))?;
+    let mut world = links(alloc, comings.as_slice())?;
+    links_are_apart();
+    match serve(rt, alloc, &conf, &mut world, &StillGate) {
+        Ok(report) => Ok(has(joined(alloc, &report.views)?.as_slice(), line)),
+        Err(_) => Ok(false),
+    }
+}
+
+/// `A` and `B` of one sender, `C` and `D` of the next.
+const BEGAN_ANEW: [(u32, &[u8]); 4] = [
+    (0, b"\x80\xE2\0\0\0\0\0\0\0\0\0\x05A"),
+    (100, b"\x80\x62\0\x01\0\0\0\x64\0\0\0\x05B"),
+    (5000, b"\x80\xE2\0\0\0\0\0\0\0\0\0\x06C"),
+    (5100, b"\x80\x62\0\x01\0\0\0\x64\0\0\0\x06D"),
+];
+
+/// `E` of the first sender.
+const CAME_BACK: &[u8] = b"\x80\x62\0\x02\0\0\0\xC8\0\0\0\x05E";
+
+fn began_anew() -> [Coming; 4] {
+    BEGAN_ANEW.map(|(at, octets)| from_ann(at, octets))
+}
+
+#[test]
+fn a_terminal_that_begins_anew_is_shown_in_its_leg(rt: HostRuntime) -> Result<(), Fail> {
+    let [a, b, c, d] = began_anew();
+    let anew = "== Bob aware\nAnn: AB\u{FFFD}CD\n".as_bytes();
+    let back = "== Bob aware\nAnn: AB\u{FFFD}CD\u{FFFD}E\n".as_bytes();
+    assert!(rt; bob_is_shown(&rt, rt.alloc(), FOLLOWED, &[a, b, c, d], anew)?);
+    assert!(rt;
+        bob_is_shown(
+            &rt,
+            rt.alloc(),
+            FOLLOWED,
+            &[a, b, c, d, from_ann(5200, CAME_BACK)],
+            anew
+        )?
+    );
+    assert!(rt;
+        bob_is_shown(
+            &rt,
+            rt.alloc(),
+            FOLLOWED,
+            &[a, b, c, d, from_ann(6100, CAME_BACK)],
+            back
+        )?
+    );
+    assert!(rt;
+        bob_is_shown(
+            &rt,
+            rt.alloc(),
+            CALL,
+            &[a, b, c, d],
+            b"== Bob aware\nAnn: \n"
+        )?
+    );
+    Ok(())
+}
+
+#[test]
+fn what_was_lost_of_one_before_is_waited_for_no_longer(rt: HostRuntime) -> Result<(), Fail> {
+    let [a, _, c, d] = began_anew();
+    let shown = "== Bob aware\nAnn: A\u{FFFD}E\u{FFFD}CD\n".as_bytes();
+    assert!(rt;
+        bob_is_shown(
+            &rt,
+            rt.alloc(),
+            FOLLOWED,
+            &[a, from_ann(4950, CAME_BACK), c, d],
+            shown
+        )?
+    );
+    Ok(())
+}
+
+#[test]
+fn who_is_not_named_is_shown_in_the_leg(rt: HostRuntime) -> Result<(), Fail> {
+    let unnamed = from_ann(10, b"\x80\xE2\0\0\0\0\0\0\0\0\0\x4DA");
+    assert!(rt;
+        bob_is_shown(
+            &rt,
+            rt.alloc(),
+            FOLLOWED,
+            &[unnamed],
+            b"== Bob aware\nAnn: A\n"
+        )?
+    );
+    assert!(rt; bob_is_shown(&rt, rt.alloc(), CALL, &[unnamed], b"== Bob aware\nAnn: \n")?);
+    Ok(())
+}
+
 /// Whether Bob's link is what a call ends with, where this call fails.
 fn fails_at_bob<R: Threads + Wait + Sync>(
     rt: &R,

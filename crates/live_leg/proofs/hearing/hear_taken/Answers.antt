@@ -1,20 +1,34 @@
-use Rattle.std.proofs.Common.{inl, inr, sym, subst}
-use Rattle.ear.specs.Hears.{Becomes}
-use Rattle.link_io.specs.declared.ends.Came.{Came}
-use Rattle.live_leg.specs.Stories.{after_came}
+use Rattle.std.proofs.Math.Logic.{∥∥₁_map}
+use Rattle.gap_tracker.specs.Stories.{ended, went}
+use Rattle.live_leg.proofs.Ears.{becomes_giving}
+use Rattle.live_leg.proofs.Taking.{follows_closed, follows_datagram, follows_large, follows_quiet}
 use Rattle.live_leg.proofs.hearing.hear_taken.Goals as goal
 
-pub returns-in-Datagram-clause-becomes : goal.returns-in-Datagram-clause-becomes
-returns-in-Datagram-clause-becomes c =
-    let P : Came → Type 0 = λ x. Becomes c.args.ear.now c.hear-refused.new.self (λ conf story. after_came conf story c.args.taken.at x c.args.octets.now) in
-    subst P (sym c.in-Datagram.is) c.hear-refused.ensures.becomes
+pub returns-in-Datagram-clause-hears : goal.returns-in-Datagram-clause-hears
+returns-in-Datagram-clause-hears c =
+    follows_datagram c.args.ear.now c.hear_sent.new.ear c.args.senders.now c.meet-sent.new.self c.args.taken c.args.octets.now c.meet-sent.result c.hear_sent.result
+    c.in-Datagram.is c.meet-sent.ensures c.hear_sent.ensures.hears c.hear_sent.ensures.state
 
-pub returns-in-Large-clause-becomes : goal.returns-in-Large-clause-becomes
-returns-in-Large-clause-becomes c =
-    let P : Came → Type 0 = λ x. Becomes c.args.ear.now c.expire.new.self (λ conf story. after_came conf story c.args.taken.at x c.args.octets.now) in
-    elim c.in-Large.is [ inl e ↦ subst P (sym e) c.expire.ensures.becomes | inr e ↦ subst P (sym e) c.expire.ensures.becomes ]
+pub returns-in-Large-clause-hears : goal.returns-in-Large-clause-hears
+returns-in-Large-clause-hears c =
+    follows_large c.args.ear.now c.expire.new.self c.args.senders.now c.pass.new.self c.args.taken c.args.octets.now c.in-Large.is c.pass.ensures c.expire.ensures.becomes c.expire.ensures.conf
 
-pub returns-in-Closed-clause-becomes : goal.returns-in-Closed-clause-becomes
-returns-in-Closed-clause-becomes c =
-    let P : Came → Type 0 = λ x. Becomes c.args.ear.now c.finish.new.self (λ conf story. after_came conf story c.args.taken.at x c.args.octets.now) in
-    subst P (sym c.in-Closed.is) c.finish.ensures.becomes
+pub returns-in-Large-clause-giving : goal.returns-in-Large-clause-giving
+returns-in-Large-clause-giving c =
+    ∥∥₁_map c.requires.giving (becomes_giving c.args.ear.now c.expire.new.self (λ conf story. went story c.args.taken.at) c.expire.ensures.becomes)
+
+pub returns-in-Quiet-clause-hears : goal.returns-in-Quiet-clause-hears
+returns-in-Quiet-clause-hears c =
+    follows_quiet c.args.ear.now c.expire-in-Quiet.new.self c.args.senders.now c.pass-in-Quiet.new.self c.args.taken c.args.octets.now c.in-Quiet.is c.pass-in-Quiet.ensures c.expire-in-Quiet.ensures.becomes c.expire-in-Quiet.ensures.conf
+
+pub returns-in-Quiet-clause-giving : goal.returns-in-Quiet-clause-giving
+returns-in-Quiet-clause-giving c =
+    ∥∥₁_map c.requires.giving (becomes_giving c.args.ear.now c.expire-in-Quiet.new.self (λ conf story. went story c.args.taken.at) c.expire-in-Quiet.ensures.becomes)
+
+pub returns-in-Closed-clause-hears : goal.returns-in-Closed-clause-hears
+returns-in-Closed-clause-hears c =
+    follows_closed c.args.ear.now c.finish.new.self c.args.senders.now c.args.taken c.args.octets.now c.in-Closed.is c.finish.ensures.becomes c.finish.ensures.all c.finish.ensures.conf
+
+pub returns-in-Closed-clause-giving : goal.returns-in-Closed-clause-giving
+returns-in-Closed-clause-giving c =
+    ∥∥₁_map c.requires.giving (becomes_giving c.args.ear.now c.finish.new.self (λ conf story. ended story) c.finish.ensures.becomes)

@@ -5,7 +5,7 @@ use Rattle.file_spec.specs.declared.conf_lines.LegLine.{LegLine}
 use Rattle.file_spec.specs.Conf.{port}
 use Rattle.mixer_spec.specs.Setups.{leg_at}
 use Rattle.conference.specs.Conferences.{conf_of}
-use Rattle.live_run.specs.Opened.{ear_at}
+use Rattle.live_run.specs.Opened.{leg_conf_at}
 use Rattle.live_run.proofs.Closing.{nothing_more}
 use Rattle.live_run.proofs.Showing.{found_leg, shown_leg}
 use Rattle.live_run.proofs.Linking.{pair_is}
@@ -38,7 +38,7 @@ returns-in-Ok-new-clause-leg g c = λ line at.
     let opened = c.in-Ok-link.ensures in
     let numbered : g.W.In.LinkIn.port c.in-Ok-new.leg.link ≡ c.in-Some.port = ap g.W.In.LinkIn.port link ∙ opened.ports.0 in
     record {
-      conf = c.in-Ok-new.ensures.conf ∙ (c.ear_conf.ensures ∙ ap (ear_at (conf_of c.args.conf.now)) same);
+      conf = c.in-Ok-new.ensures.conf ∙ (c.leg_conf.ensures ∙ ap (leg_conf_at (conf_of c.args.conf.now)) same);
       new = c.in-Ok-new.ensures.stands;
       at = ap (λ (l : LegLine). port l.input) (sym same) ∙ (there ∙ ap Some (sym numbered));
       fresh = ap g.W.In.LinkIn.faults link ∙ opened.fresh.0;

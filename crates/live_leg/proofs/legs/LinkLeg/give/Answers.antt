@@ -1,55 +1,9 @@
-use Rattle.std.proofs.Common.{sym, subst, refl, ◌∙◌, true≢false}
-use Rattle.std.proofs.Math.Logic.{∥∥₁_map}
-use Rattle.std.proofs.lemmas.Str.{is_utf8-from_IsUtf8}
-use Rattle.stream_spec.specs.Ready.{chunk_of}
-use Rattle.live_leg.proofs.Ears.{rests_giving, still_giving}
-use Rattle.live_leg.proofs.HowFar.{giving_not_idle, still_going}
-use Rattle.live_leg.proofs.Giving.{gives_end, gives_next, gives_said}
-use Rattle.live_leg.specs.declared.kinds.ItemKind.{ItemKind}
-use Rattle.live_leg.specs.Texts.{HasText}
-use Rattle.live_leg.proofs.Texts.{seen_text, some_text}
+use Rattle.std.proofs.Common.{sym, ◌∙◌}
+use Rattle.live_leg.proofs.HowFar.{parting_is, parts_or_hears}
 use Rattle.live_leg.proofs.legs.LinkLeg.give.Goals as goal
 
-pub invariant_of-self : goal.invariant_of-self
-invariant_of-self g c = record {
-  giving = ∥∥₁_map c.args.self.now.giving (still_giving c.args.self.now.ear c.next.new.self (chunk_of c.next.new.chunk) (c.next.ensures.some c.if-next.true));
-  quiet = λ i. absurd (giving_not_idle c.args.self.now.state c.requires i);
-  open_still = λ o. c.next.ensures.finished ∙ c.args.self.now.open_still o;
-}
+pub part-requires : goal.part-requires
+part-requires g c = parting_is c.args.self.now.state (sym c.is_parting.ensures ∙ c.if-is_parting.true)
 
-pub returns-then-next-clause-gives : goal.returns-then-next-clause-gives
-returns-then-next-clause-gives g c =
-    gives_next g.L.LinkIn c.args.self.now _ (chunk_of c.next.new.chunk) c.requires refl refl c.next.ensures.conf
-    (c.next.ensures.some c.if-next.true) c.next.ensures.front (c.next.ensures.source c.if-next.true) c.unless_blank.result c.unless_blank.ensures
-
-pub returns-then-next-clause-text : goal.returns-then-next-clause-text
-returns-then-next-clause-text g c =
-    some_text c.unless_blank.result (chunk_of c.next.new.chunk) (c.next.ensures.text c.if-next.true) (is_utf8-from_IsUtf8 c.next.new.chunk.text (c.next.ensures.utf8 c.if-next.true))
-
-pub invariant_of-self-then-is_ending : goal.invariant_of-self-then-is_ending
-invariant_of-self-then-is_ending g c = record {
-  giving = ∥∥₁_map c.args.self.now.giving (rests_giving c.args.self.now.ear c.next.new.self (c.next.ensures.none c.if-next.false));
-  quiet = λ i. absurd (cc i);
-  open_still = λ o. absurd (true≢false (sym o));
-}
-
-pub returns-then-is_ending-clause-gives : goal.returns-then-is_ending-clause-gives
-returns-then-is_ending-clause-gives g c =
-    gives_end g.L.LinkIn c.args.self.now _ (sym c.is_ending.ensures ∙ c.if-is_ending.true) refl refl c.next.ensures.conf
-    (c.next.ensures.none c.if-next.false) (c.next.ensures.all c.if-next.false) c.next.ensures.front
-
-pub invariant_of-self-2 : goal.invariant_of-self-2
-invariant_of-self-2 g c = record {
-  giving = ∥∥₁_map c.args.self.now.giving (rests_giving c.args.self.now.ear c.next.new.self (c.next.ensures.none c.if-next.false));
-  quiet = λ i. c.next.ensures.quiet c.if-next.false;
-  open_still = λ o. c.next.ensures.finished ∙ c.args.self.now.open_still (still_going c.args.self.now.state c.requires (sym c.is_ending.ensures ∙ c.if-is_ending.false));
-}
-
-pub returns-clause-gives : goal.returns-clause-gives
-returns-clause-gives g c =
-    gives_said g.L.LinkIn c.args.self.now _ (chunk_of c.next.new.chunk) c.seen_as-said.result c.seen_as-said.ensures c.requires (sym c.is_ending.ensures ∙ c.if-is_ending.false) refl refl c.next.ensures.conf
-    (c.next.ensures.none c.if-next.false) (c.next.ensures.all c.if-next.false) c.next.ensures.front
-
-pub returns-clause-text : goal.returns-clause-text
-returns-clause-text g c =
-    subst (λ (k : ItemKind). HasText k (chunk_of c.next.new.chunk)) (sym c.seen_as-said.ensures) (seen_text c.args.self.now.state (chunk_of c.next.new.chunk))
+pub give_ready-requires : goal.give_ready-requires
+give_ready-requires g c = parts_or_hears c.args.self.now.state c.requires (sym c.is_parting.ensures ∙ c.if-is_parting.false)

@@ -1,0 +1,72 @@
+-- What a take tells a leg is what its definition has it told.
+use Rattle.std.proofs.Common.{◌≡◌, ℕ, List, refl, ap, sym, ◌∙◌, subst}
+use Rattle.std.specs.Prelude.{None, unwrap_or}
+use Rattle.wire_spec.specs.Text.{text_of}
+use Rattle.gap_tracker.specs.Stories.{ended, went}
+use Rattle.ear.specs.declared.ears.Ear.{Ear}
+use Rattle.ear.specs.Hears.{AllReady, Becomes, conf_of, text_for, told}
+use Rattle.link_io.specs.declared.ends.Came.{Came}
+use Rattle.link_io.specs.declared.ends.Came.TheVariants as came
+use Rattle.link_io.specs.declared.ends.Taken.{Taken}
+use Rattle.live_spec.specs.Told.{Hearing, Told}
+use Rattle.live_leg.specs.declared.senders.Senders.{Senders}
+use Rattle.live_leg.specs.declared.senders.Sent.{Sent}
+use Rattle.live_leg.specs.declared.senders.Sent.TheVariants.{Nobody, Sender, First, Other}
+use Rattle.live_leg.specs.declared.states.State.{State}
+use Rattle.live_leg.specs.declared.states.State.TheVariants.{Giving, Blank, Ending}
+use Rattle.live_leg.specs.Senders.{Knows, Meets, Passes, sent_of}
+use Rattle.live_leg.specs.Stories.{BeginsWith, Ends, HearsMore, HearsSent, Waits, state_of_sent}
+use Rattle.live_leg.specs.Taking.{Follows, HearsTaken}
+
+-- ---- who sent a datagram
+pub sent_nobody : (sent : Sent) (ear : Ear) (ssrc now : ℕ) (octets : List ℕ) → sent ≡ Nobody → HearsSent sent ear ear ssrc now octets
+sent_nobody sent ear ssrc now octets is = subst (λ (x : Sent). HearsSent x ear ear ssrc now octets) (sym is) refl
+
+pub sent_sender : (sent : Sent) (old new : Ear) (ssrc at now : ℕ) (octets : List ℕ) → sent ≡ Sender → at ≡ now
+    → Becomes old new (λ conf story. told story at (text_for conf octets)) → conf_of new ≡ conf_of old → HearsSent sent old new ssrc now octets
+sent_sender sent old new ssrc at now octets is same becomes conf =
+    subst (λ (x : Sent). HearsSent x old new ssrc now octets) (sym is) (subst (λ (n : ℕ). HearsMore old new n octets) same (record { becomes = becomes; conf = conf }))
+
+pub sent_first : (sent : Sent) (old new : Ear) (of ssrc at now : ℕ) (octets : List ℕ) → sent ≡ First → of ≡ ssrc → at ≡ now → BeginsWith old new of at octets → HearsSent sent old new ssrc now octets
+sent_first sent old new of ssrc at now octets is who when begins =
+    subst (λ (x : Sent). HearsSent x old new ssrc now octets) (sym is)
+    (subst (λ (n : ℕ). BeginsWith old new ssrc n octets) when (subst (λ (s : ℕ). BeginsWith old new s at octets) who begins))
+
+pub sent_other : (sent : Sent) (old new : Ear) (ssrc now : ℕ) (octets : List ℕ) → sent ≡ Other
+    → Becomes old new (λ conf story. ended story) → AllReady old → conf_of new ≡ conf_of old → HearsSent sent old new ssrc now octets
+sent_other sent old new ssrc now octets is becomes all conf =
+    subst (λ (x : Sent). HearsSent x old new ssrc now octets) (sym is) (record { becomes = becomes; all = all; conf = conf })
+
+-- ---- what came
+pub follows_datagram : (old new : Ear) (before after : Senders) (taken : Taken) (octets : List ℕ) (sent : Sent) (state : State) → taken.came ≡ came.Datagram → Meets before after taken.at octets sent
+    → HearsSent sent old new (unwrap_or after.sender 0) after.moment octets → state ≡ state_of_sent sent → HearsTaken old new before after taken octets state
+follows_datagram old new before after taken octets sent state is meets hears stands h d k =
+    let m = meets h d k in
+    subst (λ (c : Came). Follows old new before after taken.at c octets state h d) (sym is) (record {
+      knows = m.knows;
+      hears = (subst (λ (x : Sent). HearsSent x old new (unwrap_or after.sender 0) after.moment octets) m.sent_is hears, stands ∙ ap state_of_sent m.sent_is);
+    })
+
+pub follows_large : (old new : Ear) (before after : Senders) (taken : Taken) (octets : List ℕ) → taken.came ≡ came.Large → Passes before after taken.at
+    → Becomes old new (λ conf story. went story taken.at) → conf_of new ≡ conf_of old → HearsTaken old new before after taken octets Giving
+follows_large old new before after taken octets is passes becomes conf h d k =
+    subst (λ (c : Came). Follows old new before after taken.at c octets Giving h d) (sym is) (record {
+      knows = passes h d k;
+      hears = (record { becomes = becomes; conf = conf }, refl);
+    })
+
+pub follows_quiet : (old new : Ear) (before after : Senders) (taken : Taken) (octets : List ℕ) → taken.came ≡ came.Quiet → Passes before after taken.at
+    → Becomes old new (λ conf story. went story taken.at) → conf_of new ≡ conf_of old → HearsTaken old new before after taken octets Blank
+follows_quiet old new before after taken octets is passes becomes conf h d k =
+    subst (λ (c : Came). Follows old new before after taken.at c octets Blank h d) (sym is) (record {
+      knows = passes h d k;
+      hears = (record { becomes = becomes; conf = conf }, refl);
+    })
+
+pub follows_closed : (old new : Ear) (senders : Senders) (taken : Taken) (octets : List ℕ) → taken.came ≡ came.Closed
+    → Becomes old new (λ conf story. ended story) → AllReady old → conf_of new ≡ conf_of old → HearsTaken old new senders senders taken octets Ending
+follows_closed old new senders taken octets is becomes all conf h d k =
+    subst (λ (c : Came). Follows old new senders senders taken.at c octets Ending h d) (sym is) (record {
+      knows = record { pts = k.pts; follow = k.follow; sender = k.sender; known = k.known; moment = k.moment; last = k.last };
+      hears = (record { becomes = becomes; all = all; conf = conf }, refl);
+    })
