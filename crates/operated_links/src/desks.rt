@@ -73,6 +73,7 @@ impl<P: OperatorPort> Desk<P> {
             counts: Arc::try_clone(counts).ok()?,
             stop: Arc::try_clone(&self.stop).ok()?,
             ssrc: leg.ssrc,
+            follow: leg.follow,
             pts: leg.pts,
         };
         self.seated = self.seated.saturating_add(1);

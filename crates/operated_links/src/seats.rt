@@ -37,6 +37,8 @@ pub(crate) struct Seat {
     pub(crate) counts: Arc<Counts, Global>,
     pub(crate) stop: Arc<AtomicBool, Global>,
     pub(crate) ssrc: u32,
+    /// Whether the leg is heard whatever SSRC its terminal sends with.
+    pub(crate) follow: bool,
     pub(crate) pts: Pts,
 }
 
@@ -64,11 +66,11 @@ impl Seat {
         }
     }
 
-    // Whether a datagram is RTP of the leg's SSRC and of one of its payload types.
+    // Whether a datagram is RTP of the leg's SSRC, or of any where the leg is followed, and of one of its payload types.
     fn is_text(&self, octets: &[u8]) -> bool {
         match read_rtp(octets) {
             Ok(packet) => {
-                packet.ssrc == self.ssrc
+                (self.follow || packet.ssrc == self.ssrc)
                     && (packet.pt == self.pts.t140 || packet.pt == self.pts.red)
             }
             Err(_) => false,

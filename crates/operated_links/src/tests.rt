@@ -10,6 +10,10 @@ use std::test::Fail;
 const CONF: &[u8] =
     b"mixer 9000 0 0\nleg Ann aware 1001 5001 127.0.0.1:6001\nleg Bob aware 1002 5002 127.0.0.1:6002\nturns 600\noperator 7001 Sesame42\n";
 
+/// The same, where Bob's leg is followed.
+const FOLLOWED: &[u8] =
+    b"mixer 9000 0 0\nleg Ann aware 1001 5001 127.0.0.1:6001\nleg Bob aware 1002 5002 127.0.0.1:6002\nturns 600\noperator 7001 Sesame42\nfollow Bob\n";
+
 /// A packet of text of SSRC 1001.
 const TEXT: &[u8] = b"\x80\xE2\0\x05\0\0\0\x64\0\0\x03\xE9Hi";
 
@@ -77,9 +81,9 @@ impl OperatorPort for MemPort {
     }
 }
 
-/// The operator of the conference.
-fn operator(alloc: Global, asked: Asked) -> Result<Operator<MemPort>, NoMemory> {
-    let Ok(conf) = read_conf(alloc, CONF, Form::Links) else {
+/// The operator of a conference.
+fn operator(alloc: Global, conference: &[u8], asked: Asked) -> Result<Operator<MemPort>, NoMemory> {
+    let Ok(conf) = read_conf(alloc, conference, Form::Links) else {
         return Err(NoMemory);
     };
     let desk = Desk::new(alloc, conf, MemPort::new(alloc, asked))?;
@@ -87,13 +91,17 @@ fn operator(alloc: Global, asked: Asked) -> Result<Operator<MemPort>, NoMemory> 
 }
 
 /// Links at which this comes: of Ann a text and a report, of Bob a text of hers and a datagram that is too long.
-fn links(alloc: Global, asked: Asked) -> Result<Operated<MemLinks, MemPort>, NoMemory> {
+fn links(
+    alloc: Global,
+    conference: &[u8],
+    asked: Asked,
+) -> Result<Operated<MemLinks, MemPort>, NoMemory> {
     let mut below = MemLinks::new(alloc);
     below.plan(5001, Planned::new(alloc, 100, Came::Datagram, TEXT)?)?;
     below.plan(5001, Planned::new(alloc, 250, Came::Datagram, REPORT)?)?;
     below.plan(5002, Planned::new(alloc, 200, Came::Datagram, TEXT)?)?;
     below.plan(5002, Planned::new(alloc, 300, Came::Large, b"")?)?;
-    Ok(Operated::new(below, operator(alloc, asked)?))
+    Ok(Operated::new(below, operator(alloc, conference, asked)?))
 }
 
 /// Whether so many takes tell this.
@@ -134,31 +142,51 @@ fn only_the_word_and_what_is_asked_are_a_request(rt: HostRuntime) -> Result<(), 
     Ok(())
 }
 
-#[test]
-fn an_operator_is_told_how_the_call_stands(rt: HostRuntime) -> Result<(), Fail> {
+/// What an operator of this conference is told at the second turn.
+fn told(alloc: Global, conference: &[u8], answer: &[u8]) -> Result<bool, NoMemory> {
     let asked = Asked(&[b"Sesame43 state", b"state"], &[b"Sesame42 state"]);
-    let mut links = links(rt.alloc(), asked)?;
-    let (mut ann, ann_out) = links.link(5001, "127.0.0.1:6001")?;
-    let (mut bob, bob_out) = links.link(5002, "127.0.0.1:6002")?;
-    assert!(rt; tells(&mut ann, 2, Came::Datagram));
-    assert!(rt; tells(&mut bob, 1, Came::Datagram));
-    assert!(rt; tells(&mut bob, 1, Came::Large));
+    let mut links = links(alloc, conference, asked)?;
+    let Ok((mut ann, ann_out)) = links.link(5001, "127.0.0.1:6001") else {
+        return Ok(false);
+    };
+    let Ok((mut bob, bob_out)) = links.link(5002, "127.0.0.1:6002") else {
+        links.done_in(ann);
+        links.done_out(ann_out);
+        return Ok(false);
+    };
+    let came = tells(&mut ann, 2, Came::Datagram)
+        && tells(&mut bob, 1, Came::Datagram)
+        && tells(&mut bob, 1, Came::Large);
     links.pause_until(1000);
     links.pause_until(1100);
-    let answer: &[u8] =
-        b"turn 2 of 600\nAnn datagrams 2 text 1 last 750 here\nBob datagrams 2 text 0 last 700 here\n";
-    assert!(rt; answered(&links, answer));
+    let is_told = came && answered(&links, answer);
     links.done_in(ann);
     links.done_in(bob);
     links.done_out(ann_out);
     links.done_out(bob_out);
+    Ok(is_told)
+}
+
+#[test]
+fn an_operator_is_told_how_the_call_stands(rt: HostRuntime) -> Result<(), Fail> {
+    let answer: &[u8] =
+        b"turn 2 of 600\nAnn datagrams 2 text 1 last 750 here\nBob datagrams 2 text 0 last 700 here\n";
+    assert!(rt; told(rt.alloc(), CONF, answer)?);
+    Ok(())
+}
+
+#[test]
+fn of_a_leg_that_is_followed_each_text_counts(rt: HostRuntime) -> Result<(), Fail> {
+    let answer: &[u8] =
+        b"turn 2 of 600\nAnn datagrams 2 text 1 last 750 here\nBob datagrams 2 text 1 last 700 here\n";
+    assert!(rt; told(rt.alloc(), FOLLOWED, answer)?);
     Ok(())
 }
 
 #[test]
 fn a_call_that_is_stopped_is_heard_to_its_end(rt: HostRuntime) -> Result<(), Fail> {
     let asked = Asked(&[b"Sesame42 stop"], &[b"Sesame42 state"]);
-    let mut links = links(rt.alloc(), asked)?;
+    let mut links = links(rt.alloc(), CONF, asked)?;
     let (mut ann, ann_out) = links.link(5001, "127.0.0.1:6001")?;
     let (mut bob, bob_out) = links.link(5002, "127.0.0.1:6002")?;
     assert!(rt; tells(&mut ann, 1, Came::Datagram));
@@ -184,7 +212,7 @@ fn heard_behind(alloc: Global, count: usize) -> Result<usize, NoMemory> {
         below.plan(5001, Planned::new(alloc, 100, Came::Datagram, TEXT)?)?;
     }
     let asked = Asked(&[b"Sesame42 stop"], &[]);
-    let mut links = Operated::new(below, operator(alloc, asked)?);
+    let mut links = Operated::new(below, operator(alloc, CONF, asked)?);
     let Ok((mut inbound, outbound)) = links.link(5001, "127.0.0.1:6001") else {
         return Ok(0);
     };
