@@ -4,7 +4,7 @@
  *   mediastreamer PORT ADDRESS:PORT SSRC GAP MILLIS TEXT
  *
  * After a second it types TEXT, a character each GAP milliseconds. When MILLIS milliseconds are over it prints what came, and
- * ends. The payload types are 98 for t140 and 100 for red. */
+ * ends. The payload types are 98 for t140 and 100 for red. Where SSRC is `-` its packets have the one that it drew. */
 #include <mediastreamer2/mediastream.h>
 #include <mediastreamer2/msrtt4103.h>
 #include <locale.h>
@@ -66,7 +66,9 @@ int main(int count, char **words) {
 	bctbx_set_log_level(NULL, BCTBX_LOG_FATAL);
 	MSFactory *factory = ms_factory_new_with_voip();
 	TextStream *stream = text_stream_new2(factory, "127.0.0.1", port, port + 1000);
-	rtp_session_set_ssrc(stream->ms.sessions.rtp_session, (uint32_t)strtoul(words[3], NULL, 10));
+	if (strcmp(words[3], "-")) {
+		rtp_session_set_ssrc(stream->ms.sessions.rtp_session, (uint32_t)strtoul(words[3], NULL, 10));
+	}
 	rtp_session_enable_rtcp(stream->ms.sessions.rtp_session, FALSE);
 	if (!text_stream_start(stream, profile_of_text(), address, to, address, to + 1000, 100)) {
 		fprintf(stderr, "the text stream does not start\n");
