@@ -69,7 +69,8 @@ impl Gateway {
     }
 
     /// Hears a datagram of the leg with this number, counted from 0, that came at `now`. What is no packet of its text is passed over.
-    /// `Full`: the mixer has no room for text of the leg of before. Then the datagram is handed in again behind the next turn.
+    /// `Full`: the mixer has no room for text of the leg of before. Then the datagram is handed in again behind the next turn. So it is
+    /// for good where 2^40 packets of the leg came.
     pub fn hear(&mut self, leg: usize, now: u64, datagram: &[u8]) -> Result<(), Full>
         requires leg { leg < legs_in self.old }
         requires now { now < 2 ^ 47 }
@@ -80,12 +81,13 @@ impl Gateway {
     }
 
     /// A turn at `now`: each terminal is sent at most one packet. One comes at each tick of the conference: the mixer's time goes on by
-    /// at most 200 in a turn. False where 5000000 turns were made: then all is as before.
+    /// at most 200 in a turn. False where 5000000 turns were made: then none is.
     pub fn turn<T: Terminals>(&mut self, now: u64, terminals: &mut T) -> bool
         requires { now < 2 ^ 47 }
         ensures legs { legs_in self.new ≡ legs_in self.old }
         ensures made { result ≡ true → turns_in self.new ≡ turns_in self.old + 1 }
         ensures over { result ≡ false → MOST_TURNS ≤ turns_in self.old }
+        ensures same { result ≡ false → turns_in self.new ≡ turns_in self.old }
     {
         if self.mixer.turns() >= u64::from(MOST_TURNS) {
             return false;
