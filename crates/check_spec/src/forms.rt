@@ -45,6 +45,7 @@ pub enum LineWord {
     Operator,
     Record,
     Follow,
+    Counts,
     Lose,
     Delay,
     Twice,

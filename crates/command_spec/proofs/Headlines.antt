@@ -34,7 +34,7 @@ use Rattle.command_spec.proofs.PrintedNames.{names_print}
 use Rattle.command_spec.specs.Work.{Contents, Made}
 use Rattle.command_spec.specs.Outcomes.{Done, outcome, AllStored}
 use Rattle.view_spec.specs.Seen.{Text, fate_at, arrivals_at, counts_at, source_at}
-use Rattle.command_spec.specs.Mixing.{sent_to, out_of, came_to, reception_of, speaker_of, view_of, views, outs, input_at, mixing}
+use Rattle.command_spec.specs.Mixing.{counted, sent_to, out_of, came_to, reception_of, speaker_of, view_of, views, outs, input_at, mixing}
 use Rattle.command_spec.specs.Bridges.{Bridge, setup_of, IsFrom, inward, chunks_of, told_to, comes_to, onward_from_mixer, records_of, counts_behind, view_behind, IsHeard, IsHeardAsOne, IsMixedFrom, IsBridged}
 use Rattle.command_spec.specs.Cascaded.{IsSeen}
 use Rattle.command_spec.proofs.Ssrcs.{HasSsrcs, ssrcs_fit}
@@ -191,11 +191,11 @@ pub seen : (held after : Contents) (octets printed : List ℕ) (b : Bridge) → 
 seen held after octets printed b read over views_are stored =
     seen_of held after printed b (accepted_law Files octets b.conference read).0 (ssrcs_fit Files octets b.conference read) over views_are stored
 
-is_bridged : (held after : Contents) (file printed : List ℕ) (b : Bridge) → IsMixedFrom held file b → printed ≡ views b.conference b.table → AllStored (outs b.conference b.table) held after
+is_bridged : (held after : Contents) (file printed : List ℕ) (b : Bridge) → IsMixedFrom held file b → printed ≡ views b.conference b.table ++ counted b.conference b.inputs → AllStored (outs b.conference b.table) held after
     → IsBridged held after file printed
 is_bridged held after file printed b m views_are stored =
-    let s = seen held after m.read.0 printed b m.read.2 m.over views_are stored in
-    record { bridge = b; mixed = m; outs = s.outs; views = s.views; heard = s.heard; heard_as_one = s.heard_as_one }
+    let s = seen held after m.read.0 (views b.conference b.table) b m.read.2 m.over refl stored in
+    record { bridge = b; mixed = m; outs = s.outs; views = views_are ∙ ap (λ (v : List ℕ). v ++ counted b.conference b.inputs) s.views; heard = s.heard; heard_as_one = s.heard_as_one }
 
 pub bridged : (held after : Contents) (file printed : List ℕ) (files : List Made) → outcome held (mixing file) ≡ Done printed files → AllStored files held after → IsBridged held after file printed
 bridged held after file printed files e stored =

@@ -1,5 +1,5 @@
 -- Which outputs `mix` and `attend` have, also where nothing is known of what lies in its inputs.
-use Rattle.std.proofs.Common.{◌≡◌, ℕ, zero, suc, ◌+◌, ◌*◌, ◌≤◌, Bool, true, false, cond, Option, Some, None, Ok, List, [], ◌∷◌, length, refl, ap, subst, sym, ◌∙◌, arith}
+use Rattle.std.proofs.Common.{◌≡◌, ℕ, zero, suc, ◌+◌, ◌*◌, ◌≤◌, Bool, true, false, cond, Option, Some, None, Ok, List, [], ◌∷◌, ◌++◌, length, refl, ap, subst, sym, ◌∙◌, arith}
 use Rattle.std.specs.Prelude.{map, not, ◌&&◌, ◌||◌, ◌==◌, nat_lt, unwrap_or, IsSome, if◌then◌else◌}
 use Rattle.std.specs.List.{enumerate_from}
 use Rattle.wire_spec.specs.Packets.{Arrival}
@@ -20,12 +20,13 @@ use Rattle.stream_spec.specs.Still.{still}
 use Rattle.mixer_spec.specs.Bridged.{input_limit, leg_arrivals, leg_chunks}
 use Rattle.mixer_spec.proofs.Kept.{entered_same, stopped_same, gone_same}
 use Rattle.command_spec.specs.declared.faults.Refusal.TheVariants.{AtByte}
-use Rattle.command_spec.specs.Work.{Contents, Made, Steps, Reads, Refuses, Makes, Serves, IsOutput, IsNth}
+use Rattle.command_spec.specs.Work.{Contents, Made, Steps, Reads, Refuses, Makes, Serves, IsOutput, IsNth, and_prints}
 use Rattle.command_spec.specs.Attending.{attending, attends, attends_read, named, says_of}
 use Rattle.command_spec.specs.Inputs.{inputs_under, octets_under}
 use Rattle.command_spec.proofs.SameFiles.{HaveFilesOf, same_files, there}
 use Rattle.command_spec.proofs.Naming.{files_told}
-use Rattle.command_spec.specs.Mixing.{out_of, views, outs, makes, input_at, unless_one_broken, mixes, reads_inputs, mixes_read, mixing}
+use Rattle.command_spec.proofs.Reached.{counted_makes}
+use Rattle.command_spec.specs.Mixing.{out_of, views, outs, makes, input_at, unless_one_broken, counted, counts_lines, mixes, mixes_counted, reads_inputs, mixes_read, mixing}
 use Rattle.mixer_spec.specs.declared.limits.TheConstants.{MOST_INPUT_OF_MANY}
 
 -- ---- where no leg says anything, mixing is over at once
@@ -185,8 +186,21 @@ outs_unless c limit n (octets ∷ more) steps a = go (dump limit octets).fault (
     go None r = r
     go (Some fault) r = tt
 
-are_outs : (c : Conf) (inputs : List (List ℕ)) → AreOuts c (mixes c inputs)
-are_outs c inputs = outs_unless c (input_limit c) 1 inputs (makes c (plain (setup c) c.tick c.turns (leg_chunks c (input_at inputs)))) (outs_made c (plain (setup c) c.tick c.turns (leg_chunks c (input_at inputs))))
+outs_printed : (c : Conf) (more : List ℕ) (steps : Steps) → AreOuts c steps → AreOuts c (and_prints more steps)
+outs_printed c more (Makes printed files) a = a
+outs_printed c more (Refuses n refusal) a = tt
+outs_printed c more (Reads name next) a = absurd a
+outs_printed c more (Serves other) a = absurd a
+
+are_outs : (c : Conf) (inputs : List (List ℕ)) → AreOuts c (mixes_counted c inputs)
+are_outs c inputs = go c.service.counts
+  where
+    plainly : AreOuts c (mixes c inputs)
+    plainly = outs_unless c (input_limit c) 1 inputs (makes c (plain (setup c) c.tick c.turns (leg_chunks c (input_at inputs)))) (outs_made c (plain (setup c) c.tick c.turns (leg_chunks c (input_at inputs))))
+
+    go : (b : Bool) → AreOuts c (if b then and_prints (counts_lines c inputs) (mixes c inputs) else mixes c inputs)
+    go true = outs_printed c (counts_lines c inputs) (mixes c inputs) plainly
+    go false = plainly
 
 -- ---- along the inputs
 along : (Told : Type 0) (held : Contents) (f : LegLine → List ℕ) (legs : List LegLine) (next : List (List ℕ) → Steps) (n : ℕ) (file : List ℕ)
@@ -208,7 +222,7 @@ is_under (Some octets) e = refl
 
 -- the conference that the inputs decide is mixed over them
 abbrev pub mixes_as : (List (List ℕ) → Conf) → List (List ℕ) → Steps
-mixes_as becomes inputs = mixes (becomes inputs) inputs
+mixes_as becomes inputs = mixes_counted (becomes inputs) inputs
 
 -- Whatever the world tells, the output of each leg is one of what mixes over its inputs a conference of legs that have its files,
 -- which these inputs may decide.
@@ -217,7 +231,7 @@ pub mixed_output : (Told : Type 0) (held : Contents) (c : Conf) (becomes : List 
     → (Told → (printed : List ℕ) × (files : List Made) × (mixes (becomes (inputs_under held c.legs)) (inputs_under held c.legs) ≡ Makes printed files))
     → (n : ℕ) (leg : LegLine) → leg_at c.legs n ≡ Some leg → IsOutput Told held (reads_inputs c.legs (mixes_as becomes)) n leg.output
 mixed_output Told held c becomes same all makes_it n leg at =
-    go (mixes (becomes (inputs_under held c.legs)) (inputs_under held c.legs)) refl (are_outs (becomes (inputs_under held c.legs)) (inputs_under held c.legs))
+    go (mixes_counted (becomes (inputs_under held c.legs)) (inputs_under held c.legs)) refl (are_outs (becomes (inputs_under held c.legs)) (inputs_under held c.legs))
   where
     -- it is made of any inputs of which something is made
     made : (inputs : List (List ℕ)) (t : Table) → IsNth (outs (becomes inputs) t) n leg.output
@@ -232,8 +246,8 @@ mixed_output Told held c becomes same all makes_it n leg at =
     go (Refuses m refusal) e a =
         let inputs = each silent c.legs in
         let q = silence (becomes inputs) c.legs in
-        along Told held silent c.legs (mixes_as becomes) n leg.output (λ told k l q. let r = makes_it told in absurd (cc (sym e ∙ r.2)))
-        (is_made Told held (mixes_as becomes inputs) (views (becomes inputs) q.0) (outs (becomes inputs) q.0) n leg.output q.1 (made inputs q.0))
+        along Told held silent c.legs (mixes_as becomes) n leg.output (λ told k l q. let r = makes_it told in absurd (cc (sym e ∙ counted_makes (becomes (inputs_under held c.legs)) (inputs_under held c.legs) r.0 r.1 r.2)))
+        (is_made Told held (mixes_as becomes inputs) (views (becomes inputs) q.0 ++ counted (becomes inputs) inputs) (outs (becomes inputs) q.0) n leg.output (counted_makes (becomes inputs) inputs (views (becomes inputs) q.0) (outs (becomes inputs) q.0) q.1) (made inputs q.0))
     go (Reads name next) e a = absurd a
     go (Serves other) e a = absurd a
 
@@ -248,7 +262,7 @@ is_output Told held file octets c lies read all makes_it n leg at =
 -- The output of each leg is one of `attend`.
 pub attended_output : (Told : Type 0) (held : Contents) (file octets : List ℕ) (c : Conf) → (Told → held file ≡ Some octets) → conf Files octets ≡ Ok c
     → (Told → (k : ℕ) (leg : LegLine) → leg_at c.legs k ≡ Some leg → IsSome (held leg.input))
-    → (Told → (printed : List ℕ) × (files : List Made) × (attends c (inputs_under held c.legs) ≡ Makes printed files))
+    → (Told → (printed : List ℕ) × (files : List Made) × (mixes (named c (inputs_under held c.legs)) (inputs_under held c.legs) ≡ Makes printed files))
     → (n : ℕ) (leg : LegLine) → leg_at c.legs n ≡ Some leg → IsOutput Told held (attending file) n leg.output
 attended_output Told held file octets c lies read all makes_it n leg at = (
   octets,

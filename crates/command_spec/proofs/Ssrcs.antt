@@ -121,6 +121,7 @@ entry_fits form above n = record {
   each_turns = λ ws x e. tt;
   each_relabel = λ ws x e. tt;
   each_follow = λ q ws x e. tt;
+  each_counts = λ ws x e. tt;
   each_service = λ q word ws x e. tt;
 }
 

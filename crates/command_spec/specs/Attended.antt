@@ -1,5 +1,5 @@
 -- The headline of a conference that was mixed with the names and the leavings that its inputs tell (profile).
-use Rattle.std.specs.Prelude.{◌≡◌, ℕ, None, Some, Ok, List, All}
+use Rattle.std.specs.Prelude.{◌≡◌, ℕ, None, Some, Ok, List, ◌++◌, All}
 use Rattle.std.specs.List.{AllZip}
 use Rattle.wire_spec.specs.Dump.{dump}
 use Rattle.file_spec.specs.declared.conf_lines.Form.TheVariants.{Files}
@@ -8,9 +8,9 @@ use Rattle.file_spec.specs.Kept.{IsConference}
 use Rattle.mixer_spec.specs.Bridged.{IsConferenceMixed, input_limit}
 use Rattle.command_spec.specs.Work.{Contents}
 use Rattle.command_spec.specs.Outcomes.{HoldsOfMade}
-use Rattle.command_spec.specs.Mixing.{input_at}
+use Rattle.command_spec.specs.Mixing.{counted, input_at}
 use Rattle.command_spec.specs.Attending.{attending, named}
-use Rattle.command_spec.specs.Bridges.{Bridge}
+use Rattle.command_spec.specs.Bridges.{Bridge, views_behind}
 use Rattle.command_spec.specs.Cascaded.{IsSeen}
 
 -- This conference lies in this file, and recordings without a fault in its inputs. The bridge is that of the conference with what
@@ -35,8 +35,9 @@ pub record IsAttended (held after : Contents) (file printed : List ℕ) : Type 0
   pub conference : Conf
   pub bridge : Bridge
   pub attended : IsAttendedFrom held file conference bridge
-  -- The conference with its names and leavings is mixed as any is.
-  pub seen : IsSeen after printed bridge
+  -- The conference with its names and leavings is mixed as any is, and what is counted of its inputs stands behind the views.
+  pub seen : IsSeen after (views_behind bridge) bridge
+  pub views : printed ≡ views_behind bridge ++ counted bridge.conference bridge.inputs
 
 -- Whatever lies in the files, that is what `attend` makes of it.
 abbrev pub AttendedAreBridged : Type 0

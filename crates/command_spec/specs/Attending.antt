@@ -19,7 +19,7 @@ use Rattle.mixer_spec.specs.Setups.{leg_at, ssrc_of}
 use Rattle.mixer_spec.specs.Bridged.{input_limit}
 use Rattle.command_spec.specs.declared.faults.Refusal.TheVariants.{AtLine}
 use Rattle.command_spec.specs.Work.{Steps, Reads, Refuses}
-use Rattle.command_spec.specs.Mixing.{input_at, mixes, reads_inputs}
+use Rattle.command_spec.specs.Mixing.{input_at, mixes_counted, reads_inputs}
 
 -- ---- what the records of an input tell of its sender
 -- its first name, and the moment of its first leaving
@@ -115,7 +115,7 @@ named c inputs = named_by (says_of c inputs) c
 -- ---- the steps
 -- what is mixed is the conference that is named so
 abbrev pub attends : Conf → List (List ℕ) → Steps
-attends c inputs = mixes (named c inputs) inputs
+attends c inputs = mixes_counted (named c inputs) inputs
 
 abbrev pub attends_read : Result Conf lines.Refusal → Steps
 attends_read (Err refusal) = Refuses 0 (AtLine refusal.line refusal.kind)

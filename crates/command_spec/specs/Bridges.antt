@@ -1,6 +1,6 @@
 -- The headline of a conference that was mixed, from what lay in files to what lies there then and is printed (profile).
 -- The first hop is from a leg to the mixer, the second from the mixer to a terminal.
-use Rattle.std.specs.Prelude.{◌≡◌, ◌<◌, ◌≤◌, ℕ, false, List, [], length, map, flat_map, remove, None, Some, Ok, All, if◌then◌else◌}
+use Rattle.std.specs.Prelude.{◌≡◌, ◌<◌, ◌≤◌, ℕ, false, List, [], ◌++◌, length, map, flat_map, remove, None, Some, Ok, All, if◌then◌else◌}
 use Rattle.std.specs.List.{AllZip, concat, enumerate_from}
 use Rattle.wire_spec.specs.Packets.{Arrival}
 use Rattle.wire_spec.specs.Text.{text_of}
@@ -25,7 +25,7 @@ use Rattle.named_spec.specs.Heard.{HearsNamed}
 use Rattle.named_spec.specs.Seen.{ShowsNamed}
 use Rattle.command_spec.specs.Work.{Contents}
 use Rattle.command_spec.specs.Outcomes.{HoldsOfMade}
-use Rattle.command_spec.specs.Mixing.{mixing, sent_to, records_to, input_at}
+use Rattle.command_spec.specs.Mixing.{counted, mixing, sent_to, records_to, input_at}
 use Rattle.wire_spec.specs.declared.limits.TheConstants.{LAST_RECORD_MOMENT}
 
 -- A conference, the octets of its inputs in leg order, and the table when mixing them was over.
@@ -165,8 +165,8 @@ pub record IsBridged (held after : Contents) (file printed : List ℕ) : Type 0 
   -- In the output of each leg lies what was sent to it.
   pub outs : (j : ℕ) (leg : LegLine) → leg_at bridge.conference.legs j ≡ Some leg
       → (octets : List ℕ) × (after leg.output ≡ Some octets) × IsOut bridge j leg octets
-  -- What is printed is what is heard behind both hops, shown.
-  pub views : printed ≡ views_behind bridge
+  -- What is printed is what is heard behind both hops, shown, and what is counted of the inputs where the file asks for it.
+  pub views : printed ≡ views_behind bridge ++ counted bridge.conference bridge.inputs
   -- Of each other leg an aware terminal hears what the headline says.
   pub heard : (j i : ℕ) → IsPair (setup_of bridge) j i → IsHeard bridge j i
   pub heard_as_one : (j : ℕ) → j < length bridge.conference.legs → (setup_of bridge).aware j ≡ false

@@ -15,7 +15,9 @@ use Rattle.mixer_spec.specs.Plain.{plain}
 use Rattle.mixer_spec.specs.Arrives.{came}
 use Rattle.mixer_spec.specs.Bridged.{input_limit, leg_chunks}
 use Rattle.command_spec.specs.declared.faults.Refusal.TheVariants.{AtByte, AtLine, AfterTurns}
-use Rattle.command_spec.specs.Work.{Made, Steps, Reads, Refuses, Makes}
+use Rattle.command_spec.specs.Work.{Made, Steps, Reads, Refuses, Makes, and_prints}
+use Rattle.view_spec.specs.declared.tallies.Tally.{Tally}
+use Rattle.view_spec.specs.Tallies.{tally_at, tally_line}
 use Rattle.view_spec.specs.Seen.{Reception, Speaker, aware_seen, unaware_seen}
 
 -- ---- what is sent to a terminal
@@ -83,6 +85,28 @@ mixes c inputs =
     unless_one_broken (input_limit c) 1 inputs
     (makes c (plain (setup c) c.tick c.turns (leg_chunks c (input_at inputs))))
 
+-- ---- what is counted
+-- the input of a leg is heard for its sender; to count it no gap is waited for
+abbrev pub hears_of : LegLine → Reception
+hears_of leg = record { ssrc = leg.ssrc; pts = leg.pts; wait = 0 }
+
+-- what came of the leg i in its input
+abbrev pub leg_tally : Conf → List (List ℕ) → ℕ → LegLine → Tally
+leg_tally c inputs i leg = tally_at (hears_of leg) (dump (input_limit c) (input_at inputs i)).items
+
+-- one line for each leg, in leg order
+abbrev pub counts_lines : Conf → List (List ℕ) → List ℕ
+counts_lines c inputs = flat_map (λ x. tally_line x.1.name (leg_tally c inputs x.0 x.1)) (enumerate_from 0 c.legs)
+
+-- where the conference asks for it
+abbrev pub counted : Conf → List (List ℕ) → List ℕ
+counted c inputs = if c.service.counts then counts_lines c inputs else []
+
+-- they are mixed, and behind the views stands what is counted, where the conference asks for it
+abbrev pub mixes_counted : Conf → List (List ℕ) → Steps
+mixes_counted c inputs = if c.service.counts then and_prints (counts_lines c inputs) (mixes c inputs) else mixes c inputs
+
+-- ---- the whole
 -- the input of each of these legs is read
 abbrev pub reads_inputs : List LegLine → (List (List ℕ) → Steps) → Steps
 reads_inputs [] next = next []
@@ -91,7 +115,7 @@ reads_inputs (leg ∷ legs) next = Reads leg.input (λ octets. reads_inputs legs
 -- a conference is mixed, or its file refused
 abbrev pub mixes_read : Result Conf lines.Refusal → Steps
 mixes_read (Err refusal) = Refuses 0 (AtLine refusal.line refusal.kind)
-mixes_read (Ok c) = reads_inputs c.legs (mixes c)
+mixes_read (Ok c) = reads_inputs c.legs (mixes_counted c)
 
 -- the conference that this file describes is mixed
 abbrev pub mixing : List ℕ → Steps

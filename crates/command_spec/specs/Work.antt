@@ -1,5 +1,5 @@
 -- What a command is: it reads files, one after another, and comes to a refusal or to what it makes (profile).
-use Rattle.std.specs.Prelude.{◌≡◌, ℕ, zero, suc, Bool, Option, Some, List, [], ◌∷◌}
+use Rattle.std.specs.Prelude.{◌≡◌, ℕ, zero, suc, Bool, Option, Some, List, [], ◌∷◌, ◌++◌}
 use Rattle.file_spec.specs.Conf.{Conf}
 use Rattle.command_spec.specs.declared.faults.Refusal.{Refusal}
 
@@ -19,6 +19,13 @@ pub data Steps : Type 0 where
   Refuses : (input : ℕ) → (refusal : Refusal) → Steps
   Makes : (printed : List ℕ) → (files : List Made) → Steps
   Serves : (conference : Conf) → Steps
+
+-- the same, and behind what is printed stands this
+abbrev pub and_prints : List ℕ → Steps → Steps
+and_prints more (Reads name next) = Reads name (λ octets. and_prints more (next octets))
+and_prints more (Refuses input refusal) = Refuses input refusal
+and_prints more (Makes printed files) = Makes (printed ++ more) files
+and_prints more (Serves c) = Serves c
 
 -- the steps, and whether it prints
 pub record Work : Type 0 where

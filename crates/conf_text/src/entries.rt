@@ -1,6 +1,6 @@
 //! The lines of a conference.
 ghost use Rattle.std.specs.Prelude.{◌≡◌, ◌∷◌, IfOk};
-ghost use Rattle.file_spec.specs.Conf.{entry, mixer, mixer_of, follow_or_service, of_form, setting, stay_or_plan, time_or_other};
+ghost use Rattle.file_spec.specs.Conf.{entry, counts_or_other, mixer, mixer_of, follow_or_service, of_form, setting, stay_or_plan, time_or_other};
 ghost use Rattle.conf_text.specs.Lines.{above_of, meaning, seen, texts_of, MayFollow};
 
 use crate::ConfKind;
@@ -8,7 +8,7 @@ use crate::drafts::{Draft, Entry};
 use crate::follow_lines::read_follow;
 use crate::leg_lines::{has_ssrc, read_leg};
 use crate::plan_lines::read_plan;
-use crate::service_lines::read_service;
+use crate::service_lines::{read_counts, read_service};
 use crate::stay_lines::{read_gens, read_stay};
 use file_lines::{number_from, number_of};
 use file_spec::limits::{
@@ -100,6 +100,16 @@ fn read_of_form<'a>(form: Form, above: &Draft, word: &str, words: &[&str]) -> Sa
     }
 }
 
+fn read_counts_or_other<'a>(form: Form, above: &Draft, word: &str, words: &[&str]) -> Said<'a>
+    ensures exact { seen meaning result ≡ counts_or_other form (above_of above.now) word.now (texts_of words.now) }
+    ensures follows { IfOk result (λ said. MayFollow (above_of above.now) (meaning said)) }
+{
+    match word {
+        "counts" => Ok(Entry::Serves(read_counts(above, words)?)),
+        other => read_of_form(form, above, other, words),
+    }
+}
+
 #[tactic(auto, unfolding(file_spec::specs::Conf::time_or_other))]
 fn read_time_or_other<'a>(form: Form, above: &Draft, word: &str, words: &[&str]) -> Said<'a>
     ensures exact { seen meaning result ≡ time_or_other form (above_of above.now) word.now (texts_of words.now) }
@@ -121,7 +131,7 @@ fn read_time_or_other<'a>(form: Form, above: &Draft, word: &str, words: &[&str])
             above.relabel,
             words,
         )?)),
-        other => read_of_form(form, above, other, words),
+        other => read_counts_or_other(form, above, other, words),
     }
 }
 

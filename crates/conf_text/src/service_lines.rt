@@ -1,6 +1,6 @@
-//! The lines of what is asked of a call over links beside the mixing.
+//! The lines of what is asked beside the mixing.
 ghost use Rattle.std.specs.Prelude.{◌≡◌};
-ghost use Rattle.file_spec.specs.Conf.{operator, operator_of, prefix, service_word};
+ghost use Rattle.file_spec.specs.Conf.{counts, operator, operator_of, prefix, service_word};
 ghost use Rattle.conf_text.specs.Lines.{above_of, texts_of};
 
 use crate::ConfKind;
@@ -51,7 +51,18 @@ fn read_prefix(above: &Draft, words: &[&str]) -> Result<RecordPrefix, ConfKind>
     }
 }
 
-/// What is asked on a line, from its first word and those after it.
+/// The counts of each leg are asked for; behind the word of the line stands nothing.
+pub(crate) fn read_counts(above: &Draft, words: &[&str]) -> Result<ServiceLine, ConfKind>
+    ensures { result ≡ counts (above_of above.now) (texts_of words.now) }
+{
+    match words {
+        [] if above.service.counts => Err(ConfKind::Twice),
+        [] => Ok(ServiceLine::Counts),
+        _ => Err(ConfKind::Count),
+    }
+}
+
+/// What is asked on a line of a call over links, from its first word and those after it.
 pub(crate) fn read_service(
     above: &Draft,
     word: &str,

@@ -39,13 +39,13 @@ labelled_again : conf Links (codes "leg A aware 1 5004 h:1\nleg B unaware 2 5006
 unfolding entry gens_of leg_of mixer_of plan_of stay_of stay_or_plan follow_or_service time_or_other is_utf8 chars encode_utf8
 labelled_again = refl
 
-asked_of_links : conf Links (codes "gone 60000\nleg A aware 1 5004 h:1\noperator 06100 Word4Watch\nleg B unaware 2 5006 h:2\nmixer 3 0 0\nrecord calls/main")
+asked_of_links : conf Links (codes "gone 60000\nleg A aware 1 5004 h:1\noperator 06100 Word4Watch\nleg B unaware 2 5006 h:2\nmixer 3 0 0\nrecord calls/main\ncounts")
     ≡ Ok (record (
     usual
     (record { line = 2; name = codes "A"; aware = true; ssrc = 1; input = codes "5004"; output = codes "h:1"; pts = record { t140 = 98; red = 100 }; gens = 2; stay = record { from = 0; until = None }; follow = false }
     ∷ record { line = 4; name = codes "B"; aware = false; ssrc = 2; input = codes "5006"; output = codes "h:2"; pts = record { t140 = 98; red = 100 }; gens = 2; stay = record { from = 0; until = None }; follow = false } ∷ [])
     (record { ssrc = 3; seq = 0; stamp = 0 })
-    ) { service = record { gone = Some 60000; operator = Some (record { port = 6100; word = codes "Word4Watch" }); recorded = Some (codes "calls/main") } })
+    ) { service = record { gone = Some 60000; operator = Some (record { port = 6100; word = codes "Word4Watch" }); recorded = Some (codes "calls/main"); counts = true } })
 unfolding entry gens_of leg_of mixer_of operator_of plan_of stay_of stay_or_plan follow_or_service time_or_other is_utf8 chars encode_utf8
 asked_of_links = refl
 
@@ -121,6 +121,9 @@ faulty =
     ∷ (Files, codes "gone 60000", record { line = 1; kind = Word })
     ∷ (Files, codes "operator 6100 Word4Watch", record { line = 1; kind = Word })
     ∷ (Files, codes "record calls/main", record { line = 1; kind = Word })
+    -- counts: with a number, and twice
+    ∷ (Files, codes "counts 1", record { line = 1; kind = Count })
+    ∷ (Links, codes "counts\ncounts", record { line = 2; kind = Twice })
     -- followed: nobody, one who is not there, twice, and among files
     ∷ (Links, codes "follow", record { line = 1; kind = Count })
     ∷ (Links, codes "follow A", record { line = 1; kind = Name })

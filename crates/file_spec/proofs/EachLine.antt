@@ -21,7 +21,7 @@ use Rattle.file_spec.specs.Steps.{unless}
 use Rattle.file_spec.specs.Lines.{Line, words, told, at_line, read_lines}
 use Rattle.file_spec.specs.Stays.{is_crowd}
 use Rattle.file_spec.specs.Services.{is_operator_word}
-use Rattle.file_spec.specs.Conf.{Above, Conf, Entry, Leg, Gens, Stays, Tick, Spacing, Wait, Turns, Relabel, Mixer, Plan, Follows, Serves, says, time_or_other, stay_or_plan, follow_or_service, follow, of_form, service_word, operator, operator_of, prefix, port, is_same_port, nothing, with_entry, setting, mixer, leg, gens, stay, plan_word, entry, is_blank, and_line, whole, complete, conf, mixer_of, leg_of, new_leg, has_names, has_port, aware_of, whole_stay}
+use Rattle.file_spec.specs.Conf.{Above, Conf, Entry, Leg, Gens, Stays, Tick, Spacing, Wait, Turns, Relabel, Mixer, Plan, Follows, Serves, says, time_or_other, stay_or_plan, follow_or_service, follow, counts, counts_or_other, of_form, service_word, operator, operator_of, prefix, port, is_same_port, nothing, with_entry, setting, mixer, leg, gens, stay, plan_word, entry, is_blank, and_line, whole, complete, conf, mixer_of, leg_of, new_leg, has_names, has_port, aware_of, whole_stay}
 use Rattle.rtt_base.proofs.Steps.{bind_ok}
 use Rattle.file_spec.proofs.Passed.{unless_ok, ok_or_ok}
 use Rattle.rtt_base.specs.declared.limits.TheConstants.{LONGEST_WAIT}
@@ -142,6 +142,7 @@ pub record HoldsOf (P : Entry → Type 0) (form : Form) (above : Above) (n : ℕ
   pub each_turns : (ws : List (List ℕ)) (x : ℕ) → setting 1 MOST_TURNS above.turns ws ≡ Ok x → P (Turns x)
   pub each_follow : form ≡ Links → (ws : List (List ℕ)) (x : ℕ) → follow above ws ≡ Ok x → P (Follows x)
   pub each_service : form ≡ Links → (word : List ℕ) (ws : List (List ℕ)) (x : ServiceLine) → service_word above word ws ≡ Ok x → P (Serves x)
+  pub each_counts : (ws : List (List ℕ)) (x : ServiceLine) → counts above ws ≡ Ok x → P (Serves x)
   pub each_relabel : (ws : List (List ℕ)) (x : ℕ) → setting LEAST_RELABEL MOST_RELABEL above.relabel ws ≡ Ok x → P (Relabel x)
 
 module _ (P : Entry → Type 0) (form : Form) (above : Above) (n : ℕ) (h : HoldsOf P form above n) where
@@ -165,19 +166,26 @@ module _ (P : Entry → Type 0) (form : Form) (above : Above) (n : ℕ) (h : Hol
   form_holds Files is word more e q = stay_or_plan_holds is word more e q
   form_holds Links is word more e q = follow_or_service_holds is word more e q
 
+  counts_holds : (word : List ℕ) (more : List (List ℕ)) (e : Entry) → counts_or_other form above word more ≡ Ok e → P e
+  counts_holds word more e q = go (bytes_eq word (codes "counts")) q
+    where
+      go : (a : Bool) → (if a then says Serves (counts above more) else of_form form above word more) ≡ Ok e → P e
+      go true q = says_holds P Serves (counts above more) e (h.each_counts more) q
+      go false q = form_holds form refl word more e q
+
   time_holds : (word : List ℕ) (more : List (List ℕ)) (e : Entry) → time_or_other form above word more ≡ Ok e → P e
   unfolding time_or_other
   time_holds word more e q = go (bytes_eq word (codes "tick")) (bytes_eq word (codes "spacing")) (bytes_eq word (codes "wait")) (bytes_eq word (codes "turns")) (bytes_eq word (codes "relabel")) q
     where
       go : (a b c d r : Bool)
-          → (if a then says Tick (setting LEAST_TICK MOST_TICK above.tick more) else (if b then says Spacing (setting LEAST_SPACING MOST_SPACING above.spacing more) else (if c then says Wait (setting 0 LONGEST_WAIT above.wait more) else (if d then says Turns (setting 1 MOST_TURNS above.turns more) else (if r then says Relabel (setting LEAST_RELABEL MOST_RELABEL above.relabel more) else of_form form above word more))))) ≡ Ok e
+          → (if a then says Tick (setting LEAST_TICK MOST_TICK above.tick more) else (if b then says Spacing (setting LEAST_SPACING MOST_SPACING above.spacing more) else (if c then says Wait (setting 0 LONGEST_WAIT above.wait more) else (if d then says Turns (setting 1 MOST_TURNS above.turns more) else (if r then says Relabel (setting LEAST_RELABEL MOST_RELABEL above.relabel more) else counts_or_other form above word more))))) ≡ Ok e
           → P e
       go true b c d r q = says_holds P Tick (setting LEAST_TICK MOST_TICK above.tick more) e (h.each_tick more) q
       go false true c d r q = says_holds P Spacing (setting LEAST_SPACING MOST_SPACING above.spacing more) e (h.each_spacing more) q
       go false false true d r q = says_holds P Wait (setting 0 LONGEST_WAIT above.wait more) e (h.each_wait more) q
       go false false false true r q = says_holds P Turns (setting 1 MOST_TURNS above.turns more) e (h.each_turns more) q
       go false false false false true q = says_holds P Relabel (setting LEAST_RELABEL MOST_RELABEL above.relabel more) e (h.each_relabel more) q
-      go false false false false false q = form_holds form refl word more e q
+      go false false false false false q = counts_holds word more e q
 
   pub entry_holds : (ws : List (List ℕ)) (e : Entry) → entry form above n ws ≡ Ok e → P e
   unfolding entry

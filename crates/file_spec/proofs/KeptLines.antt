@@ -31,7 +31,7 @@ use Rattle.file_spec.specs.Steps.{unless}
 use Rattle.file_spec.specs.Lines.{Line}
 use Rattle.file_spec.specs.Numbers.{number, most_ssrc, number_between, payload_type, pts}
 use Rattle.file_spec.specs.Stays.{IsStay, is_crowd}
-use Rattle.file_spec.specs.Conf.{Above, Conf, Entry, Leg, Gens, Stays, Tick, Spacing, Wait, Turns, Relabel, Mixer, Plan, Follows, Serves, nothing, with_entry, change_leg, with_gens, with_stay, with_follow, setting, mixer, mixer_of, is_mixers, is_name, has_names, has_port, shares_own, shares_path, clashes, most_legs, new_leg, aware_of, whole_stay, usual_types, leg_of, leg, place_of, gens_of, gens, stay_of, stay, is_same_packet, plan_of, plan, delay_of, delay, plan_word, service_word, operator, port, is_same_port, is_operators, and_line, whole, conf, prefix, is_path}
+use Rattle.file_spec.specs.Conf.{Above, Conf, Entry, Leg, Gens, Stays, Tick, Spacing, Wait, Turns, Relabel, Mixer, Plan, Follows, Serves, nothing, with_entry, change_leg, with_gens, with_stay, with_follow, setting, mixer, mixer_of, is_mixers, is_name, has_names, has_port, shares_own, shares_path, clashes, most_legs, new_leg, aware_of, whole_stay, usual_types, leg_of, leg, place_of, gens_of, gens, stay_of, stay, is_same_packet, plan_of, plan, delay_of, delay, plan_word, counts, service_word, operator, port, is_same_port, is_operators, and_line, whole, conf, prefix, is_path}
 use Rattle.file_spec.specs.Sound.{IsBetween}
 use Rattle.file_spec.specs.Services.{with_service}
 use Rattle.file_spec.specs.Kept.{IsLeg, Differ, AreLegs, IsMixerFor, IsShort, IsTick, IsSpacing, IsWait, AreTurns, IsRelabel, IsGone, IsOperatorFor, IsServiceFor, Keeps, IsConference}
@@ -62,6 +62,7 @@ abbrev IsNewService : Above → ServiceLine → Type 0
 IsNewService above (service.Gone n) = IsGone n
 IsNewService above (service.Operator o) = IsOperatorFor above.legs o
 IsNewService above (service.Record p) = IsTrue (is_path p)
+IsNewService above service.Counts = Unit {0}
 
 abbrev IsNew : Above → Entry → Type 0
 IsNew above (Leg l) = IsNewLeg above l
@@ -125,6 +126,7 @@ service_more : (above : Above) (s : ServiceLine) → Keeps above → IsNewServic
 service_more above (service.Gone n) k new = record { gone = λ m e. subst IsGone (some_same n m e) new; operator = k.service.operator; recorded = k.service.recorded }
 service_more above (service.Operator x) k new = record { gone = k.service.gone; operator = λ o e. subst (IsOperatorFor above.legs) (some_same x o e) new; recorded = k.service.recorded }
 service_more above (service.Record x) k new = record { gone = k.service.gone; operator = k.service.operator; recorded = λ p e. subst (λ (text : List ℕ). IsTrue (is_path text)) (some_same x p e) new }
+service_more above service.Counts k new = record { gone = k.service.gone; operator = k.service.operator; recorded = k.service.recorded }
 
 -- ---- a leg that is changed
 -- what is said of a leg leaves what it is known by
@@ -484,6 +486,11 @@ prefix_ok above (a ∷ b ∷ more) x e = absurd (cc e)
 service_ok : (above : Above) (word : List ℕ) (ws : List (List ℕ)) (x : ServiceLine) → service_word above word ws ≡ Ok x → IsNewService above x
 service_ok above = service_holds (IsNewService above) above (record { each_gone = setting_ok LEAST_GONE MOST_GONE above.service.gone; each_operator = operator_ok above; each_record = prefix_ok above })
 
+-- of what the line of counts keeps there is nothing
+counts_ok : (above : Above) (ws : List (List ℕ)) (x : ServiceLine) → counts above ws ≡ Ok x → IsNewService above x
+counts_ok above [] x e = subst (IsNewService above) (unless_ok above.service.counts Twice service.Counts x e).1 tt
+counts_ok above (a ∷ more) x e = absurd (cc e)
+
 -- ---- lines
 entry_ok : (form : Form) (above : Above) (n : ℕ) → HoldsOf (IsNew above) form above n
 entry_ok form above n = record {
@@ -498,6 +505,7 @@ entry_ok form above n = record {
   each_turns = setting_ok 1 MOST_TURNS above.turns;
   each_relabel = setting_ok LEAST_RELABEL MOST_RELABEL above.relabel;
   each_follow = λ q ws x e. tt;
+  each_counts = counts_ok above;
   each_service = λ q. service_ok above;
 }
 

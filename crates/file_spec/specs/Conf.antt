@@ -315,6 +315,11 @@ service_word above word more =
     else (if bytes_eq word (codes "operator") then says service.Operator (operator above more)
     else (if bytes_eq word (codes "record") then says service.Record (prefix above more) else Err Word))
 
+-- the counts of each leg, asked for once
+abbrev pub counts : Above → List (List ℕ) → Result ServiceLine ConfKind
+counts above [] = unless above.service.counts Twice service.Counts
+counts above _ = Err Count
+
 -- ---- lines
 
 unfoldable pub stay_or_plan : Above → List ℕ → List (List ℕ) → Result Entry ConfKind
@@ -332,6 +337,12 @@ abbrev pub of_form : Form → Above → List ℕ → List (List ℕ) → Result 
 of_form Files above word more = stay_or_plan above word more
 of_form Links above word more = follow_or_service above word more
 
+-- the counts, which both forms have, or what one form alone has words for
+abbrev pub counts_or_other : Form → Above → List ℕ → List (List ℕ) → Result Entry ConfKind
+counts_or_other form above word more =
+    if bytes_eq word (codes "counts") then says Serves (counts above more)
+    else of_form form above word more
+
 -- the times, one number each
 unfoldable pub time_or_other : Form → Above → List ℕ → List (List ℕ) → Result Entry ConfKind
 time_or_other form above word more =
@@ -340,7 +351,7 @@ time_or_other form above word more =
     else (if bytes_eq word (codes "wait") then says Wait (setting 0 LONGEST_WAIT above.wait more)
     else (if bytes_eq word (codes "turns") then says Turns (setting 1 MOST_TURNS above.turns more)
     else (if bytes_eq word (codes "relabel") then says Relabel (setting LEAST_RELABEL MOST_RELABEL above.relabel more)
-    else of_form form above word more))))
+    else counts_or_other form above word more))))
 
 -- what the words of a line say: the first one decides how many there are
 unfoldable pub entry : Form → Above → ℕ → List (List ℕ) → Result Entry ConfKind

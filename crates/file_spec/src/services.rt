@@ -1,4 +1,4 @@
-//! What is asked of a call over links beside the mixing.
+//! What is asked beside the mixing.
 ghost use Rattle.std.specs.Prelude.{◌≡◌, ◌≤◌, length};
 
 use arrayvec::ArrayString;
@@ -85,9 +85,11 @@ pub enum ServiceLine {
     Operator(OperatorLine),
     /// What comes and what is sent is recorded, in files whose names begin so.
     Record(RecordPrefix),
+    /// Behind the views it is told how much came from each leg.
+    Counts,
 }
 
-/// What is asked of a call over links beside the mixing.
+/// What is asked beside the mixing: `counts` of any conference, the rest of a call over links.
 #[derive(Debug, Drop)]
 pub struct Service {
     /// After how many milliseconds in which nothing comes a link is closed, if it is.
@@ -95,6 +97,8 @@ pub struct Service {
     pub operator: Option<OperatorLine>,
     /// What the names of its recordings begin with, if it is recorded.
     pub recorded: Option<RecordPrefix>,
+    /// Whether it is told behind the views how much came from each leg.
+    pub counts: bool,
 }
 
 impl Service {
@@ -109,6 +113,7 @@ impl Service {
             gone: None,
             operator: None,
             recorded: None,
+            counts: false,
         }
     }
 
@@ -120,6 +125,7 @@ impl Service {
             ServiceLine::Gone(silence) => self.gone = Some(silence),
             ServiceLine::Operator(operator) => self.operator = Some(operator),
             ServiceLine::Record(prefix) => self.recorded = Some(prefix),
+            ServiceLine::Counts => self.counts = true,
         }
     }
 }

@@ -9,6 +9,8 @@ use Rattle.stream_spec.specs.Ready.{Chunk, chunk}
 use Rattle.stream_spec.specs.Still.{still}
 use Rattle.link_spec.specs.Links.{Came, Datagram, Large, Quiet, Closed, Takes}
 use Rattle.live_spec.specs.Told.{Former, Hearing, Told, all_by, all_former, all_told, former_chunks, last_chunks, ready_by, ready_told, ready_until, sender_chunks, told_by, told_came}
+use Rattle.view_spec.specs.declared.tallies.Tally.{Tally}
+use Rattle.live_spec.specs.Tally.{tally_by, tally_came}
 use Rattle.mix_loop.specs.Ports.{of_leg}
 use Rattle.mix_loop.proofs.OfLeg.{chunks_of_leg, filter_of_leg}
 use Rattle.live_leg.specs.Items.{AreItems, Item, text_in, texts_in}
@@ -44,6 +46,19 @@ module _ (leg : ℕ) (h : Hearing) where
   told_as : (takes : Takes) → told_by (as_leg leg h) takes ≡ told_by h takes
   told_as [] = refl
   told_as (a ∷ past) = came_as (told_by (as_leg leg h) past) a.at a.came ∙ ap (λ (d : Told). told_came h d a.at a.came) (told_as past)
+
+  came_tally : (d : Told) (t : ℕ) (c : Came) (y : Tally) → tally_came (as_leg leg h) d t c y ≡ tally_came h d t c y
+  came_tally d t (Datagram octets) y = refl
+  came_tally d t Large y = refl
+  came_tally d t Quiet y = refl
+  came_tally d t Closed y = refl
+
+  pub tally_as : (takes : Takes) → tally_by (as_leg leg h) takes ≡ tally_by h takes
+  tally_as [] = refl
+  tally_as (a ∷ past) =
+      let told = told_as past in
+      let same = tally_as past in
+      came_tally (told_by (as_leg leg h) past) a.at a.came (tally_by (as_leg leg h) past) ∙ (λ ι. tally_came h (told ι) a.at a.came (same ι))
 
   last_as : (sender : Option ℕ) (past : List Arrival) → map (of_leg leg) (last_chunks h sender past) ≡ last_chunks (as_leg leg h) sender past
   last_as None past = refl

@@ -26,7 +26,7 @@ DoneIsServed {I} {M} popped stands =
     (c : Conf) (pts : ℕ → Pts) (ps : List (LivePort I)) (m : M) (takes : ℕ → Takes) (given : ℕ → List (List ℕ))
     → (v : DoneTo popped stands (setup c) pts c.turns ps m)
     → IsOfConf popped c v.serving.calls ps takes given
-    → IsServed c takes given Done (live_printed c given Done)
+    → IsServed c takes given Done (live_printed c takes given Done)
 
 -- So it is where all links are closed and nothing is left.
 abbrev pub ClosedIsServed : {I M : Type 0} → (I → List Item) → (M → Setup → (ℕ → Pts) → List Call → Type 0) → Type 0
@@ -34,7 +34,7 @@ ClosedIsServed {I} {M} popped stands =
     (c : Conf) (pts : ℕ → Pts) (ps : List (LivePort I)) (m : M) (takes : ℕ → Takes) (given : ℕ → List (List ℕ))
     → (w : ClosedTo popped stands (setup c) pts c.turns ps m)
     → IsOfConf popped c w.serving.calls ps takes given
-    → IsServed c takes given Closed (live_printed c given Closed)
+    → IsServed c takes given Closed (live_printed c takes given Closed)
 
 -- So it is where it broke off before.
 abbrev pub BrokenIsServed : {I M : Type 0} → (I → List Item) → (M → Setup → (ℕ → Pts) → List Call → Type 0) → Type 0
@@ -42,4 +42,4 @@ BrokenIsServed {I} {M} popped stands =
     (c : Conf) (pts : ℕ → Pts) (ps : List (LivePort I)) (m : M) (takes : ℕ → Takes) (given : ℕ → List (List ℕ))
     → (w : BrokenTo popped stands (setup c) pts c.turns ps m)
     → IsOfConf popped c w.serving.calls ps takes given
-    → IsServed c takes given Broken (live_printed c given Broken)
+    → IsServed c takes given Broken (live_printed c takes given Broken)

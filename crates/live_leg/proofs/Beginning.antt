@@ -1,5 +1,5 @@
 -- A leg of whose link nothing was asked.
-use Rattle.std.proofs.Common.{◌≡◌, ℕ, true≢false, None, Some, [], refl, sym, ◌∙◌, ap, subst, arith}
+use Rattle.std.proofs.Common.{◌≡◌, ℕ, true≢false, None, Some, [], refl, sym, ap, subst, arith}
 use Rattle.std.specs.Prelude.{Bool, true, false, if◌then◌else◌}
 use Rattle.gap_tracker.specs.Stories.{begun as begun_story}
 use Rattle.ear.specs.declared.confs.EarConf.{EarConf}
@@ -7,10 +7,12 @@ use Rattle.ear.specs.Hears.{Gave, conf_of}
 use Rattle.rtt_io.specs.Counts.{Rose}
 use Rattle.link_io.specs.declared.ends.LinkIn as links
 use Rattle.live_spec.specs.Told.{all_by, untold}
+use Rattle.live_spec.specs.Tally.{untallied}
 use Rattle.live_leg.specs.declared.states.State.{State}
 use Rattle.live_leg.specs.declared.states.State.TheVariants.{Idle}
 use Rattle.live_leg.specs.declared.legs.LinkLeg.{LinkLeg}
 use Rattle.live_leg.specs.Senders.{KnowsFirst}
+use Rattle.live_leg.specs.Tallies.{IsTally}
 use Rattle.live_leg.specs.Stories.{IsOf, hearing_of}
 use Rattle.live_leg.specs.Stands.{EarStands, LegStands, PhaseAt}
 
@@ -19,9 +21,9 @@ first_is : (b : Bool) (ssrc : ℕ) → IsOf (if b then None else Some ssrc) ssrc
 first_is true ssrc = refl
 first_is false ssrc = refl
 
-pub begun : {L : Type 0} (g : links.Ghosts L) (leg : LinkLeg L) → Gave leg.ear leg.conf.ear leg.conf.ear.ssrc (begun_story leg.conf.ear.wait) [] → KnowsFirst (hearing_of leg.conf) leg.senders
+pub begun : {L : Type 0} (g : links.Ghosts L) (leg : LinkLeg L) → Gave leg.ear leg.conf.ear leg.conf.ear.ssrc (begun_story leg.conf.ear.wait) [] → KnowsFirst (hearing_of leg.conf) leg.senders → IsTally leg.tally untallied
     → leg.state ≡ Idle → LegStands g leg leg []
-begun {L} g leg gave knows idle =
+begun {L} g leg gave knows tally idle =
     let h = hearing_of leg.conf in
     let own : conf_of leg.ear ≡ leg.conf.ear = gave.hears.asked in
     record {
@@ -45,6 +47,7 @@ begun {L} g leg gave knows idle =
           texts = refl;
         });
         knows = knows;
+        tally = tally;
         taken = λ t. refl;
         closed = λ e. absurd (true≢false (sym e));
         never_falls = omega arith;

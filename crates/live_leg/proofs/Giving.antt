@@ -1,15 +1,13 @@
 -- A leg gives what is ready by its link's takes.
 use Rattle.std.proofs.Common.{◌≡◌, ◌≤◌, ℕ, Bool, true, false, true≢false, cond, inl, Option, None, Some, List, [], ◌∷◌, ◌++◌, refl, ap, sym, ◌∙◌, subst, append_assoc, ◌||◌}
-use Rattle.std.specs.Prelude.{filter, map, max, min, if◌then◌else◌, is_some, unwrap_or, Ok}
+use Rattle.std.specs.Prelude.{filter, map, max, if◌then◌else◌, is_some, unwrap_or}
 use Rattle.std.proofs.lemmas.List.{append-nil, map-append}
 use Rattle.std.proofs.lemmas.List.Elements.{filter-append}
-use Rattle.wire_spec.specs.Packets.{Packet}
-use Rattle.wire_spec.specs.Text.{text_of}
 use Rattle.stream_spec.specs.Fronts.{IsFront, is_ready_by}
 use Rattle.stream_spec.specs.Hearing.{marker}
 use Rattle.stream_spec.specs.Ready.{Chunk, chunk, chunk_of}
 use Rattle.stream_spec.specs.Still.{is_lively_chunk}
-use Rattle.gap_tracker.specs.Stories.{Story, Given}
+use Rattle.gap_tracker.specs.Stories.{Story}
 use Rattle.ear.specs.declared.confs.EarConf.{EarConf}
 use Rattle.ear.specs.declared.ears.Ear.{Ear}
 use Rattle.ear.specs.Hears.{Gave, GaveFront, GaveReady, GaveSome, GivesChunk, GivesNone, conf_of, ready_chunks, story_chunks}
@@ -17,8 +15,9 @@ use Rattle.rtt_io.specs.Counts.{Rose}
 use Rattle.item_queue.specs.Giving.{GivesMore, items_by}
 use Rattle.link_io.specs.declared.ends.LinkIn as links
 use Rattle.link_spec.specs.Links.{Takes, is_closed}
-use Rattle.live_spec.specs.Told.{Hearing, Told, all_by, all_former, all_told, former_after, last_chunks, ready_by, ready_until, taken_over, told_by}
-use Rattle.live_spec.proofs.Fronts.{all_good, behind, ready_is}
+use Rattle.live_spec.specs.Told.{Hearing, Told, all_by, all_former, all_told, last_chunks, ready_by, ready_until, taken_over, told_by}
+use Rattle.live_spec.specs.Tally.{tally_by}
+use Rattle.live_spec.proofs.Fronts.{all_good, ready_is}
 use Rattle.live_leg.specs.declared.confs.LegConf.{LegConf}
 use Rattle.live_leg.specs.declared.senders.Senders.{Senders}
 use Rattle.live_leg.specs.declared.items.LegItem.{LegItem}
@@ -27,13 +26,14 @@ use Rattle.live_leg.specs.declared.kinds.ItemKind.TheVariants as kind
 use Rattle.live_leg.specs.declared.states.State.{State}
 use Rattle.live_leg.specs.declared.states.State.TheVariants.{Idle, Giving, Blank, Parting, Ending, Over}
 use Rattle.live_leg.specs.declared.legs.LinkLeg.{LinkLeg}
+use Rattle.live_leg.specs.declared.tallies.LegTally.{LegTally}
 use Rattle.live_leg.specs.Senders.{Knows}
+use Rattle.live_leg.specs.Tallies.{IsTally}
 use Rattle.live_leg.specs.Stories.{BeginsWith, IsEarOf, hearing_of}
 use Rattle.live_leg.specs.Items.{AreItems, Item, Text, Seen, Silent, End, has_fault, is_text, item_with, items_of, items_with, text_in, texts_in}
 use Rattle.live_leg.specs.States.{is_ending, is_giving, is_going, is_heard}
 use Rattle.live_leg.specs.Stands.{Counts, EarStands, GivesOf, GivesThen, IsGivingSome, IsPart, LegGave, LegStands, Nearly, PhaseAt, given_as, is_last}
 use Rattle.live_leg.specs.Stepping.{seen_as, unless_blank}
-use Rattle.live_leg.proofs.HowFar.{heard_giving}
 use Rattle.live_leg.proofs.Parting.{front_at, over_former, part_chunks, part_front}
 use Rattle.live_leg.proofs.Telling.{first_heard}
 use Rattle.live_leg.proofs.Texts.{all_texts, counts_same, fault_append, items_append, texts_append, texts_same}
@@ -325,7 +325,7 @@ given_parting st m t c x p e is = is ∙ (ap (λ (n : ℕ). ready_until n c) e �
 module _ {L : Type 0} (g : links.Ghosts L) where
   -- what a leg did that gives: all but its ear and how far it is stays
   abbrev Same : LinkLeg L → LinkLeg L → Type 0
-  Same l m = (m.link ≡ l.link) × (m.conf ≡ l.conf) × (m.senders ≡ l.senders) × (m.packet.value ≡ l.packet.value)
+  Same l m = (m.link ≡ l.link) × (m.conf ≡ l.conf) × (m.senders ≡ l.senders) × (m.packet.value ≡ l.packet.value) × (m.tally ≡ l.tally)
 
   moment_is : (l : LinkLeg L) (h : Hearing) (takes : Takes) → Knows l.senders h (told_by h takes) → l.senders.moment ≡ (told_by h takes).moment
   moment_is l h takes k = k.moment
@@ -346,6 +346,7 @@ module _ {L : Type 0} (g : links.Ghosts L) where
           ear = subst (λ (k : Senders). EarStands m.ear m.state k.moment m.packet.value h n.takes (items ++ xs)) (sym same.2)
               (subst (λ (os : List ℕ). EarStands m.ear m.state l.senders.moment os h n.takes (items ++ xs)) (sym same.3) ear);
           knows = subst (λ (k : Senders). Knows k h (told_by h n.takes)) (sym same.2) n.knows;
+          tally = subst (λ (k : LegTally). IsTally k (tally_by h n.takes)) (sym same.4) n.tally;
           taken = λ t. ap g.taken link ∙ n.taken t;
           closed = λ e. ap g.closed link ∙ n.closed e;
           never_falls = subst (λ (k : L). g.faults first.link ≤ g.faults k) (sym link) n.never_falls;

@@ -1,5 +1,5 @@
 -- What is known of senders, step by step.
-use Rattle.std.proofs.Common.{◌≡◌, ℕ, Bool, true, false, Option, Some, None, List, [], ◌∷◌, Result, Ok, Err, refl, ap, sym, ◌∙◌, subst, arith}
+use Rattle.std.proofs.Common.{◌≡◌, ℕ, Bool, true, false, Option, Some, None, List, [], ◌∷◌, Result, Ok, Err, refl, ap, sym, ◌∙◌, subst}
 use Rattle.std.specs.Prelude.{◌+◌, ◌==◌, ◌&&◌, ◌||◌, map, max, nat_le, not, take, zero, suc, if◌then◌else◌}
 use Rattle.std.specs.List.{list_any}
 use Rattle.rtt_base.specs.declared.text_packets.Pts.{Pts}
@@ -9,7 +9,7 @@ use Rattle.wire_spec.specs.Text.{text_of}
 use Rattle.live_spec.specs.Told.{Former, Hearing, Told, former_after, is_sender, known_senders, last_moment, quiet_time, taken_over, takes_over, told_packet, with_packet}
 use Rattle.live_leg.specs.declared.senders.Senders.{Senders}
 use Rattle.live_leg.specs.declared.senders.Sent.{Sent}
-use Rattle.live_leg.specs.declared.senders.Sent.TheVariants.{Nobody, Sender, First, Other}
+use Rattle.live_leg.specs.declared.senders.Sent.TheVariants.{Refused, Foreign, Sender, First, Other}
 use Rattle.live_leg.specs.Senders.{IsMet, Knows, Meets, MeetsText, Notes, Passes, Remembers, TakesOver, known_after, over_from, remembered, sent_of}
 
 -- ---- the last 64
@@ -27,7 +27,7 @@ abbrev pub told_if : Told → ℕ → Packet → Bool → Bool → Told
 told_if d t p a b = if a then with_packet d t p else (if b then taken_over d t p else d)
 
 abbrev pub sent_if : Told → Bool → Bool → Sent
-sent_if d a b = if a then Sender else (if b then over_from d.sender else Nobody)
+sent_if d a b = if a then Sender else (if b then over_from d.sender else Foreign)
 
 met : (old new : Senders) (t : ℕ) (p : Packet) (sent : Sent) (h : Hearing) (d : Told) (a b : Bool) → is_sender d.sender p.ssrc ≡ a → takes_over h d t p.ssrc ≡ b
     → Knows new h (told_if d t p a b) → sent ≡ sent_if d a b → IsMet old new t (λ _. Ok p) sent h d
@@ -64,9 +64,9 @@ meets_sender old new t ssrc is n p e h d k =
     }) refl
 
 -- one that is passed over
-pub meets_nobody : (s : Senders) (t ssrc : ℕ) → is_sender s.sender ssrc ≡ false → over_by s t ssrc ≡ false → MeetsText s s t ssrc Nobody
-meets_nobody s t ssrc is never p e h d k =
-    met s s t p Nobody h d false false (sender_by s h d p ssrc false k e is) (takes_by s h d t p ssrc false k e never) k refl
+pub meets_foreign : (s : Senders) (t ssrc : ℕ) → is_sender s.sender ssrc ≡ false → over_by s t ssrc ≡ false → MeetsText s s t ssrc Foreign
+meets_foreign s t ssrc is never p e h d k =
+    met s s t p Foreign h d false false (sender_by s h d p ssrc false k e is) (takes_by s h d t p ssrc false k e never) k refl
 
 -- one of who takes over
 pub meets_other : (old new : Senders) (t ssrc : ℕ) (sent : Sent) → is_sender old.sender ssrc ≡ false → over_by old t ssrc ≡ true → TakesOver old new t ssrc sent → MeetsText old new t ssrc sent
@@ -132,7 +132,7 @@ meets_text old read new t octets p ssrc sent same reads who m h d k =
       sent_is = one.sent_is ∙ ap (sent_of h d t) (sym e);
     }
 
-pub meets_none : (old new : Senders) (t : ℕ) (octets : List ℕ) (f : TextFault) → ((h : Hearing) (d : Told) → Knows old h d → Knows new h d) → text_of octets None old.pts ≡ Err f → Meets old new t octets Nobody
+pub meets_none : (old new : Senders) (t : ℕ) (octets : List ℕ) (f : TextFault) → ((h : Hearing) (d : Told) → Knows old h d → Knows new h d) → text_of octets None old.pts ≡ Err f → Meets old new t octets Refused
 meets_none old new t octets f same reads h d k =
     let e : text_of octets None h.pts ≡ Err f = ap (λ (pts : Pts). text_of octets None pts) (sym k.pts) ∙ reads in
     record {

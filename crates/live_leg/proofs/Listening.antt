@@ -12,16 +12,19 @@ use Rattle.link_io.specs.declared.ends.Taken.{Taken}
 use Rattle.link_io.specs.Taking.{taken_of, closes, came_of}
 use Rattle.link_spec.specs.Links.{Takes, is_closed, is_closing}
 use Rattle.wire_spec.specs.Text.{text_of}
-use Rattle.live_spec.specs.Told.{Hearing, Told, all_by, last_chunks, ready_by, told_by}
+use Rattle.live_spec.specs.Told.{Hearing, all_by, last_chunks, ready_by, told_by}
+use Rattle.live_spec.specs.Tally.{tally_by}
 use Rattle.live_spec.proofs.Fronts.{came_closed}
 use Rattle.live_leg.specs.declared.confs.LegConf.{LegConf}
 use Rattle.live_leg.specs.declared.senders.Senders.{Senders}
 use Rattle.live_leg.specs.declared.senders.Sent.{Sent}
-use Rattle.live_leg.specs.declared.senders.Sent.TheVariants.{Nobody, Sender, First, Other}
+use Rattle.live_leg.specs.declared.senders.Sent.TheVariants.{Refused, Foreign, Sender, First, Other}
 use Rattle.live_leg.specs.declared.states.State.{State}
 use Rattle.live_leg.specs.declared.states.State.TheVariants.{Idle, Over}
 use Rattle.live_leg.specs.declared.legs.LinkLeg.{LinkLeg}
+use Rattle.live_leg.specs.declared.tallies.LegTally.{LegTally}
 use Rattle.live_leg.specs.Senders.{Knows, sent_of}
+use Rattle.live_leg.specs.Tallies.{CountsTaken, IsTally}
 use Rattle.live_leg.specs.Stories.{hearing_of, state_of_sent}
 use Rattle.live_leg.specs.Taking.{Follows, HearsTaken}
 use Rattle.live_leg.specs.Items.{AreItems, Item, Seen, has_fault, is_fault, mark_of, text_in, texts_in}
@@ -92,7 +95,8 @@ module _ {L : Type 0} (g : links.Ghosts L) where
 
       sent : (x : Sent) → st ≡ state_of_sent x → IsGivingSome false Seen h (record { at = t; came = came_of came.Datagram octets } ∷ takes) items
           → PhaseAt st F h (record { at = t; came = came_of came.Datagram octets } ∷ takes) items
-      sent Nobody e w = subst (λ (y : State). PhaseAt y F h (record { at = t; came = came_of came.Datagram octets } ∷ takes) items) (sym e) w
+      sent Refused e w = subst (λ (y : State). PhaseAt y F h (record { at = t; came = came_of came.Datagram octets } ∷ takes) items) (sym e) w
+      sent Foreign e w = subst (λ (y : State). PhaseAt y F h (record { at = t; came = came_of came.Datagram octets } ∷ takes) items) (sym e) w
       sent Sender e w = subst (λ (y : State). PhaseAt y F h (record { at = t; came = came_of came.Datagram octets } ∷ takes) items) (sym e) w
       sent First e w = subst (λ (y : State). PhaseAt y F h (record { at = t; came = came_of came.Datagram octets } ∷ takes) items) (sym e) w
       sent Other e w = subst (λ (y : State). PhaseAt y F h (record { at = t; came = came_of came.Datagram octets } ∷ takes) items) (sym e) w
@@ -104,11 +108,11 @@ module _ {L : Type 0} (g : links.Ghosts L) where
       go came.Quiet f w = subst (λ (y : State). PhaseAt y F h (record { at = t; came = came_of came.Quiet octets } ∷ takes) items) (sym f.hears.1) w
       go came.Closed f w = subst (λ (y : State). PhaseAt y F h (record { at = t; came = came_of came.Closed octets } ∷ takes) items) (sym f.hears.1) w
 
-  pub listens : (l m : LinkLeg L) (taken : Taken) (octets : List ℕ) → l.state ≡ Idle → m.conf ≡ l.conf → m.packet.value ≡ octets → HearsTaken l.ear m.ear l.senders m.senders taken octets m.state
+  pub listens : (l m : LinkLeg L) (taken : Taken) (octets : List ℕ) → l.state ≡ Idle → m.conf ≡ l.conf → m.packet.value ≡ octets → HearsTaken l.ear m.ear l.senders m.senders taken octets m.state → CountsTaken l.senders l.tally m.tally taken octets
       → (g.tells → g.taken m.link ≡ taken_of taken octets ∷ g.taken l.link) → g.closed m.link ≡ (g.closed l.link || closes taken.came)
       → g.faults l.link ≤ g.faults m.link → g.faults m.link ≡ g.faults l.link → g.port m.link ≡ g.port l.link
       → Listens g l m
-  listens l m taken octets idle same packet hears appended closing falls calm port first items s =
+  listens l m taken octets idle same packet hears counts appended closing falls calm port first items s =
       let n = s.so in
       let h = hearing_of first.conf in
       let F = Rose (g.faults first.link) (g.faults m.link) in
@@ -121,6 +125,7 @@ module _ {L : Type 0} (g : links.Ghosts L) where
         ear = subst (λ (os : List ℕ). EarStands m.ear m.state m.senders.moment os h (taken_of taken octets ∷ n.takes) items) (sym packet)
             (told_more first.conf n.takes items l.ear m.ear octets l.packet.value l.senders.moment l.senders m.senders taken.at taken.came m.state ear i.open_still (ready_is first.conf n.takes items i.are) f);
         knows = f.knows;
+        tally = counts h (told_by h n.takes) n.knows (tally_by h n.takes) n.tally;
         taken = λ t. appended t ∙ ap (λ (ps : Takes). taken_of taken octets ∷ ps) (n.taken t);
         closed = closes_with (is_closing (came_of taken.came octets)) (closes taken.came) (g.closed l.link) (g.closed m.link) (is_closed n.takes) (closing_is taken.came octets) closing n.closed;
         never_falls = omega (arith, n.never_falls, falls);
@@ -145,12 +150,12 @@ module _ {L : Type 0} (g : links.Ghosts L) where
   }
 
   -- it is over, with this last item
-  pub stops : (l m : LinkLeg L) (x : Item) → ((leg : ℕ) → text_in leg x ≡ []) → l.state ≡ Idle → m.state ≡ Over → m.ear ≡ l.ear → m.conf ≡ l.conf → m.senders ≡ l.senders
+  pub stops : (l m : LinkLeg L) (x : Item) → ((leg : ℕ) → text_in leg x ≡ []) → l.state ≡ Idle → m.state ≡ Over → m.ear ≡ l.ear → m.conf ≡ l.conf → m.senders ≡ l.senders → m.tally ≡ l.tally
       → (g.tells → g.taken m.link ≡ g.taken l.link) → g.closed m.link ≡ g.closed l.link → g.faults l.link ≤ g.faults m.link → g.port m.link ≡ g.port l.link
       → ((f : ℕ) → f ≤ g.faults l.link → IsStop x (Rose f (g.faults m.link)))
       → ((b : Bool) (f : ℕ) → f ≤ g.faults l.link → Counts b f (g.faults l.link) → Counts (b || (is_fault x || false)) f (g.faults m.link))
       → GivesThen g l m (x ∷ [])
-  stops l m x none idle state ear conf senders same closed falls port stop counts first items s =
+  stops l m x none idle state ear conf senders tally same closed falls port stop counts first items s =
       let h = hearing_of first.conf in
       let n = s.so in
       let texts = texts_same 0 items x (none 0) in
@@ -165,6 +170,7 @@ module _ {L : Type 0} (g : links.Ghosts L) where
               (subst (λ (e : Ear). EarStands e Over m.senders.moment m.packet.value h n.takes (items ++ x ∷ [])) (sym ear)
               (over_ear l.ear l.senders.moment m.senders.moment l.packet.value m.packet.value h n.takes items x (none 0) before));
           knows = subst (λ (k : Senders). Knows k h (told_by h n.takes)) (sym senders) n.knows;
+          tally = subst (λ (k : LegTally). IsTally k (tally_by h n.takes)) (sym tally) n.tally;
           taken = λ t. same t ∙ n.taken t;
           closed = λ e. closed ∙ n.closed e;
           never_falls = omega (arith, n.never_falls, falls);

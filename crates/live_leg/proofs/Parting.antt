@@ -1,7 +1,7 @@
 -- What an ear gives is of the part that it hears.
-use Rattle.std.proofs.Common.{◌≡◌, ℕ, ◌≤◌, Bool, true, false, true≢false, Option, None, Some, List, [], ◌∷◌, ◌++◌, refl, ap, sym, ◌∙◌, subst, append_assoc, arith}
+use Rattle.std.proofs.Common.{◌≡◌, ℕ, ◌≤◌, Bool, false, Option, None, Some, List, [], ◌∷◌, ◌++◌, refl, ap, sym, ◌∙◌, subst}
 use Rattle.std.specs.Prelude.{filter, map, max, if◌then◌else◌}
-use Rattle.std.proofs.lemmas.List.{append-nil, append_cancel_left, map-append}
+use Rattle.std.proofs.lemmas.List.{append_cancel_left, map-append}
 use Rattle.std.proofs.lemmas.List.Elements.{filter-append}
 use Rattle.wire_spec.specs.Packets.{Arrival, Packet}
 use Rattle.stream_spec.specs.Fronts.{IsFront, is_ready_by}
@@ -12,15 +12,14 @@ use Rattle.stream_spec.proofs.StillChunks.{chunks_still}
 use Rattle.gap_tracker.specs.Stories.{Story}
 use Rattle.ear.specs.declared.confs.EarConf.{EarConf}
 use Rattle.ear.specs.declared.ears.Ear.{Ear}
-use Rattle.ear.specs.Hears.{Gave, GaveFront, conf_of, ready_chunks, story_chunks}
+use Rattle.ear.specs.Hears.{Gave, GaveFront, conf_of, story_chunks}
 use Rattle.link_spec.specs.Links.{Takes}
-use Rattle.live_spec.specs.Told.{Former, Hearing, Told, all_by, all_former, all_told, former_after, former_chunks, last_chunks, ready_by, ready_until, sender_chunks, taken_over, told_by}
+use Rattle.live_spec.specs.Told.{Hearing, Told, all_by, all_former, all_told, former_after, last_chunks, ready_by, ready_until, taken_over, told_by}
 use Rattle.live_spec.proofs.Fronts.{all_good, as_it_was, behind, more, ready_is}
 use Rattle.live_leg.specs.declared.confs.LegConf.{LegConf}
 use Rattle.live_leg.specs.declared.states.State.{State}
 use Rattle.live_leg.specs.declared.states.State.TheVariants.{Idle, Giving, Blank, Parting, Ending, Over}
-use Rattle.live_leg.specs.States.{is_heard, is_parting}
-use Rattle.live_leg.specs.Stands.{IsPart, IsTakenOver, given_as}
+use Rattle.live_leg.specs.Stands.{IsPart, given_as}
 use Rattle.live_leg.specs.Stories.{IsEarOf, IsOf, hearing_of}
 
 -- what is heard by an ear's story, but for keep-alives, are the texts of the sender

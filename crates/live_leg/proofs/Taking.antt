@@ -1,26 +1,25 @@
 -- What a take tells a leg is what its definition has it told.
-use Rattle.std.proofs.Common.{◌≡◌, ℕ, List, refl, ap, sym, ◌∙◌, subst}
-use Rattle.std.specs.Prelude.{None, unwrap_or}
-use Rattle.wire_spec.specs.Text.{text_of}
+use Rattle.std.proofs.Common.{◌≡◌, ◌⊎◌, ℕ, List, inl, inr, refl, ap, sym, ◌∙◌, subst}
+use Rattle.std.specs.Prelude.{unwrap_or}
 use Rattle.gap_tracker.specs.Stories.{ended, went}
 use Rattle.ear.specs.declared.ears.Ear.{Ear}
 use Rattle.ear.specs.Hears.{AllReady, Becomes, conf_of, text_for, told}
 use Rattle.link_io.specs.declared.ends.Came.{Came}
 use Rattle.link_io.specs.declared.ends.Came.TheVariants as came
 use Rattle.link_io.specs.declared.ends.Taken.{Taken}
-use Rattle.live_spec.specs.Told.{Hearing, Told}
 use Rattle.live_leg.specs.declared.senders.Senders.{Senders}
 use Rattle.live_leg.specs.declared.senders.Sent.{Sent}
-use Rattle.live_leg.specs.declared.senders.Sent.TheVariants.{Nobody, Sender, First, Other}
+use Rattle.live_leg.specs.declared.senders.Sent.TheVariants.{Refused, Foreign, Sender, First, Other}
 use Rattle.live_leg.specs.declared.states.State.{State}
 use Rattle.live_leg.specs.declared.states.State.TheVariants.{Giving, Blank, Ending}
-use Rattle.live_leg.specs.Senders.{Knows, Meets, Passes, sent_of}
-use Rattle.live_leg.specs.Stories.{BeginsWith, Ends, HearsMore, HearsSent, Waits, state_of_sent}
+use Rattle.live_leg.specs.Senders.{Meets, Passes}
+use Rattle.live_leg.specs.Stories.{BeginsWith, HearsMore, HearsSent, state_of_sent}
 use Rattle.live_leg.specs.Taking.{Follows, HearsTaken}
 
 -- ---- who sent a datagram
-pub sent_nobody : (sent : Sent) (ear : Ear) (ssrc now : ℕ) (octets : List ℕ) → sent ≡ Nobody → HearsSent sent ear ear ssrc now octets
-sent_nobody sent ear ssrc now octets is = subst (λ (x : Sent). HearsSent x ear ear ssrc now octets) (sym is) refl
+pub sent_unheard : (sent : Sent) (ear : Ear) (ssrc now : ℕ) (octets : List ℕ) → (sent ≡ Refused) ⊎ (sent ≡ Foreign) → HearsSent sent ear ear ssrc now octets
+sent_unheard sent ear ssrc now octets (inl is) = subst (λ (x : Sent). HearsSent x ear ear ssrc now octets) (sym is) refl
+sent_unheard sent ear ssrc now octets (inr is) = subst (λ (x : Sent). HearsSent x ear ear ssrc now octets) (sym is) refl
 
 pub sent_sender : (sent : Sent) (old new : Ear) (ssrc at now : ℕ) (octets : List ℕ) → sent ≡ Sender → at ≡ now
     → Becomes old new (λ conf story. told story at (text_for conf octets)) → conf_of new ≡ conf_of old → HearsSent sent old new ssrc now octets

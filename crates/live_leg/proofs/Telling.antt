@@ -1,7 +1,7 @@
 -- What an ear knows once its leg was told of a take.
-use Rattle.std.proofs.Common.{◌≡◌, ◌≤◌, ℕ, Bool, true, false, true≢false, Option, None, Some, List, [], ◌∷◌, ◌++◌, Result, Ok, Err, refl, ap, sym, ◌∙◌, subst, append_assoc, arith}
-use Rattle.std.specs.Prelude.{◌==◌, filter, map, max, unwrap_or, if◌then◌else◌}
-use Rattle.std.proofs.lemmas.List.{append-nil, append_cancel_left}
+use Rattle.std.proofs.Common.{◌≡◌, ◌≤◌, ℕ, Bool, true, false, true≢false, Option, None, Some, List, [], ◌∷◌, ◌++◌, Result, Ok, Err, refl, ap, sym, ◌∙◌, subst, arith}
+use Rattle.std.specs.Prelude.{filter, max, unwrap_or}
+use Rattle.std.proofs.lemmas.List.{append-nil}
 use Rattle.rtt_base.specs.declared.text_packets.Pts.{Pts}
 use Rattle.wire_spec.specs.declared.faults.TextFault.{TextFault}
 use Rattle.wire_spec.specs.Packets.{Arrival, Packet}
@@ -18,19 +18,17 @@ use Rattle.link_io.specs.declared.ends.Came.TheVariants as came
 use Rattle.link_io.specs.Taking.{came_of}
 use Rattle.link_spec.specs.Links.{Takes}
 use Rattle.link_spec.specs.Links as link
-use Rattle.live_spec.specs.Told.{Former, Hearing, Told, all_former, arrival_at, former_after, is_sender, last_chunks, ready_by, taken_over, takes_over, told_by, told_came, told_moment, told_packet, with_packet}
+use Rattle.live_spec.specs.Told.{Former, Hearing, Told, all_former, arrival_at, former_after, is_sender, last_chunks, ready_by, taken_over, takes_over, told_by, told_moment, told_packet, with_packet}
 use Rattle.live_spec.proofs.Asked.{eqb_true, own_asked}
 use Rattle.live_leg.specs.declared.confs.LegConf.{LegConf}
 use Rattle.live_leg.specs.declared.senders.Senders.{Senders}
-use Rattle.live_leg.specs.declared.senders.Sent.{Sent}
-use Rattle.live_leg.specs.declared.senders.Sent.TheVariants.{Nobody, Sender, First, Other}
 use Rattle.live_leg.specs.declared.states.State.{State}
 use Rattle.live_leg.specs.declared.states.State.TheVariants.{Idle, Giving, Blank, Parting, Ending}
 use Rattle.live_leg.specs.Items.{Item, texts_in}
-use Rattle.live_leg.specs.Senders.{Knows, over_from, sent_of}
+use Rattle.live_leg.specs.Senders.{over_from, sent_of}
 use Rattle.live_leg.specs.Stands.{EarStands}
 use Rattle.live_leg.specs.Stories.{BeginsWith, Ends, HearsMore, HearsSent, IsEarOf, IsOf, Waits, hearing_of, state_of_sent}
-use Rattle.live_leg.specs.Taking.{Follows, HearsCame}
+use Rattle.live_leg.specs.Taking.{Follows}
 use Rattle.live_leg.proofs.Knowing.{sent_if, told_if}
 use Rattle.live_leg.proofs.Parting.{all_soon, ready_part}
 

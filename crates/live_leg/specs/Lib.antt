@@ -1,6 +1,7 @@
 pub mod States
 pub mod Stories
 pub mod Senders
+pub mod Tallies
 pub mod Taking
 pub mod Texts
 pub mod Items

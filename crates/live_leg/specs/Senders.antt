@@ -1,12 +1,12 @@
 -- Who sent what comes at a leg, as its definition has it (profile).
-use Rattle.std.specs.Prelude.{◌≡◌, ℕ, ◌∷◌, max, take, map, Option, None, Some, List, [], Result, Ok, Err, if◌then◌else◌}
+use Rattle.std.specs.Prelude.{◌≡◌, ℕ, ◌∷◌, max, take, Option, None, Some, List, Result, Ok, Err, if◌then◌else◌}
 use Rattle.wire_spec.specs.declared.faults.TextFault.{TextFault}
 use Rattle.wire_spec.specs.Packets.{Packet}
 use Rattle.wire_spec.specs.Text.{text_of}
-use Rattle.live_spec.specs.Told.{Former, Hearing, Told, is_sender, known_senders, last_moment, takes_over, told_moment, told_packet, untold}
+use Rattle.live_spec.specs.Told.{Hearing, Told, is_sender, known_senders, last_moment, takes_over, told_moment, told_packet, untold}
 use Rattle.live_leg.specs.declared.senders.Senders.{Senders}
 use Rattle.live_leg.specs.declared.senders.Sent.{Sent}
-use Rattle.live_leg.specs.declared.senders.Sent.TheVariants.{Nobody, Sender, First, Other}
+use Rattle.live_leg.specs.declared.senders.Sent.TheVariants.{Refused, Foreign, Sender, First, Other}
 
 -- What is kept of a leg that is heard so, and of which that was told.
 pub record Knows (s : Senders) (h : Hearing) (d : Told) : Type 0 where
@@ -33,8 +33,8 @@ over_from (Some s) = Other
 abbrev pub sent_of : Hearing → Told → ℕ → Result Packet TextFault → Sent
 sent_of h d t (Ok p) =
     if is_sender d.sender p.ssrc then Sender
-    else (if takes_over h d t p.ssrc then over_from d.sender else Nobody)
-sent_of h d t (Err fault) = Nobody
+    else (if takes_over h d t p.ssrc then over_from d.sender else Foreign)
+sent_of h d t (Err fault) = Refused
 
 -- what is known is known after what comes at the moment t, and this is who sent it
 pub record IsMet (old new : Senders) (t : ℕ) (r : Hearing → Result Packet TextFault) (sent : Sent) (h : Hearing) (d : Told) : Type 0 where

@@ -13,11 +13,13 @@ use Rattle.rtt_io.specs.Counts.{Rose}
 use Rattle.link_io.specs.declared.ends.LinkIn as links
 use Rattle.link_spec.specs.Links.{Taken, Takes, Datagram, is_closed, is_closing}
 use Rattle.live_spec.specs.Told.{Hearing, Told, all_by, all_former, ready_until, taken_over, told_by}
+use Rattle.live_spec.specs.Tally.{tally_by}
 use Rattle.live_leg.specs.declared.items.LegItem.{LegItem}
 use Rattle.live_leg.specs.declared.states.State.{State}
 use Rattle.live_leg.specs.declared.states.State.TheVariants.{Idle, Giving, Blank, Parting, Ending, Over}
 use Rattle.live_leg.specs.declared.legs.LinkLeg.{LinkLeg}
 use Rattle.live_leg.specs.Senders.{Knows}
+use Rattle.live_leg.specs.Tallies.{IsTally}
 use Rattle.live_leg.specs.Stories.{IsEarOf, hearing_of}
 use Rattle.live_leg.specs.States.{is_giving, is_going}
 use Rattle.live_leg.specs.Items.{AreItems, AreTexts, Item, Text, Seen, Silent, End, Quit, Fault, has_fault, items_of, mark_of, texts_in}
@@ -146,6 +148,7 @@ module _ {L : Type 0} (g : links.Ghosts L) where
     pub conf : now.conf ≡ first.conf
     pub ear : EarStands now.ear now.state now.senders.moment now.packet.value (hearing_of first.conf) takes items
     pub knows : Knows now.senders (hearing_of first.conf) (told_by (hearing_of first.conf) takes)
+    pub tally : IsTally now.tally (tally_by (hearing_of first.conf) takes)
     pub taken : g.tells → g.taken now.link ≡ takes ++ g.taken first.link
     pub closed : is_closed takes ≡ true → g.closed now.link ≡ true
     pub never_falls : g.faults first.link ≤ g.faults now.link

@@ -6,12 +6,10 @@ use Rattle.gap_tracker.specs.Stories.{Story, begun, went, ended}
 use Rattle.ear.specs.declared.confs.EarConf.{EarConf}
 use Rattle.ear.specs.declared.ears.Ear.{Ear}
 use Rattle.ear.specs.Hears.{AllReady, Becomes, Gave, conf_of, told, text_for}
-use Rattle.link_io.specs.declared.ends.Came.{Came}
-use Rattle.link_io.specs.declared.ends.Came.TheVariants.{Datagram, Large, Quiet, Closed}
 use Rattle.live_spec.specs.Told.{Hearing, Told}
 use Rattle.live_leg.specs.declared.confs.LegConf.{LegConf}
 use Rattle.live_leg.specs.declared.senders.Sent.{Sent}
-use Rattle.live_leg.specs.declared.senders.Sent.TheVariants.{Nobody, Sender, First, Other}
+use Rattle.live_leg.specs.declared.senders.Sent.TheVariants.{Refused, Foreign, Sender, First, Other}
 use Rattle.live_leg.specs.declared.states.State.{State}
 use Rattle.live_leg.specs.declared.states.State.TheVariants.{Giving, Parting}
 
@@ -44,14 +42,16 @@ pub record Ends (old new : Ear) : Type 0 where
 
 -- who sent a datagram, and what the ear is told of it; `now` is the greatest moment, `ssrc` that of the sender
 abbrev pub HearsSent : Sent → (old new : Ear) (ssrc now : ℕ) (octets : List ℕ) → Type 0
-HearsSent Nobody old new ssrc now octets = new ≡ old
+HearsSent Refused old new ssrc now octets = new ≡ old
+HearsSent Foreign old new ssrc now octets = new ≡ old
 HearsSent Sender old new ssrc now octets = HearsMore old new now octets
 HearsSent First old new ssrc now octets = BeginsWith old new ssrc now octets
 HearsSent Other old new ssrc now octets = Ends old new
 
 -- how far a leg is of which that was sent: who takes over from another waits until what is left of that one is given
 abbrev pub state_of_sent : Sent → State
-state_of_sent Nobody = Giving
+state_of_sent Refused = Giving
+state_of_sent Foreign = Giving
 state_of_sent Sender = Giving
 state_of_sent First = Giving
 state_of_sent Other = Parting

@@ -5,9 +5,11 @@ ghost use Rattle.ear.specs.Hears.{IsGiving, arrival_count, is_finished, is_quiet
 ghost use Rattle.live_leg.specs.States.{is_giving, is_going};
 ghost use Rattle.live_leg.specs.Stories.{BeginsWith, HearsSent, state_of_sent};
 ghost use Rattle.live_leg.specs.Taking.{HearsTaken};
+ghost use Rattle.live_leg.specs.Tallies.{CountsTaken};
 
 use crate::senders::{Senders, Sent};
 use crate::states::State;
+use crate::tallies::LegTally;
 use ear::Ear;
 use link_io::{Came, Taken};
 
@@ -36,7 +38,7 @@ fn hear_sent(ear: &mut Ear, sent: Sent, senders: &Senders, octets: &[u8]) -> Sta
     ensures open { is_going result ≡ true → is_finished ear.new ≡ false }
 {
     match sent {
-        Sent::Nobody => State::Giving,
+        Sent::Refused | Sent::Foreign => State::Giving,
         Sent::Sender => {
             let _refused = ear.hear(senders.moment(), octets);
             State::Giving
@@ -52,14 +54,22 @@ fn hear_sent(ear: &mut Ear, sent: Sent, senders: &Senders, octets: &[u8]) -> Sta
     }
 }
 
-/// Tells an ear what a take of a link gave; these are the octets of a datagram. How far the leg is then is handed out.
-pub(crate) fn hear_taken(ear: &mut Ear, senders: &mut Senders, taken: Taken, octets: &[u8]) -> State
+/// Tells an ear what a take of a link gave, and counts it; these are the octets of a datagram. How far the leg is then is handed
+/// out.
+pub(crate) fn hear_taken(
+    ear: &mut Ear,
+    senders: &mut Senders,
+    tally: &mut LegTally,
+    taken: Taken,
+    octets: &[u8],
+) -> State
     requires giving { ∥ IsGiving ear.old ∥₁ }
     requires early { taken.at < 2 ^ 48 }
     requires quiet { is_quiet ear.old ≡ true }
     requires few { arrival_count ear.old < MOST_ARRIVALS }
     requires open { is_finished ear.old ≡ false }
     ensures hears { HearsTaken ear.old ear.new senders.old senders.new taken octets.now result }
+    ensures counts { CountsTaken senders.old tally.old tally.new taken octets.now }
     ensures giving { ∥ IsGiving ear.new ∥₁ }
     ensures busy { result ≢ State.Idle }
     ensures gives { is_giving result ≡ true }
@@ -68,9 +78,11 @@ pub(crate) fn hear_taken(ear: &mut Ear, senders: &mut Senders, taken: Taken, oct
     match taken.came {
         Came::Datagram => {
             let sent = senders.meet(taken.at, octets);
+            tally.count(sent);
             hear_sent(ear, sent, senders, octets)
         }
         Came::Large => {
+            tally.refuse();
             senders.pass(taken.at);
             ear.expire(taken.at);
             State::Giving

@@ -8,6 +8,7 @@ use crate::confs::LegConf;
 use crate::paces::Pace;
 use crate::senders::Senders;
 use crate::states::State;
+use crate::tallies::LegTally;
 use ear::Ear;
 use rtt_base::Packet;
 use std::alloc::Global;
@@ -22,6 +23,8 @@ pub struct LinkLeg<L> {
     /// Hears the sender.
     pub(crate) ear: Ear,
     pub(crate) senders: Senders,
+    /// What came of the link.
+    pub(crate) tally: LegTally,
     pub(crate) link: L,
     /// The datagram that came last.
     pub(crate) packet: Box<Packet>,

@@ -12,11 +12,13 @@ mod paces;
 mod senders;
 mod states;
 mod stepping;
+mod tallies;
 
 pub use confs::LegConf;
 pub use items::LegItem;
 pub use kinds::ItemKind;
 pub use legs::LinkLeg;
+pub use tallies::LegTally;
 
 #[cfg(test)]
 mod tests;

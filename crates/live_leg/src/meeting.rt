@@ -146,7 +146,7 @@ impl Senders {
         if self.takes_over(now, ssrc) {
             return self.take_over(now, ssrc);
         }
-        Sent::Nobody
+        Sent::Foreign
     }
 
     /// Tells who sent a datagram that comes at `now`. Who takes over is the sender from now on.
@@ -159,7 +159,7 @@ impl Senders {
                 let ssrc = self.packet.ssrc;
                 self.meet_text(now, ssrc)
             }
-            Err(_) => Sent::Nobody,
+            Err(_) => Sent::Refused,
         }
     }
 }

@@ -11,8 +11,10 @@ pub(crate) const MOST_KNOWN: usize = 64;
 /// Who sent a datagram.
 #[derive(Clone, Copy, Debug, PartialEq, Eq)]
 pub(crate) enum Sent {
-    /// Nobody who is heard: it is no packet of text, or it is passed over.
-    Nobody,
+    /// Nobody: it is no packet of text with the payload types of the leg.
+    Refused,
+    /// One who is not heard: it is passed over.
+    Foreign,
     /// The sender.
     Sender,
     /// The first sender of the leg.

@@ -18,6 +18,7 @@ use crate::legs::LinkLeg;
 use crate::paces::Pace;
 use crate::senders::Senders;
 use crate::states::State;
+use crate::tallies::LegTally;
 use ear::{Ear, is_blank};
 use link_io::LinkIn;
 use rtt_base::limits::MOST_ARRIVALS;
@@ -98,12 +99,20 @@ impl<L: LinkIn> LinkLeg<L> {
             conf,
             ear,
             senders,
+            tally: LegTally::new(),
             link,
             packet,
             stop,
             state: State::Idle,
             pace: Pace::new(tick),
         })
+    }
+
+    /// What came of the link so far, counted.
+    pub fn tally(&self) -> LegTally
+        ensures { result ≡ self.now.tally }
+    {
+        self.tally
     }
 
     /// The link, as far as it was taken from.
@@ -114,6 +123,7 @@ impl<L: LinkIn> LinkLeg<L> {
             conf: _,
             ear: _,
             senders: _,
+            tally: _,
             link,
             packet: _,
             stop: _,
@@ -135,7 +145,13 @@ impl<L: LinkIn> LinkLeg<L> {
         match self.link.take(&mut self.packet, self.pace.until()) {
             Ok(taken) => {
                 let octets = self.packet.as_slice();
-                self.state = hear_taken(&mut self.ear, &mut self.senders, taken, octets);
+                self.state = hear_taken(
+                    &mut self.ear,
+                    &mut self.senders,
+                    &mut self.tally,
+                    taken,
+                    octets,
+                );
                 self.pace = self.pace.after(taken);
                 Ok(())
             }

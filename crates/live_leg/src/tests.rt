@@ -1,7 +1,7 @@
 ghost use Rattle.std.specs.Prelude.{◌≤◌};
 ghost use Rattle.rtt_base.specs.declared.limits.TheConstants.{LONGEST_WAIT};
 
-use crate::{ItemKind, LegConf, LegItem, LinkLeg};
+use crate::{ItemKind, LegConf, LegItem, LegTally, LinkLeg};
 use ear::EarConf;
 use item_queue::{Gives, Reuse};
 use link_io::{Came, MemIn, Planned};
@@ -243,5 +243,56 @@ fn whoever_sends_first_is_heard(rt: HostRuntime) -> Result<(), Fail> {
     assert!(rt; says(&rt, &mut leg, &mut item, b"A", 100));
     let (mut other, mut item) = ann(rt.alloc(), &[(100, Came::Datagram, A5)], false)?;
     assert!(rt; gives(&rt, &mut other, &mut item, ItemKind::Seen));
+    Ok(())
+}
+
+// What is no packet, and what is too large.
+const NOISE: &[u8] = b"\0\x01";
+
+const TOO_LARGE: Coming = (200, Came::Large, b"");
+
+// It gives what came, as far as this many items go.
+fn gives_all<F: Gives<LegItem>, R: Wait>(rt: &R, leg: &mut F, item: &mut LegItem, most: u32) {
+    for _ in 0..most {
+        let _ = next(rt, leg, item);
+    }
+}
+
+#[test]
+fn a_leg_counts_what_came(rt: HostRuntime) -> Result<(), Fail> {
+    let comings = [
+        (0, Came::Datagram, A5),
+        (100, Came::Datagram, NOISE),
+        TOO_LARGE,
+        (500, Came::Datagram, B6),
+        (600, Came::Datagram, C5),
+    ];
+    let (mut leg, mut item) = followed(rt.alloc(), &comings)?;
+    gives_all(&rt, &mut leg, &mut item, 20);
+    let counted = LegTally {
+        came: 5,
+        text: 2,
+        refused: 2,
+        foreign: 1,
+        senders: 2,
+    };
+    assert_eq!(rt; leg.tally(), counted);
+    Ok(())
+}
+
+#[test]
+fn a_leg_that_is_not_followed_has_one_sender(rt: HostRuntime) -> Result<(), Fail> {
+    let comings = [SHE_TYPES, SHE_IDLES, (150, Came::Datagram, A5)];
+    let (mut leg, mut item) = ann(rt.alloc(), &comings, false)?;
+    assert_eq!(rt; leg.tally(), LegTally::default());
+    gives_all(&rt, &mut leg, &mut item, 20);
+    let counted = LegTally {
+        came: 3,
+        text: 2,
+        refused: 0,
+        foreign: 1,
+        senders: 1,
+    };
+    assert_eq!(rt; leg.tally(), counted);
     Ok(())
 }

@@ -21,12 +21,16 @@ use Rattle.link_spec.specs.Links.{Takes, is_closed}
 use Rattle.link_io.specs.declared.ends.LinkIn as ins
 use Rattle.link_io.specs.declared.ends.LinkOut as outs
 use Rattle.live_spec.specs.Told.{Hearing}
+use Rattle.view_spec.specs.declared.tallies.Tally.{Tally}
+use Rattle.live_spec.specs.Tally.{tally_by}
 use Rattle.item_lanes.specs.declared.lanes.Lane.{Lane}
 use Rattle.item_lanes.specs.Lanes.{AreNew}
 use Rattle.live_leg.specs.declared.items.LegItem.{LegItem}
 use Rattle.live_leg.specs.declared.legs.LinkLeg.{LinkLeg}
 use Rattle.live_leg.specs.Items.{has_fault}
 use Rattle.live_leg.specs.Stands.{LegGave}
+use Rattle.live_leg.specs.declared.tallies.LegTally.{LegTally}
+use Rattle.live_leg.specs.Tallies.{IsTally}
 use Rattle.live_leg.specs.Stories.{hearing_of}
 use Rattle.live_loop.specs.declared.clocks.TurnClock as clocks
 use Rattle.live_loop.specs.declared.ports.LivePort.{LivePort}
@@ -40,6 +44,7 @@ use Rattle.serve_spec.specs.Served.{End, IsCutShort, IsServed, given_to, hearing
 use Rattle.serve_spec.specs.Served as served
 use Rattle.live_law.specs.Covers.{Covers, as_leg}
 use Rattle.live_law.specs.Served.{IsOfConf}
+use Rattle.live_law.proofs.AsLeg.{tally_as}
 use Rattle.live_law.proofs.Covering.{covers}
 use Rattle.live_law.proofs.Served.{broken_law, closed_law, done_law}
 use Rattle.live_law.proofs.Serving.{some_there}
@@ -76,7 +81,13 @@ map_there f [] j x e = absurd (cc e)
 map_there f (y ∷ xs) zero x e = let is : y ≡ x = cc e in ap (λ z. Some (f z)) is
 map_there f (y ∷ xs) (suc j) x e = map_there f xs j x e
 
-map_long : {X Y : Type 0} (f : X → Y) (xs : List X) → length (map f xs) ≡ length xs
+-- and what is there was made of one
+mapped : {X Y : Type 0} (f : X → Y) (xs : List X) (j : ℕ) (y : Y) → slice_get (map f xs) j ≡ Some y → (x : X) × (slice_get xs j ≡ Some x) × (f x ≡ y)
+mapped f [] j y e = absurd (cc e)
+mapped f (x ∷ xs) zero y e = (x, refl, cc e)
+mapped f (x ∷ xs) (suc j) y e = mapped f xs j y e
+
+pub map_long : {X Y : Type 0} (f : X → Y) (xs : List X) → length (map f xs) ≡ length xs
 map_long f [] = refl
 map_long f (x ∷ xs) = ap suc (map_long f xs)
 
@@ -117,6 +128,7 @@ module _ {I G : Type 0} (i : ins.Ghosts I) (tells : Type 0) (opened : ℕ → Bo
     pub covering : (p : LivePort (Lane LegItem (LinkLeg I) G)) → slice_get ports j ≡ Some p → Covers (hearing_at c j) takes (popped_in p.inlet)
     pub taken : tells → (back : LinkLeg I) → slice_get backs j ≡ Some back → i.taken back.link ≡ takes
     pub calm : is_closed takes ≡ true → (back : LinkLeg I) → slice_get backs j ≡ Some back → i.faults back.link ≡ 0
+    pub tallied : (back : LinkLeg I) → slice_get backs j ≡ Some back → IsTally back.tally (tally_by (hearing_at c j) takes)
 
   took_at : (j : ℕ) → j < length c.legs → (takes : Takes) × TookAt j takes
   took_at j low =
@@ -138,6 +150,10 @@ module _ {I G : Type 0} (i : ins.Ghosts I) (tells : Type 0) (opened : ℕ → Bo
           calm = λ closed x e.
               let same : back.0 ≡ x = cc (sym back.1 ∙ e) in
               subst (λ (b : LinkLeg I). i.faults b.link ≡ 0) same (closed_calm i first.0 back.0 (popped_in p.0.inlet ++ w.0) w.1 closed ∙ o.fresh);
+          tallied = λ x e.
+              let same : back.0 ≡ x = cc (sym back.1 ∙ e) in
+              subst (λ (b : LinkLeg I). IsTally b.tally (tally_by (hearing_at c j) takes)) same
+              (subst (λ (y : Tally). IsTally back.0.tally y) (sym (tally_as j (hearing_of first.0.conf) takes) ∙ ap (λ (h : Hearing). tally_by h takes) hears) w.1.so.tally);
         },
       )
 
@@ -191,7 +207,7 @@ module _ {I G : Type 0} (i : ins.Ghosts I) (tells : Type 0) (opened : ℕ → Bo
     PacedBy span calls = (began : ℕ) × (span.first ≤ began) × (began ≤ span.last) × AtTicks c.tick began (moments_of calls) × RiseTo span.last (moments_of calls) × GaveInTurn c span.pauses (at_link o.given far.links.items) calls
 
     is_call : (span : Span) (end : End) (calls : List Call) → gives m (setup c) (pts_at c) calls → (tells → PacedBy span calls) → m.short ≡ false
-        → (serves : (takes : ℕ → Takes) (given : ℕ → List (List ℕ)) → IsOfConf popped_in c calls ports takes given → IsServed c takes given end (live_printed c given end))
+        → (serves : (takes : ℕ → Takes) (given : ℕ → List (List ℕ)) → IsOfConf popped_in c calls ports takes given → IsServed c takes given end (live_printed c takes given end))
         → ((takes : ℕ → Takes) (given : ℕ → List (List ℕ)) (w : IsOfConf popped_in c calls ports takes given) → (serves takes given w).table ≡ after_calls (setup c) calls)
         → IsCallOf i o (stands tap) tells c span backs far.links.items far.listeners.items end
     is_call span end calls gave_all paced long serves leads =
@@ -214,6 +230,10 @@ module _ {I G : Type 0} (i : ins.Ghosts I) (tells : Type 0) (opened : ℕ → Bo
           given = given;
           served = serves takes given w;
           many = far.both ∙ all;
+          tallied = λ j kept e.
+              let leg = mapped (λ (leg : LinkLeg I). leg.tally) backs j kept e in
+              let low = slice_get_within backs j leg.0 leg.1 in
+              subst (λ (y : LegTally). IsTally y (tally_by (hearing_at c j) (takes j))) leg.2 ((pick_holds [] took (length c.legs) took_at j (omega (arith, low, many, many_backs))).tallied leg.0 leg.1);
           heard = λ j l e.
               let low = slice_get_within far.listeners.items j l e in
               let both = far.both in

@@ -9,7 +9,7 @@ use Rattle.live_law.proofs.Opening.{open_takes}
 use Rattle.live_leg.specs.declared.states.State.{State}
 use Rattle.live_leg.specs.declared.states.State.TheVariants.{Idle, Giving, Blank, Parting, Ending, Over}
 use Rattle.live_leg.specs.declared.legs.LinkLeg.{LinkLeg}
-use Rattle.live_leg.specs.Items.{AreItems, AreTexts, Item, has_fault, is_fault, is_text, mark_of}
+use Rattle.live_leg.specs.Items.{AreItems, AreTexts, Item, has_fault, is_fault, mark_of}
 use Rattle.live_leg.specs.Items as item
 use Rattle.live_leg.specs.Stands.{Counts, IsGivingSome, LegStands, PhaseAt}
 use Rattle.live_leg.specs.Stories.{hearing_of}

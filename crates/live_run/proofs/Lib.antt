@@ -3,6 +3,7 @@ pub mod Hearing
 pub mod Giving
 pub mod Ordering
 pub mod Showing
+pub mod Counting
 pub mod Sent
 pub mod Joining
 pub mod Taking

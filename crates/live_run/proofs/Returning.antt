@@ -12,6 +12,7 @@ use Rattle.link_io.specs.declared.ends.LinkIn as ins
 use Rattle.link_io.specs.declared.ends.LinkOut as outs
 use Rattle.link_io.specs.declared.links.Links as over
 use Rattle.live_leg.specs.declared.legs.LinkLeg.{LinkLeg}
+use Rattle.live_leg.specs.declared.tallies.LegTally.{LegTally}
 use Rattle.live_loop.specs.declared.turns.Turned.{Turned}
 use Rattle.live_loop.specs.declared.turns.Turned.TheVariants.{Done, Closed, Faulted, Stopped}
 use Rattle.live_law.proofs.Serving.{some_there}
@@ -26,15 +27,16 @@ use Rattle.live_run.specs.declared.faults.LiveFault.TheVariants.{Link, NoMemory}
 use Rattle.live_run.specs.declared.reports.LiveEnd.{LiveEnd}
 use Rattle.live_run.specs.declared.reports.LiveReport.{LiveReport}
 use Rattle.live_run.specs.declared.reports.LiveEnd.TheVariants as ends
-use Rattle.live_run.specs.Calls.{AreAtPorts, AtPorts, BrokeOff, EndsAs, FailedAt, GaveNothing, HasGivenUp, IsBrokenOff, IsCallOf, IsCalled, IsOfLinks, LinkFailed, WasBroken, WasGivenUp, WasPaced, WasServed, WasTapped, answer_of, at_link, at_ports_of}
+use Rattle.live_run.specs.Calls.{AreAtPorts, AtPorts, BrokeOff, EndsAs, FailedAt, HasGivenUp, IsBrokenOff, IsCallOf, IsCalled, IsOfLinks, LinkFailed, WasBroken, WasCounted, WasGivenUp, WasPaced, WasServed, WasTapped, answer_of, at_link, at_ports_of}
 use Rattle.live_run.specs.Listeners.{ArePrintedOf, Listening}
 use Rattle.live_run.specs.Opened.{AreCalm, AreStored, FaultsRose, GivesNothing, HaveOwnPorts, IsNotOpened, link_in, link_of, port_of}
 use Rattle.live_run.specs.Ends.{packets_in}
 use Rattle.live_run.specs.Reports.{end_of}
 use Rattle.live_run.specs.Spans.{Span, span_of}
+use Rattle.live_run.specs.Tallies.{AreTallies, tallies_in}
 use Rattle.live_run.specs.Taps.{Notice}
 use Rattle.live_run.proofs.Closing.{rose_on}
-use Rattle.live_run.proofs.Composing.{leg_within}
+use Rattle.live_run.proofs.Composing.{leg_within, map_long}
 use Rattle.live_run.proofs.Linking.{some_leg}
 
 -- ---- ports
@@ -113,11 +115,11 @@ done_turned (Faulted j) end e d = absurd (cc e)
 done_turned (Stopped why) end e d = absurd (cc e)
 
 -- what was printed of it
-prints_so : (c : Conf) (takes : ℕ → Takes) (given : ℕ → List (List ℕ)) (end : End) (printed : List ℕ) → IsServed c takes given end (live_printed c given end) → printed ≡ live_printed c given end → IsServed c takes given end printed
+prints_so : (c : Conf) (takes : ℕ → Takes) (given : ℕ → List (List ℕ)) (end : End) (printed : List ℕ) → IsServed c takes given end (live_printed c takes given end) → printed ≡ live_printed c takes given end → IsServed c takes given end printed
 prints_so c takes given end printed w is = record { table = w.table; turns = w.turns; live = w.live; few = w.few; gives = w.gives; prints = is; done = w.done; goes_on = w.goes_on; drained = w.drained; idle = w.idle }
 
 -- ---- a call that broke off
-broken : (c : Conf) (takes : ℕ → Takes) (given : ℕ → List (List ℕ)) (end : End) (printed : List ℕ) → IsServed c takes given end printed → IsServed c takes given Broken (live_printed c given Broken)
+broken : (c : Conf) (takes : ℕ → Takes) (given : ℕ → List (List ℕ)) (end : End) (printed : List ℕ) → IsServed c takes given end printed → IsServed c takes given Broken (live_printed c takes given Broken)
 broken c takes given end printed w = record { table = w.table; turns = w.turns; live = w.live; few = w.few; gives = w.gives; prints = refl; done = λ e. absurd (cc e); goes_on = λ e. absurd (cc e); drained = λ e. absurd (cc e); idle = λ e. absurd (cc e) }
 
 -- so did any that was served
@@ -127,7 +129,7 @@ unfolding broken
 call_breaks i o stands tells c span legs links listeners end w = record {
   takes = w.takes;
   given = w.given;
-  served = broken c w.takes w.given end (live_printed c w.given end) w.served;
+  served = broken c w.takes w.given end (live_printed c w.takes w.given end) w.served;
   now = 0;
   taken = w.taken;
   gave = λ t j link line e at. inl (w.gave t j link e ∙ w.served.gives j line at);
@@ -151,12 +153,18 @@ was_broken tells span taken_at given_at c end printed w =
       takes = w.takes;
       given = w.given;
       served = b;
-      keeps = λ octets read. head_law octets c w.takes w.given Broken (live_printed c w.given Broken) read b;
+      keeps = λ octets read. head_law octets c w.takes w.given Broken (live_printed c w.takes w.given Broken) read b;
       now = 0;
       taken = w.taken;
       gave = λ t j line p at e. inl (w.gave t j line p at e ∙ w.served.gives j line at);
       paced = w.paced;
     }
+
+-- what is reported of a call
+record IsReported (stands : List Notice → Type 0) (tells : Type 0) (span : Span) (taken_at : ℕ → Takes) (given_at : ℕ → List (ℕ × List ℕ)) (c : Conf) (end : End) (printed : List ℕ) (tallies : List LegTally) : Type 0 where
+  tapped : WasTapped stands tells span taken_at given_at c end printed
+  many : length tallies ≡ length c.legs
+  counted : AreTallies c tapped.was.takes tallies
 
 module _ {I O T K : Type 0} (i : ins.Ghosts I) (o : outs.Ghosts O K) (stands : List Notice → Type 0) (tells : Type 0) (c : Conf) (span : Span) (opened : ℕ → Bool) (called : Called I O T) (w : IsCalled i o stands tells c span opened called) where
   pub each_heard : (end : LiveEnd) → answer_of called.turned ≡ Ok end → length called.listeners.items ≡ length c.legs
@@ -176,13 +184,14 @@ module _ {I O T K : Type 0} (i : ins.Ghosts I) (o : outs.Ghosts O K) (stands : L
     lies_there : tells → AtPorts c given_at (at_link o.given called.ends.items)
     lies_there t = at_ports c links o.port called.ends.items w.many_ends w.ends_at o.given opened given_at (at_link o.given called.ends.items) (w.are_open t) (stored_ends t) (λ j link e. sym (ap (λ (x : Option O). option_map_or o.given x []) e))
 
-    pub was_served : (end : LiveEnd) (printed : List ℕ) → answer_of called.turned ≡ Ok end → ArePrintedOf c called.listeners.items (end_of end) printed → WasTapped stands tells span taken_at given_at c (end_of end) printed
+    was_served : (end : LiveEnd) (printed : List ℕ) (tallies : List LegTally) → answer_of called.turned ≡ Ok end → ArePrintedOf c called.listeners.items tallies (end_of end) printed → tallies ≡ tallies_in called.legs.items → IsReported stands tells span taken_at given_at c (end_of end) printed tallies
     unfolding prints_so ended_call
-    was_served end printed e shown =
+    was_served end printed tallies e shown counts =
         let v = ended_call i o stands tells c span called.legs.items called.ends.items called.listeners.items called.turned end w.ended e in
-        let is : printed ≡ live_printed c v.given (end_of end) = shown v.given v.heard in
+        let are : AreTallies c v.takes tallies = subst (λ (xs : List LegTally). AreTallies c v.takes xs) (sym counts) v.tallied in
+        let is : printed ≡ live_printed c v.takes v.given (end_of end) = shown v.takes v.given are v.heard in
         let served : IsServed c v.takes v.given (end_of end) printed = prints_so c v.takes v.given (end_of end) printed v.served is in
-        record {
+        let tapped : WasTapped stands tells span taken_at given_at c (end_of end) printed = record {
           was = record {
             takes = v.takes;
             given = v.given;
@@ -194,6 +203,11 @@ module _ {I O T K : Type 0} (i : ins.Ghosts I) (o : outs.Ghosts O K) (stands : L
             paced = λ t. paced_at c links v.served.table span (at_link o.given called.ends.items) given_at (lies_there t) (v.paced t);
           };
           told = v.told;
+        } in
+        record {
+          tapped = tapped;
+          many = ap (λ (xs : List LegTally). length xs) counts ∙ (map_long (λ (leg : LinkLeg I). leg.tally) called.legs.items ∙ w.many_legs);
+          counted = are;
         }
 
     pub broke_off : (before : ℕ → List (ℕ × List ℕ)) → BrokeOff tells span before taken_at given_at c
@@ -206,7 +220,7 @@ module _ {I O T K : Type 0} (i : ins.Ghosts I) (o : outs.Ghosts O K) (stands : L
             takes = b.takes;
             given = b.given;
             served = b.served;
-            keeps = λ octets read. head_law octets c b.takes b.given Broken (live_printed c b.given Broken) read b.served;
+            keeps = λ octets read. head_law octets c b.takes b.given Broken (live_printed c b.takes b.given Broken) read b.served;
             now = b.now;
             taken = λ t. at_ports c links in_port legs w.many_legs w.legs_at (λ (leg : LinkLeg I). i.taken (link_in leg)) opened taken_at b.takes (w.are_open t) (stored_legs t) (b.taken t);
             gave = λ t j line p at e.
@@ -265,14 +279,29 @@ same_span g first opened called last pauses began ended =
     ∙ ap (λ (n : ℕ). span_from (g.pauses first) (g.moment first) n) (sym ended))
 
 module _ {I O T K : Type 0} (i : ins.Ghosts I) (o : outs.Ghosts O K) (stands : List Notice → Type 0) (tells : Type 0) (c : Conf) (span : Span) (opened : ℕ → Bool) (called : Called I O T) (w : IsCalled i o stands tells c span opened called) (links : IsOfLinks c) where
+  reported_by : (first : Span) → span ≡ first → (open_then : ℕ → Bool) (taken_then taken_at : ℕ → Takes) (given_at : ℕ → List (ℕ × List ℕ))
+      → (tells → AreStored (λ (leg : LinkLeg I). i.taken (link_in leg)) (λ (leg : LinkLeg I). i.port (link_in leg)) opened taken_then called.legs.items)
+      → (tells → (p : ℕ) → taken_at p ≡ taken_then p) → (tells → (p : ℕ) → open_then p ≡ opened p) → (tells → AreStored o.given o.port open_then given_at called.ends.items)
+      → (end : LiveEnd) (printed : List ℕ) (tallies : List LegTally) → answer_of called.turned ≡ Ok end → ArePrintedOf c called.listeners.items tallies (end_of end) printed → tallies ≡ tallies_in called.legs.items → IsReported stands tells first taken_at given_at c (end_of end) printed tallies
+  reported_by first same open_then taken_then taken_at given_at legs same_taken same_open ends end printed tallies e shown counts =
+      subst (λ (n : Span). IsReported stands tells n taken_at given_at c (end_of end) printed tallies) same
+      (was_served i o stands tells c span opened called w links taken_at given_at (λ t own j leg at is. same_taken t (i.port (link_in leg)) ∙ legs t own j leg at is)
+      (λ t own j link at is. ends t own j link at (same_open t (o.port link) ∙ is)) end printed tallies e shown counts)
+
   pub served_by : (first : Span) → span ≡ first → (open_then : ℕ → Bool) (taken_then taken_at : ℕ → Takes) (given_at : ℕ → List (ℕ × List ℕ))
       → (tells → AreStored (λ (leg : LinkLeg I). i.taken (link_in leg)) (λ (leg : LinkLeg I). i.port (link_in leg)) opened taken_then called.legs.items)
       → (tells → (p : ℕ) → taken_at p ≡ taken_then p) → (tells → (p : ℕ) → open_then p ≡ opened p) → (tells → AreStored o.given o.port open_then given_at called.ends.items)
-      → (end : LiveEnd) (printed : List ℕ) → answer_of called.turned ≡ Ok end → ArePrintedOf c called.listeners.items (end_of end) printed → WasTapped stands tells first taken_at given_at c (end_of end) printed
-  served_by first same open_then taken_then taken_at given_at legs same_taken same_open ends end printed e shown =
-      subst (λ (n : Span). WasTapped stands tells n taken_at given_at c (end_of end) printed) same
-      (was_served i o stands tells c span opened called w links taken_at given_at (λ t own j leg at is. same_taken t (i.port (link_in leg)) ∙ legs t own j leg at is)
-      (λ t own j link at is. ends t own j link at (same_open t (o.port link) ∙ is)) end printed e shown)
+      → (end : LiveEnd) (printed : List ℕ) (tallies : List LegTally) → answer_of called.turned ≡ Ok end → ArePrintedOf c called.listeners.items tallies (end_of end) printed → tallies ≡ tallies_in called.legs.items → WasTapped stands tells first taken_at given_at c (end_of end) printed
+  served_by first same open_then taken_then taken_at given_at legs same_taken same_open ends end printed tallies e shown counts =
+      (reported_by first same open_then taken_then taken_at given_at legs same_taken same_open ends end printed tallies e shown counts).tapped
+
+  pub counted_by : (first : Span) → span ≡ first → (open_then : ℕ → Bool) (taken_then taken_at : ℕ → Takes) (given_at : ℕ → List (ℕ × List ℕ))
+      → (tells → AreStored (λ (leg : LinkLeg I). i.taken (link_in leg)) (λ (leg : LinkLeg I). i.port (link_in leg)) opened taken_then called.legs.items)
+      → (tells → (p : ℕ) → taken_at p ≡ taken_then p) → (tells → (p : ℕ) → open_then p ≡ opened p) → (tells → AreStored o.given o.port open_then given_at called.ends.items)
+      → (end : LiveEnd) (printed : List ℕ) (tallies : List LegTally) → answer_of called.turned ≡ Ok end → ArePrintedOf c called.listeners.items tallies (end_of end) printed → tallies ≡ tallies_in called.legs.items → WasCounted tells first taken_at given_at c (end_of end) printed tallies
+  counted_by first same open_then taken_then taken_at given_at legs same_taken same_open ends end printed tallies e shown counts =
+      let r = reported_by first same open_then taken_then taken_at given_at legs same_taken same_open ends end printed tallies e shown counts in
+      record { was = r.tapped.was; many = r.many; counted = r.counted }
 
   pub broke_off_by : (first : Span) → span ≡ first → (open_then : ℕ → Bool) (taken_then taken_at : ℕ → Takes) (given_at : ℕ → List (ℕ × List ℕ))
       → (tells → AreStored (λ (leg : LinkLeg I). i.taken (link_in leg)) (λ (leg : LinkLeg I). i.port (link_in leg)) opened taken_then called.legs.items)

@@ -14,6 +14,7 @@ use Rattle.link_io.specs.Given.{given_by, packets}
 use Rattle.link_io.specs.declared.ends.LinkIn as ins
 use Rattle.link_io.specs.declared.ends.LinkOut as outs
 use Rattle.live_leg.specs.declared.legs.LinkLeg.{LinkLeg}
+use Rattle.live_leg.specs.declared.tallies.LegTally.{LegTally}
 use Rattle.live_loop.specs.Clocks.{AtTicks, RiseTo, moments_of}
 use Rattle.live_loop.specs.Order.{up_to_turn}
 use Rattle.live_loop.specs.declared.turns.Turned.{Turned}
@@ -30,6 +31,7 @@ use Rattle.live_run.specs.Ends.{packets_in}
 use Rattle.live_run.specs.Listeners.{HasHeard, Listening}
 use Rattle.live_run.specs.Opened.{AreCalm, AreUnused, HavePorts, link_in, port_of}
 use Rattle.live_run.specs.Spans.{Span}
+use Rattle.live_run.specs.Tallies.{AreTallies, tallies_in}
 use Rattle.live_run.specs.Taps.{Notice, Shows, chunks_of, notices_by}
 
 -- ---- conferences
@@ -109,7 +111,7 @@ module _ {I O K : Type 0} (i : ins.Ghosts I) (o : outs.Ghosts O K) (tells : Type
   pub record IsBrokenOff (legs : List (LinkLeg I)) (links : List O) : Type 0 where
     pub takes : ℕ → Takes
     pub given : ℕ → List (List ℕ)
-    pub served : IsServed c takes given Broken (live_printed c given Broken)
+    pub served : IsServed c takes given Broken (live_printed c takes given Broken)
     pub now : ℕ
     pub taken : tells → (j : ℕ) (leg : LinkLeg I) → slice_get legs j ≡ Some leg → i.taken leg.link ≡ takes j
     pub gave : tells → (j : ℕ) (link : O) (line : LegLine) → slice_get links j ≡ Some link → leg_at c.legs j ≡ Some line
@@ -130,9 +132,10 @@ module _ {I O K : Type 0} (i : ins.Ghosts I) (o : outs.Ghosts O K) (stands : Lis
     -- No outbound end failed, and at `Closed` no inbound end did.
     pub calm_ends : AreCalm o.faults links
     pub calm_legs : end ≡ served.Closed → AreCalm (λ (leg : LinkLeg I). i.faults (link_in leg)) legs
-    pub served : IsServed c takes given end (live_printed c given end)
+    pub served : IsServed c takes given end (live_printed c takes given end)
     pub many : length listeners ≡ length c.legs
     pub heard : (j : ℕ) (l : Listening) → slice_get listeners j ≡ Some l → HasHeard l (given j)
+    pub tallied : AreTallies c takes (tallies_in legs)
     pub taken : tells → (j : ℕ) (leg : LinkLeg I) → slice_get legs j ≡ Some leg → i.taken leg.link ≡ takes j
     pub gave : tells → (j : ℕ) (link : O) → slice_get links j ≡ Some link → packets_in o.given link ≡ given j
     pub told : WasTold stands c served.table
@@ -175,6 +178,12 @@ pub record WasServed (tells : Type 0) (span : Span) (taken_at : ℕ → Takes) (
   pub gave : tells → AtPorts c (packets_in given_at) given
   pub paced : tells → WasPaced c served.table span (at_ports_of c given_at)
 
+-- The same, where each leg counted what came of its link.
+pub record WasCounted (tells : Type 0) (span : Span) (taken_at : ℕ → Takes) (given_at : ℕ → List (ℕ × List ℕ)) (c : Conf) (end : End) (printed : List ℕ) (tallies : List LegTally) : Type 0 where
+  pub was : WasServed tells span taken_at given_at c end printed
+  pub many : length tallies ≡ length c.legs
+  pub counted : AreTallies c was.takes tallies
+
 -- The same, where the tap was told what the mixer took, and of its turns.
 pub record WasTapped (stands : List Notice → Type 0) (tells : Type 0) (span : Span) (taken_at : ℕ → Takes) (given_at : ℕ → List (ℕ × List ℕ)) (c : Conf) (end : End) (printed : List ℕ) : Type 0 where
   pub was : WasServed tells span taken_at given_at c end printed
@@ -186,8 +195,8 @@ pub record WasTapped (stands : List Notice → Type 0) (tells : Type 0) (span : 
 pub record WasBroken (tells : Type 0) (span : Span) (taken_at : ℕ → Takes) (given_at : ℕ → List (ℕ × List ℕ)) (c : Conf) : Type 0 where
   pub takes : ℕ → Takes
   pub given : ℕ → List (List ℕ)
-  pub served : IsServed c takes given Broken (live_printed c given Broken)
-  pub keeps : (octets : List ℕ) → conf Links octets ≡ Ok c → HeadLive c takes given Broken (live_printed c given Broken)
+  pub served : IsServed c takes given Broken (live_printed c takes given Broken)
+  pub keeps : (octets : List ℕ) → conf Links octets ≡ Ok c → HeadLive c takes given Broken (live_printed c takes given Broken)
   pub now : ℕ
   pub taken : tells → AtPorts c taken_at takes
   pub gave : tells → (j : ℕ) (line : LegLine) (p : ℕ) → leg_at c.legs j ≡ Some line → port line.input ≡ Some p

@@ -1,4 +1,5 @@
 pub mod Speakers
+pub mod Tallies
 pub mod Listeners
 pub mod Ends
 pub mod Outputs

@@ -3,11 +3,14 @@ use Rattle.std.specs.Prelude.{◌≡◌, ℕ, ◌<◌, Bool, Some, List, ◌∷�
 use Rattle.file_spec.specs.declared.conf_lines.LegLine.{LegLine}
 use Rattle.file_spec.specs.Conf.{Conf}
 use Rattle.mixer_spec.specs.Setups.{leg_at}
+use Rattle.link_spec.specs.Links.{Takes}
+use Rattle.live_leg.specs.declared.tallies.LegTally.{LegTally}
 use Rattle.terminal.specs.declared.confs.TermConf.{TermConf}
 use Rattle.terminal.specs.declared.terminals.Terminal.{Terminal}
 use Rattle.terminal.specs.Terminals.{Heard, IsWhole, Listens, counts_of}
 use Rattle.serve_spec.specs.Served.{End, came_at_once, live_printed, live_view, live_views}
 use Rattle.rtt_base.specs.declared.limits.TheConstants.{MOST_ARRIVALS}
+use Rattle.live_run.specs.Tallies.{AreTallies}
 
 -- a terminal, and what it was made with
 pub record Listening : Type 0 where
@@ -51,7 +54,8 @@ abbrev pub AreViewsOf : Conf → List Listening → List ℕ → Type 0
 AreViewsOf c listeners views =
     (given : ℕ → List (List ℕ)) → ((j : ℕ) (l : Listening) → slice_get listeners j ≡ Some l → HasHeard l (given j)) → views ≡ live_views c given
 
--- this is printed of them, and of how the call ended
-abbrev pub ArePrintedOf : Conf → List Listening → End → List ℕ → Type 0
-ArePrintedOf c listeners end printed =
-    (given : ℕ → List (List ℕ)) → ((j : ℕ) (l : Listening) → slice_get listeners j ≡ Some l → HasHeard l (given j)) → printed ≡ live_printed c given end
+-- this is printed of them, of how the call ended, and of what was counted
+abbrev pub ArePrintedOf : Conf → List Listening → List LegTally → End → List ℕ → Type 0
+ArePrintedOf c listeners tallies end printed =
+    (takes : ℕ → Takes) (given : ℕ → List (List ℕ)) → AreTallies c takes tallies
+    → ((j : ℕ) (l : Listening) → slice_get listeners j ≡ Some l → HasHeard l (given j)) → printed ≡ live_printed c takes given end

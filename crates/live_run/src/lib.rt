@@ -14,6 +14,7 @@ mod rooms;
 mod running;
 mod serving;
 mod speakers;
+mod tallies;
 mod tapped;
 mod taps;
 mod views;

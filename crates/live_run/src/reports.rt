@@ -2,6 +2,9 @@
 ghost use Rattle.std.specs.Prelude.{◌≡◌, ◌<◌, ◌≤◌, [], ◌++◌, length, OnOk};
 ghost use Rattle.std.specs.List.{concat};
 
+use arrayvec::ArrayVec;
+use file_spec::limits::MOST_LINKS;
+use live_leg::LegTally;
 use rtt_base::{Bytes, NoMemory};
 use std::alloc::Global;
 use std::marker::Model;
@@ -82,9 +85,11 @@ impl Views {
     }
 }
 
-/// How a live call ended, and what is printed then: what each terminal shows, and how it ended.
+/// How a live call ended, what is printed then (what each terminal shows, how it ended, and what was counted, where that is asked
+/// for), and what each leg counted, in leg order.
 #[derive(Debug, Drop)]
 pub struct LiveReport {
     pub end: LiveEnd,
     pub views: Views,
+    pub tallies: ArrayVec<LegTally, MOST_LINKS>,
 }

@@ -4,13 +4,14 @@ ghost use Rattle.link_io.specs.Ports.{NoneFalls, Same};
 ghost use Rattle.conference.specs.Conferences.{conf_of};
 ghost use Rattle.live_loop.specs.Clocks.{IsPaced};
 ghost use Rattle.live_loop.specs.Walks.{IsPaused};
-ghost use Rattle.live_run.specs.Calls.{BrokeOff, IsOfLinks, WasGivenUp, WasServed, WasTapped, answer_of};
+ghost use Rattle.live_run.specs.Calls.{BrokeOff, IsOfLinks, WasCounted, WasGivenUp, WasServed, WasTapped, answer_of};
 ghost use Rattle.live_run.specs.Spans.{span_of};
 ghost use Rattle.live_run.specs.Opened.{LeadsAll, LeadsSome};
 ghost use Rattle.live_run.specs.Reports.{end_of};
 
 use crate::calls::{Called, call};
 use crate::opening::{close_ends, close_legs, open_links};
+use crate::tallies::tallies_of;
 use crate::{LiveEnd, LiveFault, LiveReport, NoTap, Tap, printed};
 use conference::Conf;
 use link_io::Links;
@@ -51,6 +52,8 @@ pub fn serve<R: Threads + Wait + Sync, W: Links, G: Gate + Sync>(
     requires { IsOfLinks (conf_of conf.now) }
     ensures served { IfOk result (λ report. WasServed W.tells (span_of W.Links world.old world.new)
         (W.taken_at world.new) (W.given_at world.new) (conf_of conf.now) (end_of report.end) report.views) }
+    ensures counted { IfOk result (λ report. WasCounted W.tells (span_of W.Links world.old world.new)
+        (W.taken_at world.new) (W.given_at world.new) (conf_of conf.now) (end_of report.end) report.views report.tallies.items) }
     ensures given_up { IfErr result (WasGivenUp (W.own_faults world.old) (W.own_faults world.new)
         (W.object_faults world.old) (W.object_faults world.new) (conf_of conf.now)) }
     ensures broke_off { OnErr result (BrokeOff W.tells (span_of W.Links world.old world.new) (W.given_at world.old)
@@ -85,6 +88,8 @@ pub fn serve_tapped<R: Threads + Wait + Sync, W: Links, G: Gate + Sync, T: Tap>(
     requires told { T.stands tap [] }
     ensures tapped { IfOk result.0 (λ report. WasTapped (T.stands result.1) W.tells (span_of W.Links world.old world.new)
         (W.taken_at world.new) (W.given_at world.new) (conf_of conf.now) (end_of report.end) report.views) }
+    ensures counted { IfOk result.0 (λ report. WasCounted W.tells (span_of W.Links world.old world.new)
+        (W.taken_at world.new) (W.given_at world.new) (conf_of conf.now) (end_of report.end) report.views report.tallies.items) }
     ensures given_up { IfErr result.0 (WasGivenUp (W.own_faults world.old) (W.own_faults world.new)
         (W.object_faults world.old) (W.object_faults world.new) (conf_of conf.now)) }
     ensures broke_off { OnErr result.0 (BrokeOff W.tells (span_of W.Links world.old world.new) (W.given_at world.old)
@@ -115,14 +120,22 @@ pub fn serve_tapped<R: Threads + Wait + Sync, W: Links, G: Gate + Sync, T: Tap>(
         listeners,
         tap,
     } = call(rt, alloc, conf, opened, stop, world, gate, STACK, tap);
+    let tallies = tallies_of(legs.as_slice());
     close_legs(legs, world);
     close_ends(ends, world);
     let end = match answer_of(turned) {
         Ok(end) => end,
         Err(fault) => return (Err(fault), tap),
     };
-    match printed(alloc, conf, listeners, end) {
-        Ok(views) => (Ok(LiveReport { end, views }), tap),
+    match printed(alloc, conf, listeners, tallies.as_slice(), end) {
+        Ok(views) => (
+            Ok(LiveReport {
+                end,
+                views,
+                tallies,
+            }),
+            tap,
+        ),
         Err(NoMemory) => (Err(LiveFault::NoMemory), tap),
     }
 }

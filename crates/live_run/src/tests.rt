@@ -315,6 +315,26 @@ fn who_is_not_named_is_shown_in_the_leg(rt: HostRuntime) -> Result<(), Fail> {
     Ok(())
 }
 
+/// The call of two, whose counts are asked for.
+const COUNTED: &[u8] = b"leg Ann aware 1001 5004 127.0.0.1:6004\n\
+    leg Bob aware 1002 5006 127.0.0.1:6006\n\
+    mixer 9000 100 5000\n\
+    counts\n";
+
+#[test]
+fn counts_that_are_asked_for_stand_behind_the_end(rt: HostRuntime) -> Result<(), Fail> {
+    let shown = b"== Ann aware\nBob: \n-- Bob bells 0\n\
+        -- packets 0 used 0 refused 0 foreign 0\n\
+        == Bob aware\nAnn: A\n-- Ann bells 0\n\
+        -- packets 3 used 3 refused 0 foreign 0\n\
+        -- live closed\n\
+        -- Ann came 1 text 1 refused 0 foreign 0 senders 1\n\
+        -- Bob came 0 text 0 refused 0 foreign 0 senders 0\n";
+    let comings = [LETTER_COMES, ANN_CLOSES, BOB_CLOSES];
+    assert!(rt; prints(&rt, rt.alloc(), COUNTED, &comings, shown)?);
+    Ok(())
+}
+
 /// Whether Bob's link is what a call ends with, where this call fails.
 fn fails_at_bob<R: Threads + Wait + Sync>(
     rt: &R,

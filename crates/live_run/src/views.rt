@@ -6,8 +6,10 @@ ghost use Rattle.serve_spec.specs.Served.{end_line};
 ghost use Rattle.live_run.specs.Reports.{end_of};
 
 use crate::speakers::conf_at;
+use crate::tallies::append_counted;
 use crate::{Listener, LiveEnd, Views};
 use conference::{Conf, others};
+use live_leg::LegTally;
 use rtt_base::{Bytes, NoMemory};
 use std::alloc::Global;
 use terminal::View;
@@ -110,17 +112,21 @@ fn end_line(end: LiveEnd) -> &'static [u8]
     }
 }
 
-/// What is printed of a conference, whose call ended so: what is seen at its terminals, in leg order, and how it ended.
+/// What is printed of a conference, whose call ended so: what is seen at its terminals, in leg order, how it ended, and, where that is
+/// asked for, what each leg counted.
 pub fn printed(
     alloc: Global,
     conf: &Conf,
     listeners: Vec<Listener>,
+    tallies: &[LegTally],
     end: LiveEnd,
 ) -> Result<Views, NoMemory>
     requires each { length listeners.items ≡ length conf.now.legs }
-    ensures { IfOk result (ArePrintedOf (conf_of conf.now) listeners.items (end_of end)) }
+    requires tallied { length tallies.now ≡ length conf.now.legs }
+    ensures { IfOk result (ArePrintedOf (conf_of conf.now) listeners.items tallies.now (end_of end)) }
 {
     let mut printed = views_of(alloc, conf, listeners)?;
     printed.append(alloc, end_line(end))?;
+    append_counted(alloc, conf, tallies, &mut printed)?;
     Ok(printed)
 }

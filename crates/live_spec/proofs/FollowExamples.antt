@@ -13,24 +13,24 @@ use Rattle.link_spec.specs.Links as link
 use Rattle.live_spec.specs.Told.{Hearing, all_by, heard_told, ready_by, told_by}
 
 -- Ann is named with the SSRC 1001, and followed
-abbrev ann : Hearing
+abbrev pub ann : Hearing
 ann = record { leg = 0; ssrc = 1001; pts = record { t140 = 98; red = 100 }; wait = 1000; follow = true }
 
 -- at the moment t, of this SSRC, with this number, this letter
-abbrev letter : ℕ → ℕ → ℕ → ℕ → Taken
+abbrev pub letter : ℕ → ℕ → ℕ → ℕ → Taken
 letter t ssrc number octet = record {
   at = t;
   came = link.Datagram (0x80 ∷ 0x62 ∷ 0x00 ∷ number ∷ 0x00 ∷ 0x00 ∷ 0x00 ∷ number ∷ 0x00 ∷ 0x00 ∷ 0x00 ∷ ssrc ∷ octet ∷ []);
 }
 
-abbrev closed : ℕ → Taken
+abbrev pub closed : ℕ → Taken
 closed t = record { at = t; came = link.Closed }
 
 -- ---- *started-again*: SSRC 5 types AB and is gone, SSRC 6 types CD from number 0 on
 abbrev first : Takes
 first = letter 100 5 1 0x42 ∷ letter 0 5 0 0x41 ∷ []
 
-abbrev again : Takes
+abbrev pub again : Takes
 again = letter 5100 6 1 0x44 ∷ letter 5000 6 0 0x43 ∷ first
 
 started_again : all_by ann again ≡ chunk 0 0 (codes "A") ∷ chunk 0 100 (codes "B") ∷ chunk 0 5000 marker ∷ chunk 0 5000 (codes "C") ∷ chunk 0 5100 (codes "D") ∷ []

@@ -4,4 +4,6 @@ pub mod Texts
 pub mod Fronts
 pub mod Senders
 mod Parts
+pub mod Tallies
 mod FollowExamples
+mod TallyExamples

@@ -1,4 +1,5 @@
 //! What holds of what is heard of a leg over a link. No code stands here.
+ghost use Rattle.live_spec.specs.TallyLaws.{TalliesAddUp};
 ghost use Rattle.live_spec.specs.ToldLaws.{FirstHopInParts, FormersStay, ReadyIsFront, ReadyStays, SendersTakeOver, TextsAreHeard, Unfollowed};
 
 /// What is heard of a leg, followed or not: the texts of its chunks; what is ready of these comes first, and stays. A leg that is
@@ -20,4 +21,10 @@ pub fn senders_take_over()
 /// marker between.
 pub fn parts_are_kept()
     ensures { FirstHopInParts }
+{}
+
+/// Each datagram that comes is counted once, and by one cause; what is counted as text are the packets of those who are heard, and
+/// these are the senders. A leg that is not followed has one at most.
+pub fn tallies_add_up()
+    ensures { TalliesAddUp }
 {}

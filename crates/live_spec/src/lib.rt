@@ -3,4 +3,4 @@
 
 mod laws;
 
-pub use laws::{live_is_heard, parts_are_kept, senders_take_over};
+pub use laws::{live_is_heard, parts_are_kept, senders_take_over, tallies_add_up};

@@ -71,9 +71,9 @@ fn serve_on<B: OnBoard, R: Threads + Wait + Sync, W: Links, G: Gate + Sync>(
     (served, writer)
 }
 
-/// Serves a live call of a conference of links with a board, from which a thread reads while it runs. Behind what the terminals
-/// show and how the call ended stand how many octets of each leg's text are read there then: all that the mixer took. Where the
-/// thread cannot be started, only this last is read. All else is as `live_run::serve` has it.
+/// Serves a live call of a conference of links with a board, from which a thread reads while it runs. Behind what is printed of any
+/// call stands how many octets of each leg's text are read there then: all that the mixer took. Where the thread cannot be started,
+/// only this last is read. All else is as `live_run::serve` has it.
 #[tactic(auto, using(crate::proofs::Leading::some_none, crate::proofs::Leading::some_all, crate::proofs::Breaking::none_given))]
 pub fn serve_watched<
     R: Threads + Wait + Clock + Copy + Send + Sync + 'static,

@@ -1,8 +1,9 @@
 -- What is concluded of a run of `mix` that ended with 0, from `Runs` alone.
-use Rattle.std.specs.Prelude.{ℕ, Some}
+use Rattle.std.specs.Prelude.{ℕ, Some, ◌++◌}
 use Rattle.stream_spec.specs.History.{History}
 use Rattle.mixer_spec.specs.Setups.{AllStay}
 use Rattle.mixer_spec.specs.Bridged.{IsPair}
+use Rattle.command_spec.specs.Mixing.{counted}
 use Rattle.command_spec.specs.Bridges.{Bridge, IsFrom, IsMixedFrom, inward, onward_from, setup_of, views_behind}
 use Rattle.rtt_words.specs.Words.{MixWords, Mix}
 use Rattle.rtt_top.specs.Outside.{Outside, Output}
@@ -13,7 +14,7 @@ use Rattle.promise_tests.specs.Typed.{IsAllTyped, IsOnlyTyped}
 pub record TellsWhatWasTyped (OutTells : Type 0) (m : MixWords) (old new : Outside) : Type 0 where
   pub bridge : Bridge
   pub mixed : IsMixedFrom old.contents m.conf bridge
-  pub prints : OutTells → Prints (views_behind bridge) old new
+  pub prints : OutTells → Prints (views_behind bridge ++ counted bridge.conference bridge.inputs) old new
   pub only : (j i : ℕ) → IsPair (setup_of bridge) j i → (h : History) → IsFrom bridge i h
       → IsOnlyTyped (inward bridge i h) (onward_from bridge j i)
   pub whole : AllStay (setup_of bridge) → (j i : ℕ) → IsPair (setup_of bridge) j i → (h : History) → IsFrom bridge i h

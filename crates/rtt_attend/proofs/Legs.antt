@@ -13,7 +13,7 @@ use Rattle.mixer_spec.specs.Bridged.{input_limit, leg_chunks}
 use Rattle.mixer_spec.specs.Plain.{plain}
 use Rattle.mixer_spec.specs.Setups.{setup}
 use Rattle.command_spec.specs.Work.{Contents}
-use Rattle.command_spec.specs.Mixing.{input_at, makes}
+use Rattle.command_spec.specs.Mixing.{hears_of, input_at, makes}
 use Rattle.command_spec.specs.Attending.{named, named_by, says_of}
 use Rattle.command_spec.proofs.Naming.{same_named}
 use Rattle.leg_items.specs.Answers.{read_well}
@@ -28,7 +28,8 @@ use Rattle.bridge_run.proofs.Handing.{input_is}
 use Rattle.bridge_run.proofs.Answering.{broken_steps, leg_within}
 use Rattle.rtt_attend.specs.declared.said.Said.{Said}
 use Rattle.rtt_attend.specs.Heard.{Hears, IsRead}
-use Rattle.rtt_attend.specs.Opened.{AreFresh, AreHeard, AreInputs, AreUnheard, HearsLeg, IsInput, IsUnheard}
+use Rattle.view_spec.specs.Tallies.{tally_at}
+use Rattle.rtt_attend.specs.Opened.{heard_as, AreFresh, AreHeard, AreInputs, AreUnheard, HearsLeg, IsInput, IsUnheard}
 use Rattle.rtt_attend.specs.Named.{AreTold, IsNamed, or_nothing, says_in}
 use Rattle.rtt_attend.proofs.Lists.{in_rest, same_function}
 
@@ -66,10 +67,10 @@ module _ {S : Type 0} (tells : Type 0) (left : S → List ℕ) (faults : S → �
 
   -- what is heard of an opened input is heard of its leg
   pub hears_leg : (limit : ℕ) (held : Contents) (legs : List LegLine) (k : ℕ) (leg : LegLine) (s : S) (result : Result Said DumpFault) → leg_at legs k ≡ Some leg → IsInput tells left faults name_of held leg s
-      → tells → Hears limit leg.ssrc (left s) result → HearsLeg limit held legs k result
+      → tells → Hears limit (hears_of leg) (left s) result → HearsLeg limit held legs k result
   hears_leg limit held legs k leg s result at is t hears =
-      subst (λ (o : Option LegLine). Hears limit (ssrc_of o) (input_at (inputs_under held legs) k) result) (sym at)
-      (subst (λ (octets : List ℕ). Hears limit leg.ssrc octets result) (input_is held legs k leg (left s) at (is.told t)) hears)
+      subst (λ (o : Option LegLine). Hears limit (heard_as o) (input_at (inputs_under held legs) k) result) (sym at)
+      (subst (λ (octets : List ℕ). Hears limit (hears_of leg) octets result) (input_is held legs k leg (left s) at (is.told t)) hears)
 
   -- ---- a source that was read and handed back
   module _ (result : Result Said DumpFault) (old new : S) (objects objects_then : List ℕ → ℕ) (read : IsRead faults name_of result old new) (fresh : faults old ≡ 0) where
@@ -132,7 +133,7 @@ module _ {S : Type 0} (tells : Type 0) (left : S → List ℕ) (faults : S → �
   -- the leg k, its input and what was heard of those before it; what is counted at first, before it is read, behind that and last
   module _ (limit : ℕ) (held now : Contents) (legs : List LegLine) (k : ℕ) (leg : LegLine) (s : S) (all : List Said) (fault : DumpFault) (objects objects_now objects_read objects_then : List ℕ → ℕ)
       (at : leg_at legs k ≡ Some leg) (is : IsInput tells left faults name_of held leg s) (many : length all ≡ k) where
-    pub unheard : (tells → AreHeard limit held legs all) → (tells → Hears limit leg.ssrc (left s) (Err fault)) → (is_of_source fault.kind ≡ true → RoseAt objects_now objects_read (name_of s))
+    pub unheard : (tells → AreHeard limit held legs all) → (tells → Hears limit (hears_of leg) (left s) (Err fault)) → (is_of_source fault.kind ≡ true → RoseAt objects_now objects_read (name_of s))
         → (is_of_source fault.kind ≡ false → (n : List ℕ) → objects_read n ≡ objects_now n) → (tells → IsSome (now (name_of s)) → (n : List ℕ) → n ≢ name_of s → objects_read n ≡ objects_now n)
         → ((n : List ℕ) → objects_now n ≡ objects n) → ((n : List ℕ) → objects_then n ≡ objects_read n) → (tells → (n : List ℕ) → now n ≡ held n)
         → IsUnheard tells objects objects_then held limit legs k fault
@@ -179,6 +180,7 @@ module _ (held : Contents) (c : Conf) where
     lie = lie;
     whole = λ k less. whole_below (input_limit c) held c.legs all are k (omega (arith, less, many));
     says = λ k less. (let p = is_there all k (omega (arith, less, many)) in ap or_nothing p.1 ∙ (are k p.0 p.1).0);
+    counts = λ k said leg at is. (are k said at).2 ∙ ap (λ (o : Option LegLine). tally_at (heard_as o) (dump (input_limit c) (input_at (inputs_under held c.legs) k)).items) is;
   }
 
   pub is_named : (all : List Said) (new : Conf) → AreTold held c all → new ≡ named_by (says_in all) c → IsNamed held c new

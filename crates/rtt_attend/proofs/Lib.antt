@@ -1,3 +1,5 @@
+mod Tallying
+mod Lines
 mod Records
 mod Lists
 mod Legs

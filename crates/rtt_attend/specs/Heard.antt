@@ -2,6 +2,8 @@
 use Rattle.std.specs.Prelude.{◌≡◌, ℕ, Bool, true, false, None, Some, Option, List, Result, Ok, Err, IfErr, if◌then◌else◌}
 use Rattle.wire_spec.specs.Dump.{Recording, dump}
 use Rattle.rtcp_spec.specs.Recorded.{Entry}
+use Rattle.view_spec.specs.Seen.{Reception}
+use Rattle.view_spec.specs.Tallies.{tally_at}
 use Rattle.rtt_io.specs.Counts.{Rose}
 use Rattle.rtcp_spec.specs.Rtcp.{rtcp}
 use Rattle.rtpdump_io.specs.declared.items.DumpItem.{DumpItem}
@@ -33,15 +35,17 @@ abbrev pub TellsItem : ℕ → ℕ → DumpItem → List ℕ → Said → Said �
 TellsItem ssrc at item octets old new = said_of new ≡ (if is_rtcp item then and_read ssrc at (said_of old) (rtcp octets) else said_of old)
 
 -- ---- all of them
--- it is what these records tell of a sender, where their recording has no fault
-abbrev pub HearsAll : ℕ → List Entry → Recording → Result Said DumpFault → Type 0
-HearsAll ssrc records recording (Ok said) = (said_of said ≡ said_after ssrc 0 nothing records) × (recording.fault ≡ None)
-HearsAll ssrc records recording (Err fault) = IsFaultOf recording fault
+-- it is what these records tell of the sender that is heard, and what is counted of them, where their recording has no fault
+abbrev pub HearsAll : Reception → List Entry → Recording → Result Said DumpFault → Type 0
+HearsAll r records recording (Ok said) =
+    (said_of said ≡ said_after r.ssrc 0 nothing records) × (recording.fault ≡ None) × (said.tally ≡ tally_at r recording.items)
+HearsAll r records recording (Err fault) = IsFaultOf recording fault
 
--- it is what an input of these octets tells of its sender, where it can be read to its end
-abbrev pub Hears : ℕ → ℕ → List ℕ → Result Said DumpFault → Type 0
-Hears limit ssrc octets (Ok said) = (said_of said ≡ said_by limit ssrc octets) × ((dump limit octets).fault ≡ None)
-Hears limit ssrc octets (Err fault) = IsFaultOf (dump limit octets) fault
+-- it is what an input of these octets tells of its sender, and what is counted of it, where it can be read to its end
+abbrev pub Hears : ℕ → Reception → List ℕ → Result Said DumpFault → Type 0
+Hears limit r octets (Ok said) =
+    (said_of said ≡ said_by limit r.ssrc octets) × ((dump limit octets).fault ≡ None) × (said.tally ≡ tally_at r (dump limit octets).items)
+Hears limit r octets (Err fault) = IsFaultOf (dump limit octets) fault
 
 module _ {S : Type 0} where
   -- A source that was read is the one that it was. Where its reading failed, its count rose, and else it did not.

@@ -1,5 +1,10 @@
 -- What a conference is told of its legs, and why it may not be.
-use Rattle.std.specs.Prelude.{◌≡◌, ℕ, ◌<◌, None, Some, Option, List, length, slice_get, Err, if◌then◌else◌}
+use Rattle.std.specs.Prelude.{◌≡◌, ℕ, ◌<◌, None, Some, Option, List, length, slice_get, flat_map, take, Err, if◌then◌else◌}
+use Rattle.std.specs.List.{enumerate_from}
+use Rattle.file_spec.specs.declared.conf_lines.LegLine.{LegLine}
+use Rattle.mixer_spec.specs.Setups.{leg_at}
+use Rattle.view_spec.specs.Tallies.{tally_line}
+use Rattle.command_spec.specs.Mixing.{counted, leg_tally}
 use Rattle.file_spec.specs.Conf.{Conf, is_name}
 use Rattle.command_spec.specs.Work.{Contents}
 use Rattle.command_spec.specs.Attending as attending
@@ -27,6 +32,17 @@ pub record AreTold (held : Contents) (c : Conf) (all : List Said) : Type 0 where
   pub lie : AllLie held c.legs
   pub whole : WholeBelow (length c.legs) c (inputs_under held c.legs)
   pub says : (k : ℕ) → k < length c.legs → says_in all k ≡ says_of c (inputs_under held c.legs) k
+  pub counts : (k : ℕ) (said : Said) (leg : LegLine) → slice_get all k ≡ Some said → leg_at c.legs k ≡ Some leg
+      → said.tally ≡ leg_tally c (inputs_under held c.legs) k leg
+
+-- ---- what is counted
+-- the lines of the first legs, so many
+abbrev pub lines_below : Conf → List (List ℕ) → ℕ → List ℕ
+lines_below c inputs k = flat_map (λ x. tally_line x.1.name (leg_tally c inputs x.0 x.1)) (take k (enumerate_from 0 c.legs))
+
+-- what is counted of the inputs, where the conference asks for it
+abbrev pub AreCounted : Contents → Conf → List ℕ → Type 0
+AreCounted held c lines = lines ≡ counted c (inputs_under held c.legs)
 
 -- ---- what that makes of the conference
 -- It is named as its inputs tell, each of which can be read to its end.

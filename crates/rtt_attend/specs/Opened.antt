@@ -1,5 +1,5 @@
 -- The inputs of a conference's legs, opened, and what was heard of them.
-use Rattle.std.specs.Prelude.{◌≡◌, ℕ, ◌<◌, true, None, Some, List, slice_get, Result, Ok, Err}
+use Rattle.std.specs.Prelude.{◌≡◌, ℕ, ◌<◌, true, Option, None, Some, List, slice_get, Result, Ok, Err}
 use Rattle.std.specs.Global.{Vec}
 use Rattle.wire_spec.specs.Dump.{dump}
 use Rattle.rtpdump_io.specs.declared.items.DumpFault.{DumpFault}
@@ -7,6 +7,7 @@ use Rattle.rtpdump_io.specs.Reading.{is_of_source}
 use Rattle.file_spec.specs.declared.conf_lines.LegLine.{LegLine}
 use Rattle.mixer_spec.specs.Setups.{leg_at, ssrc_of}
 use Rattle.command_spec.specs.Work.{Contents}
+use Rattle.view_spec.specs.Seen.{Reception}
 use Rattle.command_spec.specs.Mixing.{input_at}
 use Rattle.leg_items.specs.Answers.{read_well}
 use Rattle.command_spec.specs.Inputs.{NoneFailedBelow, inputs_under}
@@ -33,9 +34,13 @@ module _ {S : Type 0} where
       → (leg : LegLine) × (leg_at legs j ≡ Some leg) × IsInput tells left faults name_of held leg s
 
 -- ---- by what lies under the inputs of these legs
+-- what the input of a leg is heard for; where there is none, for the SSRC 0 and types that no packet has
+abbrev pub heard_as : Option LegLine → Reception
+heard_as leg = record { ssrc = ssrc_of leg; pts = elim leg [ None ↦ record { t140 = 0; red = 0 } | Some line ↦ line.pts ]; wait = 0 }
+
 -- this was heard of the leg k
 abbrev pub HearsLeg : ℕ → Contents → List LegLine → ℕ → Result Said DumpFault → Type 0
-HearsLeg limit held legs k result = Hears limit (ssrc_of (leg_at legs k)) (input_at (inputs_under held legs) k) result
+HearsLeg limit held legs k result = Hears limit (heard_as (leg_at legs k)) (input_at (inputs_under held legs) k) result
 
 -- and this of the legs, in order
 abbrev pub AreHeard : ℕ → Contents → List LegLine → List Said → Type 0

@@ -1,4 +1,4 @@
-//! The inputs of a conference are heard.
+//! The inputs of a conference are heard: for names and leavings, or to be counted.
 ghost use Rattle.std.specs.Prelude.{◌≡◌, ◌≢◌, ◌<◌, ◌≤◌, [], length, IfOk, IfErr, OnOk, OnErr};
 ghost use Rattle.std.specs.Vec.{vec_capacity};
 ghost use Rattle.rtt_io.specs.Names.{CountsNoOther, NoneFalls, Same};
@@ -7,9 +7,12 @@ ghost use Rattle.wire_spec.specs.declared.limits.TheConstants.{MOST_RECORDING_OC
 ghost use Rattle.file_spec.specs.declared.limits.TheConstants.{MOST_LEGS};
 ghost use Rattle.conference.specs.Conferences.{conf_of};
 ghost use Rattle.bridge_run.specs.Mixes.{IsFirstIn, StopsIn};
+ghost use Rattle.command_spec.specs.Mixing.{counts_lines, hears_of};
 ghost use Rattle.rtt_attend.specs.Heard.{Hears};
 ghost use Rattle.rtt_attend.specs.Opened.{AreInputs, FailedIn, HeardIn, UnheardIn};
-ghost use Rattle.rtt_attend.specs.Named.{IsNamed, IsNamedSome, NoneFailedWith};
+ghost use Rattle.command_spec.specs.Inputs.{inputs_under};
+ghost use Rattle.command_spec.specs.Work.{Contents};
+ghost use Rattle.rtt_attend.specs.Named.{AreCounted, AreTold, IsNamed, IsNamedSome, NoneFailedWith};
 
 use crate::inputs::{Heard, hear_input};
 use crate::opening::{close_inputs, open_inputs};
@@ -20,9 +23,10 @@ use conference::Conf;
 use file_spec::LegLine;
 use rtcp_spec::Events;
 use rtpdump_io::DumpFault;
-use rtt_base::Packet;
+use rtt_base::{Bytes, NoMemory, Packet, TextPacket};
 use rtt_io::World;
 use std::alloc::Global;
+use t140_text::views::append_tally;
 
 /// What the input of a leg tells of it. Its source, of which nothing was read, is handed back.
 fn hear_leg<W: World>(
@@ -31,11 +35,12 @@ fn hear_leg<W: World>(
     source: W::Src,
     world: &mut W,
     octets: &mut Packet,
+    text: &mut TextPacket,
     events: &mut Events,
 ) -> Result<Said, DumpFault>
     requires limit { limit ≤ MOST_RECORDING_OCTETS }
     requires fresh { W.Src.faults source ≡ 0 }
-    ensures hears { W.Src.tells → Hears limit leg.now.ssrc (W.Src.left source) result }
+    ensures hears { W.Src.tells → Hears limit (hears_of leg.now) (W.Src.left source) result }
     ensures read { IfErr result (FailedIn W.object_faults (W.Src.name source) world.old world.new) }
     ensures calm { UnlessOfSource result (Same W.object_faults world.old world.new) }
     ensures no_other { W.tells → CountsNoOther W.contents W.object_faults (W.Src.name source)
@@ -44,7 +49,7 @@ fn hear_leg<W: World>(
     ensures same_own { Same W.own_faults world.old world.new }
     ensures same_contents { W.tells → Same W.contents world.old world.new }
 {
-    let Heard { source, said } = hear_input(source, leg.ssrc, limit, octets, events);
+    let Heard { source, said } = hear_input(source, leg.ssrc, leg.pts, limit, octets, text, events);
     world.done_src(source);
     said
 }
@@ -76,6 +81,7 @@ fn hear_inputs<W: World>(
     ensures same_contents { W.tells → Same W.contents world.old world.new }
 {
     let mut octets = Packet::new();
+    let mut text = TextPacket::default();
     let mut events = Events::new();
     let mut rest = sources.into_iter();
     while let Some(source) = rest.next() {
@@ -86,6 +92,7 @@ fn hear_inputs<W: World>(
             source,
             world,
             &mut octets,
+            &mut text,
             &mut events,
         ) {
             Ok(said) => all.push_reserved(said),
@@ -100,6 +107,40 @@ fn hear_inputs<W: World>(
     }
     rest.destroy_empty();
     Ok(all)
+}
+
+/// What the inputs of all legs tell of them, in leg order. All are opened before one is read, and each is handed back. A fault
+/// means what it means of a mixing of the same conference.
+fn hear_all<W: World>(alloc: Global, conf: &Conf, world: &mut W) -> Result<Vec<Said>, MixFault>
+    ensures told { W.tells → IfOk result (λ all. AreTold (W.contents world.old) (conf_of conf.now) all.items) }
+    ensures count { IfOk result (λ all. length all.items ≡ length conf.now.legs) }
+    ensures stops { IfErr result (StopsIn W.tells W.contents W.own_faults W.object_faults
+        world.old world.new (conf_of conf.now)) }
+    ensures in_time { IfErr result (λ fault. fault ≢ MixFault.TooLong) }
+    ensures none_failed { IfErr result (NoneFailedWith W.tells W.object_faults
+        world.old world.new (conf_of conf.now)) }
+    ensures first { IfErr result (IsFirstIn W.tells W.contents W.own_faults
+        world.old world.new conf.now.legs) }
+    ensures calm { OnOk result (Same W.object_faults world.old world.new) }
+    ensures opened { OnOk result (Same W.own_faults world.old world.new) }
+    ensures same_contents { W.tells → Same W.contents world.old world.new }
+    ensures calls_never_fall { NoneFalls W.own_faults world.old world.new }
+    ensures objects_never_fall { NoneFalls W.object_faults world.old world.new }
+{
+    let limit = input_limit(conf);
+    let lines = conf.legs.as_slice();
+    let Ok(all) = Vec::with_capacity(alloc, lines.len()) else {
+        return Err(MixFault::NoMemory);
+    };
+    let sources = match open_inputs(alloc, lines, world) {
+        Ok(sources) => sources,
+        Err(fault) => return Err(fault),
+    };
+    let said = match hear_inputs(lines, limit, sources, world, all) {
+        Ok(said) => said,
+        Err(fault) => return Err(fault),
+    };
+    Ok(said)
 }
 
 /// The conference with the names and the leavings that the RTCP records of its inputs tell. All inputs are opened in leg
@@ -122,20 +163,55 @@ pub fn hear_names<W: World>(alloc: Global, conf: &mut Conf, world: &mut W) -> Re
     ensures calls_never_fall { NoneFalls W.own_faults world.old world.new }
     ensures objects_never_fall { NoneFalls W.object_faults world.old world.new }
 {
-    let limit = input_limit(conf);
     let wait = conf.wait;
-    let lines = conf.legs.as_slice();
-    let Ok(all) = Vec::with_capacity(alloc, lines.len()) else {
-        return Err(MixFault::NoMemory);
-    };
-    let sources = match open_inputs(alloc, lines, world) {
-        Ok(sources) => sources,
-        Err(fault) => return Err(fault),
-    };
-    let said = match hear_inputs(lines, limit, sources, world, all) {
+    let said = match hear_all(alloc, conf, world) {
         Ok(said) => said,
         Err(fault) => return Err(fault),
     };
     tell_legs(&mut conf.legs, wait, said.as_slice());
     Ok(())
+}
+
+/// One line for each of these legs, in leg order, of what was counted of its input.
+fn lines_of(alloc: Global, conf: &Conf, all: &[Said]) -> Result<Bytes, NoMemory>
+    requires each { length all.now ≡ length conf.now.legs }
+    ensures { IfOk result (λ lines. (held : Contents) → AreTold held (conf_of conf.now) all.now
+        → lines ≡ counts_lines (conf_of conf.now) (inputs_under held conf.now.legs)) }
+{
+    let legs = conf.legs.as_slice();
+    let mut lines = Bytes::new(alloc);
+    for number in 0..legs.len() {
+        append_tally(legs[number].name.as_slice(), all[number].tally, &mut lines)?;
+    }
+    Ok(lines)
+}
+
+/// What is counted of the inputs, one line for each leg, in leg order; nothing, where the conference doesn't ask for it. Each input
+/// is read to its end. A fault means what it means of a mixing of the same conference.
+pub fn count_inputs<W: World>(alloc: Global, conf: &Conf, world: &mut W) -> Result<Bytes, MixFault>
+    ensures counted { W.tells → IfOk result (AreCounted (W.contents world.old) (conf_of conf.now)) }
+    ensures stops { IfErr result (StopsIn W.tells W.contents W.own_faults W.object_faults
+        world.old world.new (conf_of conf.now)) }
+    ensures in_time { IfErr result (λ fault. fault ≢ MixFault.TooLong) }
+    ensures none_failed { IfErr result (NoneFailedWith W.tells W.object_faults
+        world.old world.new (conf_of conf.now)) }
+    ensures first { IfErr result (IsFirstIn W.tells W.contents W.own_faults
+        world.old world.new conf.now.legs) }
+    ensures calm { OnOk result (Same W.object_faults world.old world.new) }
+    ensures opened { OnOk result (Same W.own_faults world.old world.new) }
+    ensures same_contents { W.tells → Same W.contents world.old world.new }
+    ensures calls_never_fall { NoneFalls W.own_faults world.old world.new }
+    ensures objects_never_fall { NoneFalls W.object_faults world.old world.new }
+{
+    if !conf.service.counts {
+        return Ok(Bytes::new(alloc));
+    }
+    let all = match hear_all(alloc, conf, world) {
+        Ok(all) => all,
+        Err(fault) => return Err(fault),
+    };
+    match lines_of(alloc, conf, all.as_slice()) {
+        Ok(lines) => Ok(lines),
+        Err(NoMemory) => Err(MixFault::NoMemory),
+    }
 }

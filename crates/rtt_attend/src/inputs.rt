@@ -1,14 +1,16 @@
 //! The records of one input.
-ghost use Rattle.std.specs.Prelude.{◌≡◌, ◌≤◌, Bool, Some, None, max};
+ghost use Rattle.std.specs.Prelude.{◌≡◌, ◌≤◌, Bool, Some, None, max, min};
 ghost use Rattle.rtpdump_io.specs.Entries.{entries_to_come};
 ghost use Rattle.rtpdump_io.specs.Reading.{is_ended, source_of, to_come};
 ghost use Rattle.wire_spec.specs.declared.limits.TheConstants.{MOST_RECORDING_OCTETS};
-ghost use Rattle.rtt_attend.specs.Heard.{Hears, HearsAll, IsRead, TellsItem, moment_of, is_rtcp};
+ghost use Rattle.rtt_attend.specs.Counted.{hears_so};
+ghost use Rattle.rtt_attend.specs.Heard.{Hears, HearsAll, IsRead, TellsItem, moment_of, is_rtcp, said_of};
 
+use crate::counting::count_item;
 use crate::said::{Said, hear_rtcp};
 use rtcp_spec::Events;
 use rtpdump_io::{DumpFault, DumpItem, DumpReader};
-use rtt_base::Packet;
+use rtt_base::{Packet, Pts, TextPacket};
 use rtt_io::Source;
 
 /// The moment of a record; none at the end.
@@ -47,25 +49,38 @@ fn hear_item(
     events: &mut Events,
     said: &mut Said,
 )
-    ensures { TellsItem ssrc latest item octets.now said.old said.new }
+    ensures tells { TellsItem ssrc latest item octets.now said.old said.new }
+    ensures tally { said.new.tally ≡ said.old.tally }
 {
     if is_rtcp(item) {
         hear_rtcp(ssrc, latest, octets, events, said);
     }
 }
 
-/// What all records that are still to come tell of this sender, or why not all can be read.
+/// How many senders were heard in an input of which so many packets of text were: one at most.
+fn with_senders(said: Said) -> Said
+    ensures said { said_of result ≡ said_of said }
+    ensures tally { result.tally ≡ record said.tally { senders = min said.tally.text 1 } }
+{
+    let mut whole = said;
+    whole.tally.senders = whole.tally.text.min(1);
+    whole
+}
+
+/// What all records that are still to come tell of this sender, and what is counted of them, or why not all can be read.
 fn hear_records<S: Source>(
     reader: &mut DumpReader<S>,
     ssrc: u32,
+    pts: Pts,
     octets: &mut Packet,
+    text: &mut TextPacket,
     events: &mut Events,
 ) -> Result<Said, DumpFault>
     requires open { is_ended reader.old ≡ Bool.false }
-    ensures hears { S.tells → HearsAll ssrc (entries_to_come S.left reader.old) (to_come S.left reader.old) result }
+    ensures hears { S.tells → HearsAll (hears_so ssrc pts) (entries_to_come S.left reader.old) (to_come S.left reader.old) result }
     ensures read { IsRead S.faults S.name result (source_of reader.old) (source_of reader.new) }
 {
-    let mut said = Said::default();
+    let mut said = Said::new();
     let mut latest = 0;
     loop {
         let item = match reader.next_all(octets) {
@@ -73,10 +88,12 @@ fn hear_records<S: Source>(
             Err(fault) => return Err(fault),
         };
         let Some(at) = moment_of(item) else {
-            return Ok(said);
+            return Ok(with_senders(said));
         };
+        let read = octets.as_slice();
+        count_item(item, read, ssrc, pts, text, &mut said.tally);
         latest = later(latest, at);
-        hear_item(item, ssrc, latest, octets.as_slice(), events, &mut said);
+        hear_item(item, ssrc, latest, read, events, &mut said);
     }
 }
 
@@ -90,16 +107,18 @@ pub(crate) struct Heard<S> {
 pub(crate) fn hear_input<S: Source>(
     source: S,
     ssrc: u32,
+    pts: Pts,
     limit: u32,
     octets: &mut Packet,
+    text: &mut TextPacket,
     events: &mut Events,
 ) -> Heard<S>
     requires { limit ≤ MOST_RECORDING_OCTETS }
-    ensures hears { S.tells → Hears limit ssrc (S.left source) result.said }
+    ensures hears { S.tells → Hears limit (hears_so ssrc pts) (S.left source) result.said }
     ensures read { IsRead S.faults S.name result.said source result.source }
 {
     let mut reader = DumpReader::with_limit(source, limit);
-    let said = hear_records(&mut reader, ssrc, octets, events);
+    let said = hear_records(&mut reader, ssrc, pts, octets, text, events);
     Heard {
         source: reader.into_source(),
         said,

@@ -181,6 +181,7 @@ fn time_word(word: &str) -> LineWord
         "wait" => LineWord::Wait,
         "turns" => LineWord::Turns,
         "relabel" => LineWord::Relabel,
+        "counts" => LineWord::Counts,
         other => service_word(other),
     }
 }

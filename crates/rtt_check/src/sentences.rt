@@ -127,21 +127,21 @@ fn word_sentence(form: Form, word: LineWord) -> &'static [u8]
         (Form::Files, LineWord::Leg) =>
             b"behind the name of a leg stands aware or unaware, in small letters",
         (Form::Files, LineWord::Mixer) =>
-            b"a line begins with mixer, leg, gens, stay, tick, spacing, wait, turns, relabel, lose, delay or twice, in small letters, or with # as its first octet: correct the word, and part words by spaces, not by tabs",
+            b"a line begins with mixer, leg, gens, stay, tick, spacing, wait, turns, relabel, counts, lose, delay or twice, in small letters, or with # as its first octet: correct the word, and part words by spaces, not by tabs",
         (Form::Files, LineWord::Gens) =>
-            b"a line begins with mixer, leg, gens, stay, tick, spacing, wait, turns, relabel, lose, delay or twice, in small letters, or with # as its first octet: correct the word, and part words by spaces, not by tabs",
+            b"a line begins with mixer, leg, gens, stay, tick, spacing, wait, turns, relabel, counts, lose, delay or twice, in small letters, or with # as its first octet: correct the word, and part words by spaces, not by tabs",
         (Form::Files, LineWord::Stay) =>
-            b"a line begins with mixer, leg, gens, stay, tick, spacing, wait, turns, relabel, lose, delay or twice, in small letters, or with # as its first octet: correct the word, and part words by spaces, not by tabs",
+            b"a line begins with mixer, leg, gens, stay, tick, spacing, wait, turns, relabel, counts, lose, delay or twice, in small letters, or with # as its first octet: correct the word, and part words by spaces, not by tabs",
         (Form::Files, LineWord::Tick) =>
-            b"a line begins with mixer, leg, gens, stay, tick, spacing, wait, turns, relabel, lose, delay or twice, in small letters, or with # as its first octet: correct the word, and part words by spaces, not by tabs",
+            b"a line begins with mixer, leg, gens, stay, tick, spacing, wait, turns, relabel, counts, lose, delay or twice, in small letters, or with # as its first octet: correct the word, and part words by spaces, not by tabs",
         (Form::Files, LineWord::Spacing) =>
-            b"a line begins with mixer, leg, gens, stay, tick, spacing, wait, turns, relabel, lose, delay or twice, in small letters, or with # as its first octet: correct the word, and part words by spaces, not by tabs",
+            b"a line begins with mixer, leg, gens, stay, tick, spacing, wait, turns, relabel, counts, lose, delay or twice, in small letters, or with # as its first octet: correct the word, and part words by spaces, not by tabs",
         (Form::Files, LineWord::Wait) =>
-            b"a line begins with mixer, leg, gens, stay, tick, spacing, wait, turns, relabel, lose, delay or twice, in small letters, or with # as its first octet: correct the word, and part words by spaces, not by tabs",
+            b"a line begins with mixer, leg, gens, stay, tick, spacing, wait, turns, relabel, counts, lose, delay or twice, in small letters, or with # as its first octet: correct the word, and part words by spaces, not by tabs",
         (Form::Files, LineWord::Turns) =>
-            b"a line begins with mixer, leg, gens, stay, tick, spacing, wait, turns, relabel, lose, delay or twice, in small letters, or with # as its first octet: correct the word, and part words by spaces, not by tabs",
+            b"a line begins with mixer, leg, gens, stay, tick, spacing, wait, turns, relabel, counts, lose, delay or twice, in small letters, or with # as its first octet: correct the word, and part words by spaces, not by tabs",
         (Form::Files, LineWord::Relabel) =>
-            b"a line begins with mixer, leg, gens, stay, tick, spacing, wait, turns, relabel, lose, delay or twice, in small letters, or with # as its first octet: correct the word, and part words by spaces, not by tabs",
+            b"a line begins with mixer, leg, gens, stay, tick, spacing, wait, turns, relabel, counts, lose, delay or twice, in small letters, or with # as its first octet: correct the word, and part words by spaces, not by tabs",
         (Form::Files, LineWord::Gone) =>
             b"a conference of recordings has no lines gone, operator, record and follow: leave the line out",
         (Form::Files, LineWord::Operator) =>
@@ -150,40 +150,44 @@ fn word_sentence(form: Form, word: LineWord) -> &'static [u8]
             b"a conference of recordings has no lines gone, operator, record and follow: leave the line out",
         (Form::Files, LineWord::Follow) =>
             b"a conference of recordings has no lines gone, operator, record and follow: leave the line out",
+        (Form::Files, LineWord::Counts) =>
+            b"a line begins with mixer, leg, gens, stay, tick, spacing, wait, turns, relabel, counts, lose, delay or twice, in small letters, or with # as its first octet: correct the word, and part words by spaces, not by tabs",
         (Form::Files, LineWord::Lose) =>
-            b"a line begins with mixer, leg, gens, stay, tick, spacing, wait, turns, relabel, lose, delay or twice, in small letters, or with # as its first octet: correct the word, and part words by spaces, not by tabs",
+            b"a line begins with mixer, leg, gens, stay, tick, spacing, wait, turns, relabel, counts, lose, delay or twice, in small letters, or with # as its first octet: correct the word, and part words by spaces, not by tabs",
         (Form::Files, LineWord::Delay) =>
-            b"a line begins with mixer, leg, gens, stay, tick, spacing, wait, turns, relabel, lose, delay or twice, in small letters, or with # as its first octet: correct the word, and part words by spaces, not by tabs",
+            b"a line begins with mixer, leg, gens, stay, tick, spacing, wait, turns, relabel, counts, lose, delay or twice, in small letters, or with # as its first octet: correct the word, and part words by spaces, not by tabs",
         (Form::Files, LineWord::Twice) =>
-            b"a line begins with mixer, leg, gens, stay, tick, spacing, wait, turns, relabel, lose, delay or twice, in small letters, or with # as its first octet: correct the word, and part words by spaces, not by tabs",
+            b"a line begins with mixer, leg, gens, stay, tick, spacing, wait, turns, relabel, counts, lose, delay or twice, in small letters, or with # as its first octet: correct the word, and part words by spaces, not by tabs",
         (Form::Files, LineWord::Other) =>
-            b"a line begins with mixer, leg, gens, stay, tick, spacing, wait, turns, relabel, lose, delay or twice, in small letters, or with # as its first octet: correct the word, and part words by spaces, not by tabs",
+            b"a line begins with mixer, leg, gens, stay, tick, spacing, wait, turns, relabel, counts, lose, delay or twice, in small letters, or with # as its first octet: correct the word, and part words by spaces, not by tabs",
         (Form::Links, LineWord::Leg) =>
             b"behind the name of a leg stands aware or unaware, in small letters",
         (Form::Links, LineWord::Mixer) =>
-            b"a line begins with mixer, leg, gens, tick, spacing, wait, turns, relabel, gone, operator, record or follow, in small letters, or with # as its first octet: correct the word, and part words by spaces, not by tabs",
+            b"a line begins with mixer, leg, gens, tick, spacing, wait, turns, relabel, counts, gone, operator, record or follow, in small letters, or with # as its first octet: correct the word, and part words by spaces, not by tabs",
         (Form::Links, LineWord::Gens) =>
-            b"a line begins with mixer, leg, gens, tick, spacing, wait, turns, relabel, gone, operator, record or follow, in small letters, or with # as its first octet: correct the word, and part words by spaces, not by tabs",
+            b"a line begins with mixer, leg, gens, tick, spacing, wait, turns, relabel, counts, gone, operator, record or follow, in small letters, or with # as its first octet: correct the word, and part words by spaces, not by tabs",
         (Form::Links, LineWord::Stay) =>
             b"a conference of links has no lines stay, lose, delay and twice: leave the line out",
         (Form::Links, LineWord::Tick) =>
-            b"a line begins with mixer, leg, gens, tick, spacing, wait, turns, relabel, gone, operator, record or follow, in small letters, or with # as its first octet: correct the word, and part words by spaces, not by tabs",
+            b"a line begins with mixer, leg, gens, tick, spacing, wait, turns, relabel, counts, gone, operator, record or follow, in small letters, or with # as its first octet: correct the word, and part words by spaces, not by tabs",
         (Form::Links, LineWord::Spacing) =>
-            b"a line begins with mixer, leg, gens, tick, spacing, wait, turns, relabel, gone, operator, record or follow, in small letters, or with # as its first octet: correct the word, and part words by spaces, not by tabs",
+            b"a line begins with mixer, leg, gens, tick, spacing, wait, turns, relabel, counts, gone, operator, record or follow, in small letters, or with # as its first octet: correct the word, and part words by spaces, not by tabs",
         (Form::Links, LineWord::Wait) =>
-            b"a line begins with mixer, leg, gens, tick, spacing, wait, turns, relabel, gone, operator, record or follow, in small letters, or with # as its first octet: correct the word, and part words by spaces, not by tabs",
+            b"a line begins with mixer, leg, gens, tick, spacing, wait, turns, relabel, counts, gone, operator, record or follow, in small letters, or with # as its first octet: correct the word, and part words by spaces, not by tabs",
         (Form::Links, LineWord::Turns) =>
-            b"a line begins with mixer, leg, gens, tick, spacing, wait, turns, relabel, gone, operator, record or follow, in small letters, or with # as its first octet: correct the word, and part words by spaces, not by tabs",
+            b"a line begins with mixer, leg, gens, tick, spacing, wait, turns, relabel, counts, gone, operator, record or follow, in small letters, or with # as its first octet: correct the word, and part words by spaces, not by tabs",
         (Form::Links, LineWord::Relabel) =>
-            b"a line begins with mixer, leg, gens, tick, spacing, wait, turns, relabel, gone, operator, record or follow, in small letters, or with # as its first octet: correct the word, and part words by spaces, not by tabs",
+            b"a line begins with mixer, leg, gens, tick, spacing, wait, turns, relabel, counts, gone, operator, record or follow, in small letters, or with # as its first octet: correct the word, and part words by spaces, not by tabs",
         (Form::Links, LineWord::Gone) =>
-            b"a line begins with mixer, leg, gens, tick, spacing, wait, turns, relabel, gone, operator, record or follow, in small letters, or with # as its first octet: correct the word, and part words by spaces, not by tabs",
+            b"a line begins with mixer, leg, gens, tick, spacing, wait, turns, relabel, counts, gone, operator, record or follow, in small letters, or with # as its first octet: correct the word, and part words by spaces, not by tabs",
         (Form::Links, LineWord::Operator) =>
-            b"a line begins with mixer, leg, gens, tick, spacing, wait, turns, relabel, gone, operator, record or follow, in small letters, or with # as its first octet: correct the word, and part words by spaces, not by tabs",
+            b"a line begins with mixer, leg, gens, tick, spacing, wait, turns, relabel, counts, gone, operator, record or follow, in small letters, or with # as its first octet: correct the word, and part words by spaces, not by tabs",
         (Form::Links, LineWord::Record) =>
-            b"a line begins with mixer, leg, gens, tick, spacing, wait, turns, relabel, gone, operator, record or follow, in small letters, or with # as its first octet: correct the word, and part words by spaces, not by tabs",
+            b"a line begins with mixer, leg, gens, tick, spacing, wait, turns, relabel, counts, gone, operator, record or follow, in small letters, or with # as its first octet: correct the word, and part words by spaces, not by tabs",
         (Form::Links, LineWord::Follow) =>
-            b"a line begins with mixer, leg, gens, tick, spacing, wait, turns, relabel, gone, operator, record or follow, in small letters, or with # as its first octet: correct the word, and part words by spaces, not by tabs",
+            b"a line begins with mixer, leg, gens, tick, spacing, wait, turns, relabel, counts, gone, operator, record or follow, in small letters, or with # as its first octet: correct the word, and part words by spaces, not by tabs",
+        (Form::Links, LineWord::Counts) =>
+            b"a line begins with mixer, leg, gens, tick, spacing, wait, turns, relabel, counts, gone, operator, record or follow, in small letters, or with # as its first octet: correct the word, and part words by spaces, not by tabs",
         (Form::Links, LineWord::Lose) =>
             b"a conference of links has no lines stay, lose, delay and twice: leave the line out",
         (Form::Links, LineWord::Delay) =>
@@ -191,7 +195,7 @@ fn word_sentence(form: Form, word: LineWord) -> &'static [u8]
         (Form::Links, LineWord::Twice) =>
             b"a conference of links has no lines stay, lose, delay and twice: leave the line out",
         (Form::Links, LineWord::Other) =>
-            b"a line begins with mixer, leg, gens, tick, spacing, wait, turns, relabel, gone, operator, record or follow, in small letters, or with # as its first octet: correct the word, and part words by spaces, not by tabs",
+            b"a line begins with mixer, leg, gens, tick, spacing, wait, turns, relabel, counts, gone, operator, record or follow, in small letters, or with # as its first octet: correct the word, and part words by spaces, not by tabs",
     }
 }
 
@@ -221,6 +225,7 @@ fn count_sentence(word: LineWord) -> &'static [u8]
         LineWord::Operator => b"operator has the words PORT WORD, and no other",
         LineWord::Record => b"record has the word PREFIX, and no other: no name has a space",
         LineWord::Follow => b"follow has the word NAME, and no other",
+        LineWord::Counts => b"counts stands alone in its line: a comment needs a line of its own",
         LineWord::Lose => b"lose has the words NAME K, and no other",
         LineWord::Delay => b"delay has the words NAME K MS, and no other",
         LineWord::Twice => b"twice has the words NAME K, and no other",
@@ -258,6 +263,8 @@ fn name_sentence(word: LineWord) -> &'static [u8]
         LineWord::Record => b"PREFIX has 1 to 255 octets",
         LineWord::Follow =>
             b"no leg above has this name: correct it, or move the line below that of the leg",
+        LineWord::Counts =>
+            b"no leg above has this name: correct it, or move the line below that of the leg",
         LineWord::Lose =>
             b"no leg above has this name: correct it, or move the line below that of the leg",
         LineWord::Delay =>
@@ -291,6 +298,7 @@ fn number_sentence(form: Form, word: LineWord) -> &'static [u8]
         (Form::Files, LineWord::Operator) => b"PORT is a number from 1 to 65535",
         (Form::Files, LineWord::Record) => b"the number of a packet is one from 0 to 4294967295",
         (Form::Files, LineWord::Follow) => b"the number of a packet is one from 0 to 4294967295",
+        (Form::Files, LineWord::Counts) => b"the number of a packet is one from 0 to 4294967295",
         (Form::Files, LineWord::Lose) => b"the number of a packet is one from 0 to 4294967295",
         (Form::Files, LineWord::Delay) =>
             b"the number of a packet is one from 0 to 4294967295, and MS one of milliseconds up to 60000",
@@ -313,6 +321,7 @@ fn number_sentence(form: Form, word: LineWord) -> &'static [u8]
         (Form::Links, LineWord::Operator) => b"PORT is a number from 1 to 65535",
         (Form::Links, LineWord::Record) => b"the number of a packet is one from 0 to 4294967295",
         (Form::Links, LineWord::Follow) => b"the number of a packet is one from 0 to 4294967295",
+        (Form::Links, LineWord::Counts) => b"the number of a packet is one from 0 to 4294967295",
         (Form::Links, LineWord::Lose) => b"the number of a packet is one from 0 to 4294967295",
         (Form::Links, LineWord::Delay) =>
             b"the number of a packet is one from 0 to 4294967295, and MS one of milliseconds up to 60000",
@@ -339,6 +348,7 @@ fn twice_sentence(word: LineWord) -> &'static [u8]
         LineWord::Operator => b"a line above says it: leave one of them out",
         LineWord::Record => b"a line above says it: leave one of them out",
         LineWord::Follow => b"a line above says it of this leg: leave one of them out",
+        LineWord::Counts => b"a line above says it: leave one of them out",
         LineWord::Lose => b"a line above says it of this packet: leave one of them out",
         LineWord::Delay => b"a line above says it of this packet: leave one of them out",
         LineWord::Twice => b"a line above says it of this packet: leave one of them out",
@@ -366,6 +376,7 @@ fn clash_sentence(form: Form, word: LineWord) -> &'static [u8]
             b"a leg above has this port: give the operator its own",
         (Form::Files, LineWord::Record) => b"a leg above has this SSRC: give the mixer its own",
         (Form::Files, LineWord::Follow) => b"a leg above has this SSRC: give the mixer its own",
+        (Form::Files, LineWord::Counts) => b"a leg above has this SSRC: give the mixer its own",
         (Form::Files, LineWord::Lose) => b"a leg above has this SSRC: give the mixer its own",
         (Form::Files, LineWord::Delay) => b"a leg above has this SSRC: give the mixer its own",
         (Form::Files, LineWord::Twice) => b"a leg above has this SSRC: give the mixer its own",
@@ -385,6 +396,7 @@ fn clash_sentence(form: Form, word: LineWord) -> &'static [u8]
             b"a leg above has this port: give the operator its own",
         (Form::Links, LineWord::Record) => b"a leg above has this SSRC: give the mixer its own",
         (Form::Links, LineWord::Follow) => b"a leg above has this SSRC: give the mixer its own",
+        (Form::Links, LineWord::Counts) => b"a leg above has this SSRC: give the mixer its own",
         (Form::Links, LineWord::Lose) => b"a leg above has this SSRC: give the mixer its own",
         (Form::Links, LineWord::Delay) => b"a leg above has this SSRC: give the mixer its own",
         (Form::Links, LineWord::Twice) => b"a leg above has this SSRC: give the mixer its own",

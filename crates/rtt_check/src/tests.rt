@@ -115,7 +115,7 @@ const TOLD_OF_LINKS: [(&str, &str); 15] = [
     ),
     (
         "mixer 9 0 0\nleg A aware 1 5001 127.0.0.1:5101\nleg B aware 2 5002 127.0.0.1:5102\nseat A\n",
-        "conference of links\nf line 4: Word\n| seat A\na line begins with mixer, leg, gens, tick, spacing, wait, turns, relabel, gone, operator, record or follow, in small letters, or with # as its first octet: correct the word, and part words by spaces, not by tabs\n",
+        "conference of links\nf line 4: Word\n| seat A\na line begins with mixer, leg, gens, tick, spacing, wait, turns, relabel, counts, gone, operator, record or follow, in small letters, or with # as its first octet: correct the word, and part words by spaces, not by tabs\n",
     ),
     (
         "mixer 9 0 0\nleg A aware 1 5001 127.0.0.1:5101\nleg B aware 2 5002 127.0.0.1:5102\ngone 9999\n",

@@ -1,5 +1,5 @@
 -- How a conference that is mixed ends.
-use Rattle.std.proofs.Common.{◌≡◌, ℕ, zero, suc, ◌+◌, ◌<◌, ◌≤◌, Bool, true, false, cond, Some, List, [], ◌∷◌, length, take, Ok, Err, refl, ap, sym, subst, ◌∙◌, inl, inr, arith}
+use Rattle.std.proofs.Common.{◌≡◌, ℕ, zero, suc, ◌+◌, ◌<◌, ◌≤◌, Bool, true, false, cond, Some, List, [], ◌∷◌, ◌++◌, length, take, Ok, Err, refl, ap, sym, subst, ◌∙◌, inl, inr, arith}
 use Rattle.std.specs.Prelude.{◌⊎◌, IfErr, OnOk, OnErr, if◌then◌else◌}
 use Rattle.std.specs.Result.{is_err}
 use Rattle.rtpdump_io.specs.declared.items.DumpFault.{DumpFault}
@@ -15,7 +15,9 @@ use Rattle.command_spec.specs.Outcomes.{outcome, Same, Stores, AllStored}
 use Rattle.command_spec.specs.Outcomes as outcomes
 use Rattle.rtt_words.specs.Words.{Command}
 use Rattle.rtt_words.specs.Tasks.{work}
-use Rattle.command_spec.specs.Inputs.{LieBelow, AllLie}
+use Rattle.command_spec.specs.Inputs.{LieBelow, AllLie, inputs_under}
+use Rattle.command_spec.specs.Mixing.{counted}
+use Rattle.command_spec.proofs.Reached.{counted_makes}
 use Rattle.command_spec.specs.Messages.{Ending}
 use Rattle.bridge_run.specs.declared.mixed.MixFault.{MixFault}
 use Rattle.bridge_run.specs.declared.mixed.MixFault.TheVariants.{Open, Dump, TooLong}
@@ -133,13 +135,15 @@ output_is : (WorldTells : Type 0) (held : Contents) (command : Command) (c : Con
 output_is WorldTells held command c printed outs m made n leg at =
     m.output (λ told. (made told).0) (λ told. (printed, outputs_of c.legs outs, (made told).1)) n leg at
 
-pub mixing_makes : (WorldTells : Type 0) (held : Contents) (command : Command) (c : Conf) (printed : List ℕ) (outs : List (List ℕ)) → ComesToMixing WorldTells held command c
-    → (WorldTells → AllLie held c.legs × (steps_of held c ≡ Makes printed (outputs_of c.legs outs))) → MakesOutputs WorldTells held command c.legs printed (outputs_of c.legs outs)
-mixing_makes WorldTells held command c printed outs m made = record {
+pub mixing_makes : (WorldTells : Type 0) (held : Contents) (command : Command) (c : Conf) (printed lines : List ℕ) (outs : List (List ℕ)) → ComesToMixing WorldTells held command c
+    → (WorldTells → AllLie held c.legs × (steps_of held c ≡ Makes printed (outputs_of c.legs outs))) → (WorldTells → lines ≡ counted c (inputs_under held c.legs))
+    → MakesOutputs WorldTells held command c.legs (printed ++ lines) (outputs_of c.legs outs)
+mixing_makes WorldTells held command c printed lines outs m made count = record {
   reads = m.reads;
   prints = m.prints;
   output = output_is WorldTells held command c printed outs m made;
-  comes = λ told. outcome_done WorldTells held command c printed (outputs_of c.legs outs) m told (made told).0 (made told).1;
+  comes = λ told. outcome_done WorldTells held command c (printed ++ lines) (outputs_of c.legs outs) m told (made told).0
+      (counted_makes c (inputs_under held c.legs) printed (outputs_of c.legs outs) (made told).1 ∙ ap (λ (l : List ℕ). Makes (printed ++ l) (outputs_of c.legs outs)) (sym (count told)));
 }
 
 -- the names of the outputs of a mixing

@@ -1,13 +1,13 @@
 -- A conference whose inputs are read one after another.
-use Rattle.std.proofs.Common.{◌≡◌, ℕ, zero, suc, ◌+◌, ◌-◌, ◌<◌, ◌≤◌, Option, Some, None, List, [], ◌∷◌, length, get_or, refl, ap, sym, subst, ◌∙◌, arith}
-use Rattle.std.specs.Prelude.{IsSome, unwrap_or}
+use Rattle.std.proofs.Common.{◌≡◌, ℕ, zero, suc, ◌+◌, ◌-◌, ◌<◌, ◌≤◌, Bool, true, false, Option, Some, None, List, [], ◌∷◌, length, get_or, refl, ap, sym, subst, ◌∙◌, arith}
+use Rattle.std.specs.Prelude.{IsSome, if◌then◌else◌, unwrap_or}
 use Rattle.file_spec.specs.declared.conf_lines.LegLine.{LegLine}
 use Rattle.file_spec.specs.Conf.{Conf}
 use Rattle.mixer_spec.specs.Setups.{leg_at, setup}
 use Rattle.mixer_spec.specs.Plain.{plain}
 use Rattle.mixer_spec.specs.Bridged.{input_limit, leg_chunks}
 use Rattle.command_spec.specs.declared.faults.Refusal.{Refusal}
-use Rattle.command_spec.specs.Work.{Contents, Made, Steps, Refuses, Makes, IsInput}
+use Rattle.command_spec.specs.Work.{Contents, Made, Steps, Reads, Refuses, Makes, Serves, IsInput, and_prints}
 use Rattle.command_spec.specs.Outcomes.{Done, outcome, outcome_from}
 use Rattle.command_spec.specs.Outcomes as outcomes
 use Rattle.rtt_words.specs.Words.{Command}
@@ -17,7 +17,7 @@ use Rattle.command_spec.specs.Mixing as mixed
 use Rattle.command_spec.specs.Inputs.{octets_under, inputs_under, LieBelow, AllLie}
 use Rattle.bridge_run.specs.Mixes.{WholeBelow, steps_of}
 use Rattle.rtt_top.specs.Faults.{NoneBefore}
-use Rattle.rtt_top.specs.Conferences.{ComesToMixing, input_name, input_of}
+use Rattle.rtt_top.specs.Conferences.{ComesToMixing, input_name, input_of, steps_counted}
 use Rattle.rtt_top.proofs.Before.{none_broken, none_makes}
 
 some_under : (o : Option (List ℕ)) → IsSome o → o ≡ Some (unwrap_or o [])
@@ -48,12 +48,40 @@ chain held n (l ∷ legs) next lie =
     ∙ ap (λ k. outcome_from k held (next (inputs_under held (l ∷ legs)))) count)
 
 pub outcome_done : (WorldTells : Type 0) (held : Contents) (command : Command) (c : Conf) (printed : List ℕ) (files : List Made) → ComesToMixing WorldTells held command c → WorldTells
-    → AllLie held c.legs → steps_of held c ≡ Makes printed files → outcome held (work command).steps ≡ Done printed files
+    → AllLie held c.legs → steps_counted held c ≡ Makes printed files → outcome held (work command).steps ≡ Done printed files
 outcome_done WorldTells held command c printed files m told lie is = m.comes told lie ∙ ap (outcome_from (length c.legs + 1) held) is
+
+-- what is refused, whatever is counted
+counted_refuses : (c : Conf) (inputs : List (List ℕ)) (input : ℕ) (refusal : Refusal) → mixed.mixes c inputs ≡ Refuses input refusal → mixed.mixes_counted c inputs ≡ Refuses input refusal
+counted_refuses c inputs input refusal e = go c.service.counts
+  where
+    go : (b : Bool) → (if b then and_prints (mixed.counts_lines c inputs) (mixed.mixes c inputs) else mixed.mixes c inputs) ≡ Refuses input refusal
+    go true = ap (and_prints (mixed.counts_lines c inputs)) e
+    go false = e
+
+none_printed : (j : ℕ) (more : List ℕ) (held : Contents) (m : ℕ) (steps : Steps) → NoneBefore j (outcome_from m held steps) → NoneBefore j (outcome_from m held (and_prints more steps))
+none_printed j more held m (Reads name next) none = go (held name) (λ octets. none_printed j more held (m + 1) (next octets)) none
+  where
+    go : (o : Option (List ℕ)) → ((octets : List ℕ) → NoneBefore j (outcome_from (m + 1) held (next octets)) → NoneBefore j (outcome_from (m + 1) held (and_prints more (next octets))))
+        → (let P : Option (List ℕ) → outcomes.Outcome = λ o. elim o [ None ↦ outcomes.Missing m | Some octets ↦ outcome_from (m + 1) held (next octets) ] in
+        let Q : Option (List ℕ) → outcomes.Outcome = λ o. elim o [ None ↦ outcomes.Missing m | Some octets ↦ outcome_from (m + 1) held (and_prints more (next octets)) ] in NoneBefore j (P o) → NoneBefore j (Q o))
+    go None rest none = none
+    go (Some octets) rest none = rest octets none
+none_printed j more held m (Refuses input refusal) none = none
+none_printed j more held m (Makes printed files) none = none
+none_printed j more held m (Serves c) none = none
+
+none_counted : (j : ℕ) (held : Contents) (m : ℕ) (c : Conf) (inputs : List (List ℕ)) → NoneBefore j (outcome_from m held (mixed.mixes c inputs)) → NoneBefore j (outcome_from m held (mixed.mixes_counted c inputs))
+none_counted j held m c inputs none = go c.service.counts
+  where
+    go : (b : Bool) → NoneBefore j (outcome_from m held (if b then and_prints (mixed.counts_lines c inputs) (mixed.mixes c inputs) else mixed.mixes c inputs))
+    go true = none_printed j (mixed.counts_lines c inputs) held m (mixed.mixes c inputs) none
+    go false = none
 
 pub outcome_refused : (WorldTells : Type 0) (held : Contents) (command : Command) (c : Conf) (input : ℕ) (refusal : Refusal) → ComesToMixing WorldTells held command c → WorldTells
     → AllLie held c.legs → steps_of held c ≡ Refuses input refusal → outcome held (work command).steps ≡ outcomes.Refused input refusal
-outcome_refused WorldTells held command c input refusal m told lie is = m.comes told lie ∙ ap (outcome_from (length c.legs + 1) held) is
+outcome_refused WorldTells held command c input refusal m told lie is =
+    m.comes told lie ∙ ap (outcome_from (length c.legs + 1) held) (counted_refuses c (inputs_under held c.legs) input refusal is)
 
 -- where the inputs of the first k legs have no fault, none of these is refused
 pub none_before : (WorldTells : Type 0) (held : Contents) (command : Command) (c : Conf) (k : ℕ) → ComesToMixing WorldTells held command c → WorldTells
@@ -63,8 +91,8 @@ none_before WorldTells held command c k m told lie whole =
     let table = plain (setup c) c.tick c.turns (leg_chunks c (mixed.input_at inputs)) in
     let one : k + 1 ≡ suc k = omega arith in
     subst (λ o. NoneBefore (suc k) o) (sym (m.comes told lie))
-    (subst (λ n. NoneBefore n (outcome_from (length c.legs + 1) held (steps_of held c))) one
-    (none_broken held (length c.legs + 1) (input_limit c) 1 inputs (makes c table) k whole (none_makes held (length c.legs + 1) c table)))
+    (subst (λ n. NoneBefore n (outcome_from (length c.legs + 1) held (steps_counted held c))) one
+    (none_counted (k + 1) held (length c.legs + 1) c inputs (none_broken held (length c.legs + 1) (input_limit c) 1 inputs (makes c table) k whole (none_makes held (length c.legs + 1) c table))))
 
 -- ---- a leg by its number
 pub leg_read : (legs : List LegLine) (k : ℕ) (leg : LegLine) → k < length legs → leg ≡ get_or legs k leg → leg_at legs k ≡ Some leg

@@ -9,13 +9,13 @@ use Rattle.rtt_words.specs.Words.{Attend, Mix}
 use Rattle.command_spec.specs.Work.{Contents, IsInput, IsOutput}
 use Rattle.command_spec.specs.Outcomes.{Same, outcome_from}
 use Rattle.command_spec.specs.Inputs.{AllLie, LieBelow, inputs_under}
-use Rattle.command_spec.specs.Mixing.{mixes, mixes_read}
+use Rattle.command_spec.specs.Mixing.{mixes, mixes_counted, mixes_read}
 use Rattle.command_spec.specs.Attending.{Said, attending, attends, attends_read, named, named_by}
 use Rattle.command_spec.proofs.Naming.{files_told}
 use Rattle.command_spec.proofs.Outputs.{attended_output, is_output}
 use Rattle.command_spec.proofs.SameFiles.{HaveFilesOf, back, same_inputs, same_many, there}
 use Rattle.bridge_run.specs.Mixes.{steps_of}
-use Rattle.rtt_top.specs.Conferences.{ComesToMixing}
+use Rattle.rtt_top.specs.Conferences.{ComesToMixing, steps_counted}
 use Rattle.rtt_top.proofs.Bridging.{leg_within}
 use Rattle.rtt_top.proofs.Chain.{chain, leg_input}
 use Rattle.rtt_top.proofs.Working.{lies}
@@ -31,11 +31,11 @@ mix_comes WorldTells held file octets c lies_there read = record {
   prints = refl;
   mixed = refl;
   recordings = λ k. refl;
-  input = λ k leg at lie. (octets, lies_there, subst (λ r. IsInput WorldTells held (mixes_read r) k leg.input) (sym read) (leg_input WorldTells held c.legs (mixes c) k leg at lie));
+  input = λ k leg at lie. (octets, lies_there, subst (λ r. IsInput WorldTells held (mixes_read r) k leg.input) (sym read) (leg_input WorldTells held c.legs (mixes_counted c) k leg at lie));
   output = λ lie made. is_output WorldTells held file octets c lies_there read (λ told. each_lies held c.legs (lie told)) made;
   comes = λ told lie.
       lies held file (λ o. mixes_read (conf Files o)) octets (lies_there told)
-      ∙ (ap (λ r. outcome_from 1 held (mixes_read r)) read ∙ chain held 1 c.legs (mixes c) lie);
+      ∙ (ap (λ r. outcome_from 1 held (mixes_read r)) read ∙ chain held 1 c.legs (mixes_counted c) lie);
 }
 
 -- ---- other legs with the same files
@@ -56,9 +56,13 @@ pub same_files_of : (WorldTells : Type 0) (held : Contents) (c now : Conf) → I
 same_files_of WorldTells held c now n = subst (λ (d : Conf). HaveFilesOf c.legs d.legs) (sym n.is) (files_told c.wait n.says (length c.legs) c.legs)
 
 -- the steps of the one are those of the other, with what the inputs tell
-steps_alike : (WorldTells : Type 0) (held : Contents) (c now : Conf) → IsToldOf WorldTells held c now → WorldTells → steps_of held now ≡ attends c (inputs_under held c.legs)
-steps_alike WorldTells held c now n told =
+mixes_alike : (WorldTells : Type 0) (held : Contents) (c now : Conf) → IsToldOf WorldTells held c now → WorldTells → steps_of held now ≡ mixes (named c (inputs_under held c.legs)) (inputs_under held c.legs)
+mixes_alike WorldTells held c now n told =
     ap (mixes now) (same_inputs held c.legs now.legs (same_files_of WorldTells held c now n)) ∙ ap (λ (d : Conf). mixes d (inputs_under held c.legs)) (n.named told)
+
+steps_alike : (WorldTells : Type 0) (held : Contents) (c now : Conf) → IsToldOf WorldTells held c now → WorldTells → steps_counted held now ≡ attends c (inputs_under held c.legs)
+steps_alike WorldTells held c now n told =
+    ap (mixes_counted now) (same_inputs held c.legs now.legs (same_files_of WorldTells held c now n)) ∙ ap (λ (d : Conf). mixes_counted d (inputs_under held c.legs)) (n.named told)
 
 pub attend_comes : (WorldTells : Type 0) (held : Contents) (file octets : List ℕ) (c now : Conf) → (WorldTells → held file ≡ Some octets) → conf Files octets ≡ Ok c → IsToldOf WorldTells held c now
     → ComesToMixing WorldTells held (Attend (record { conf = file })) now
@@ -79,13 +83,13 @@ attend_comes WorldTells held file octets c now lies_there read n = record {
       let old = back c.legs now.legs same k leg at in
       subst (λ name. IsOutput WorldTells held (attending file) k name) (sym old.2.output)
       (attended_output WorldTells held file octets c lies_there read (λ told. each_lies held c.legs (all_lie_alike held c.legs now.legs same (lie told)))
-      (λ told. let m = made told in (m.0, m.1, sym (steps_alike WorldTells held c now n told) ∙ m.2)) k old.0 old.1);
+      (λ told. let m = made told in (m.0, m.1, sym (mixes_alike WorldTells held c now n told) ∙ m.2)) k old.0 old.1);
   comes = λ told lie.
       lies held file (λ o. attends_read (conf Files o)) octets (lies_there told)
       ∙ (ap (λ r. outcome_from 1 held (attends_read r)) read
       ∙ (chain held 1 c.legs (attends c) (all_lie_alike held c.legs now.legs same lie)
       ∙ (ap (outcome_from (length c.legs + 1) held) (sym (steps_alike WorldTells held c now n told))
-      ∙ ap (λ k. outcome_from (k + 1) held (steps_of held now)) (sym (same_many c.legs now.legs same)))));
+      ∙ ap (λ k. outcome_from (k + 1) held (steps_counted held now)) (sym (same_many c.legs now.legs same)))));
 }
   where
     same : HaveFilesOf c.legs now.legs

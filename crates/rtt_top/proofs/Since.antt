@@ -1,5 +1,5 @@
 -- A command whose first part changed nothing outside ends as its second part does.
-use Rattle.std.proofs.Common.{◌≡◌, ℕ, zero, suc, ◌+◌, true, Option, Some, None, List, [], ◌++◌, take, Ok, Err, refl, ap, sym, subst, ◌∙◌, inl, inr}
+use Rattle.std.proofs.Common.{◌≡◌, ℕ, zero, suc, ◌+◌, true, Option, Some, None, List, [], ◌++◌, length, take, Ok, Err, refl, ap, sym, subst, ◌∙◌, inl, inr}
 use Rattle.std.specs.Prelude.{◌⊎◌, IsSome}
 use Rattle.file_spec.specs.Conf.{Conf}
 use Rattle.command_spec.specs.declared.faults.Refusal.{Refusal}
@@ -12,7 +12,9 @@ use Rattle.command_spec.specs.Outcomes.{Outcome, Missing, Done, Served, outcome,
 use Rattle.command_spec.specs.Outcomes as outcomes
 use Rattle.command_spec.specs.Messages.{Ending}
 use Rattle.file_spec.specs.declared.conf_lines.LegLine.{LegLine}
-use Rattle.rtt_top.specs.Conferences.{MakesOutputs}
+use Rattle.command_spec.specs.Inputs.{LieBelow}
+use Rattle.bridge_run.specs.Mixes.{steps_of}
+use Rattle.rtt_top.specs.Conferences.{ComesToMixing, MakesOutputs, steps_counted}
 use Rattle.rtt_top.specs.Faults.{NoneBefore, RefusesSo, WhereRead, has_frames, is_recording, name_in}
 use Rattle.rtt_top.specs.Outside.{Outside, Output, Failed, CallFailed, ObjectFailed}
 use Rattle.rtt_top.specs.Ports.{LegFailed}
@@ -77,6 +79,30 @@ done_where WorldTells old mid steps P Q same t f d = subst (λ o. IsDone o Q) (o
 done_since : (old mid : Contents) (steps : Steps) (P Q : List ℕ → List Made → Type 0) → Same old mid → ((printed : List ℕ) (files : List Made) → P printed files → Q printed files)
     → IsDone (outcome mid steps) P → IsDone (outcome old steps) Q
 done_since old mid steps P Q same f d = subst (λ o. IsDone o Q) (outcome_since old mid same 0 steps) (done_map (outcome mid steps) P Q f d)
+
+-- what comes to a mixing does so where as much lies there
+pub comes_since : (WorldTells : Type 0) (old mid : Contents) → (WorldTells → Same old mid) → (command : Command) (c : Conf) → ComesToMixing WorldTells old command c → ComesToMixing WorldTells mid command c
+comes_since WorldTells old mid same command c m = record {
+  reads = m.reads;
+  prints = m.prints;
+  mixed = m.mixed;
+  recordings = m.recordings;
+  input = λ k leg at lie. input_since WorldTells mid old back (work command).steps (suc k) leg.input (m.input k leg at (λ told. lies_back told k (lie told)));
+  output = λ lie makes n leg at. output_since WorldTells mid old back (work command).steps n leg.output
+      (m.output (λ told. lies_back told (length c.legs) (lie told)) (λ told. let q = makes told in (q.0, q.1, ap (λ (held : Contents). steps_of held c) (path told) ∙ q.2)) n leg at);
+  comes = λ told lie.
+      outcome_since old mid (same told) 0 (work command).steps
+      ∙ (m.comes told (lies_back told (length c.legs) lie) ∙ ap (λ (held : Contents). outcome_from (length c.legs + 1) held (steps_counted held c)) (path told));
+}
+  where
+    back : WorldTells → Same mid old
+    back told name = sym (same told name)
+
+    path : WorldTells → old ≡ mid
+    path told i name = sym (same told name) i
+
+    lies_back : WorldTells → (n : ℕ) → LieBelow n mid c.legs → LieBelow n old c.legs
+    lies_back told n lie k leg less at = subst (λ o. IsSome o) (same told leg.input) (lie k leg less at)
 
 -- ---- ends
 either : (A B C D : Type 0) → (A → C) → (B → D) → A ⊎ B → C ⊎ D

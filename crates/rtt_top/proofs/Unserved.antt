@@ -1,5 +1,6 @@
 -- What is mixed is served over no link.
-use Rattle.std.proofs.Common.{◌≡◌, ℕ, suc, ◌+◌, Option, Some, None, List, [], ◌∷◌, Result, Ok, Err}
+use Rattle.std.proofs.Common.{◌≡◌, ℕ, suc, ◌+◌, Bool, true, false, Option, Some, None, List, [], ◌∷◌, Result, Ok, Err}
+use Rattle.std.specs.Prelude.{if◌then◌else◌}
 use Rattle.wire_spec.specs.Dump.{dump}
 use Rattle.wire_spec.specs.Dump as dumps
 use Rattle.file_spec.specs.declared.conf_lines.Form.TheVariants.{Files}
@@ -11,12 +12,12 @@ use Rattle.mixer_spec.specs.Table.{Table}
 use Rattle.mixer_spec.specs.Plain.{plain}
 use Rattle.mixer_spec.specs.Bridged.{input_limit, leg_chunks}
 use Rattle.command_spec.specs.declared.faults.Refusal.TheVariants.{AtByte}
-use Rattle.command_spec.specs.Work.{Contents, Steps, Reads, Refuses, Makes, Serves}
+use Rattle.command_spec.specs.Work.{Contents, Steps, Reads, Refuses, Makes, Serves, and_prints}
 use Rattle.command_spec.specs.Outcomes.{Outcome, Missing, Served, outcome, outcome_from}
 use Rattle.command_spec.specs.Attending.{attending, attends, attends_read, named}
 use Rattle.command_spec.specs.Cascading.{cascades, cascades_read, cascading, odd_line, unless_odd}
 use Rattle.command_spec.proofs.CascadeOutputs.{AllOuts, cascade_outs}
-use Rattle.command_spec.specs.Mixing.{input_at, makes, mixes, mixes_read, mixing, reads_inputs, unless_one_broken}
+use Rattle.command_spec.specs.Mixing.{counts_lines, input_at, makes, mixes, mixes_counted, mixes_read, mixing, reads_inputs, unless_one_broken}
 
 -- whatever is read, no live call is served
 abbrev ServesNone : Steps → Type 0
@@ -58,16 +59,29 @@ mixes_none c inputs =
     let table = plain (setup c) c.tick c.turns (leg_chunks c (input_at inputs)) in
     none_unless (input_limit c) 1 inputs (makes c table) (makes_none c table)
 
+printed_none : (more : List ℕ) (steps : Steps) → ServesNone steps → ServesNone (and_prints more steps)
+printed_none more (Reads name next) none = λ octets. printed_none more (next octets) (none octets)
+printed_none more (Refuses input refusal) none = tt
+printed_none more (Makes printed files) none = tt
+printed_none more (Serves c) none = absurd none
+
+counted_none : (c : Conf) (inputs : List (List ℕ)) → ServesNone (mixes_counted c inputs)
+counted_none c inputs = go c.service.counts
+  where
+    go : (b : Bool) → ServesNone (if b then and_prints (counts_lines c inputs) (mixes c inputs) else mixes c inputs)
+    go true = printed_none (counts_lines c inputs) (mixes c inputs) (mixes_none c inputs)
+    go false = mixes_none c inputs
+
 of_result : (r : Result Conf lines.Refusal) → ServesNone (mixes_read r)
 of_result (Err refusal) = tt
-of_result (Ok c) = none_read c.legs (mixes c) (mixes_none c)
+of_result (Ok c) = none_read c.legs (mixes_counted c) (counted_none c)
 
 pub mixing_serves_none : (held : Contents) (file : List ℕ) (c : Conf) → outcome held (mixing file) ≡ Served c → ⊥
 mixing_serves_none held file c e = not_served 0 held (mixing file) c (λ octets. of_result (conf Files octets)) e
 
 of_attended : (r : Result Conf lines.Refusal) → ServesNone (attends_read r)
 of_attended (Err refusal) = tt
-of_attended (Ok c) = none_read c.legs (attends c) (λ inputs. mixes_none (named c inputs) inputs)
+of_attended (Ok c) = none_read c.legs (attends c) (λ inputs. counted_none (named c inputs) inputs)
 
 pub attending_serves_none : (held : Contents) (file : List ℕ) (c : Conf) → outcome held (attending file) ≡ Served c → ⊥
 attending_serves_none held file c e = not_served 0 held (attending file) c (λ octets. of_attended (conf Files octets)) e

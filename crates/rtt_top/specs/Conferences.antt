@@ -15,7 +15,8 @@ use Rattle.rtt_words.specs.Words.{Cascade, Command, Live}
 use Rattle.command_spec.specs.Work.{Contents, IsInput, IsOutput, Made, Makes, Reads, Refuses, Steps}
 use Rattle.rtt_words.specs.Tasks.{work}
 use Rattle.command_spec.specs.Outcomes.{Done, outcome, outcome_from}
-use Rattle.command_spec.specs.Inputs.{AllLie, LieBelow}
+use Rattle.command_spec.specs.Inputs.{AllLie, LieBelow, inputs_under}
+use Rattle.command_spec.specs.Mixing.{counted, mixes_counted}
 use Rattle.bridge_run.specs.declared.mixed.Mixed.{Mixed}
 use Rattle.sent_files.specs.Files.{recordings_of}
 use Rattle.bridge_run.specs.Mixes.{outputs_of, steps_of}
@@ -105,6 +106,10 @@ pub record ReadsConf (form : Form) (file : List ℕ) (c : Command) : Type 0 wher
   pub refuses : (octets : List ℕ) (refusal : lines.Refusal) → conf form octets ≡ Err refusal
       → next octets ≡ Refuses 0 (AtLine refusal.line refusal.kind)
 
+-- what a mixing of the conference comes to by what lies in files, with what is counted where it asks for that
+abbrev pub steps_counted : Contents → Conf → Steps
+steps_counted held c = mixes_counted c (inputs_under held c.legs)
+
 -- By what lies in files, it comes to the mixing of this conference: its file is the first input, and then the input of each leg is
 -- one. Nothing has to be known of these for its outputs, which are those of the legs.
 pub record ComesToMixing (WorldTells : Type 0) (held : Contents) (command : Command) (c : Conf) : Type 0 where
@@ -116,7 +121,7 @@ pub record ComesToMixing (WorldTells : Type 0) (held : Contents) (command : Comm
       → IsInput WorldTells held (work command).steps (suc k) leg.input
   pub output : (WorldTells → AllLie held c.legs) → (WorldTells → (printed : List ℕ) × (files : List Made) × (steps_of held c ≡ Makes printed files))
       → (n : ℕ) (leg : LegLine) → leg_at c.legs n ≡ Some leg → IsOutput WorldTells held (work command).steps n leg.output
-  pub comes : WorldTells → AllLie held c.legs → outcome held (work command).steps ≡ outcome_from (length c.legs + 1) held (steps_of held c)
+  pub comes : WorldTells → AllLie held c.legs → outcome held (work command).steps ≡ outcome_from (length c.legs + 1) held (steps_counted held c)
 
 -- By what lies in files, a command makes these outputs of legs, and prints this.
 pub record MakesOutputs (WorldTells : Type 0) (held : Contents) (command : Command) (legs : List LegLine) (printed : List ℕ) (files : List Made) : Type 0 where
@@ -146,6 +151,11 @@ module _ {W S D K : Type 0} (w : worlds.Ghosts W S D) (k : sinks.Ghosts K) where
   MixingEnds old out new out_then c ending =
       (file : List ℕ) (command : Command) → ComesToMixing w.tells (w.contents old) command c
       → EndsAcross w k command old out new out_then (ending_name file c.legs ending) ending
+
+  -- So it ends where this is what is counted of it.
+  abbrev pub MixingEndsWith : W → K → W → K → Conf → List ℕ → Ending → Type 0
+  MixingEndsWith old out new out_then c lines ending =
+      (w.tells → lines ≡ counted c (inputs_under (w.contents old) c.legs)) → MixingEnds old out new out_then c ending
 
   -- `cascade` ends so where the file of any name has this conference, behind a mixer of this SSRC, which is recorded in this file.
   abbrev pub CascadingEnds : W → K → W → K → List ℕ → ℕ → Conf → Ending → Type 0

@@ -1,9 +1,9 @@
 //! `mix`: a conference is mixed, its outputs are written, and what is seen is printed.
-ghost use Rattle.std.specs.Prelude.{◌≡◌, ◌≤◌, length, OnOk, IfErr};
+ghost use Rattle.std.specs.Prelude.{◌≡◌, ◌≤◌, [], ◌∷◌, ◌++◌, length, OnOk, IfOk, IfErr};
 ghost use Rattle.rtt_io.specs.Names.{NoneFalls};
 ghost use Rattle.conference.specs.Conferences.{conf_of};
 ghost use Rattle.sent_files.specs.Files.{recordings_of};
-ghost use Rattle.rtt_top.specs.Conferences.{MixingEnds, OutputsEnd, fault_of_mixing};
+ghost use Rattle.rtt_top.specs.Conferences.{MixingEnds, MixingEndsWith, OutputsEnd, fault_of_mixing};
 ghost use Rattle.rtt_top.specs.Worlds.{SavesEach, IsUnwrittenIn};
 ghost use Rattle.file_spec.specs.declared.limits.TheConstants.{MOST_LEGS};
 
@@ -12,6 +12,8 @@ use crate::messages::print_all;
 use bridge_run::{MixFault, Mixed, mix};
 use command_spec::{Fault, Refusal};
 use conference::{Conf, LegLine};
+use rtt_attend::count_inputs;
+use rtt_base::{Bytes, NoMemory};
 use rtt_io::{Gate, Sink, World};
 use sent_files::SentFiles;
 use std::alloc::Global;
@@ -78,7 +80,43 @@ pub(crate) fn make_outputs<W: World, K: Sink>(
     print_all(mixed.views.as_slice(), out)
 }
 
-/// Mixes a conference, writes its outputs, and prints what is seen.
+/// A mixing with these lines behind its views.
+fn with_lines(mixed: Mixed, lines: Bytes) -> Result<Mixed, NoMemory>
+    ensures views { IfOk result (λ more. more.views.items ≡ mixed.views.items ++ lines ∷ []) }
+    ensures outs { IfOk result (λ more. more.outs ≡ mixed.outs) }
+{
+    let mut more = mixed;
+    match more.views.push(lines) {
+        Ok(()) => Ok(more),
+        Err(_) => Err(NoMemory),
+    }
+}
+
+/// Mixes a conference, writes its outputs, and prints what is seen, and behind it these lines.
+fn mix_with<R: Threads + Wait + Sync, W: World, K: Sink, G: Gate + Sync>(
+    rt: &R,
+    alloc: Global,
+    conf: &Conf,
+    lines: Bytes,
+    world: &mut W,
+    out: &mut K,
+    gate: &G,
+) -> Result<(), Fault>
+    ensures { MixingEndsWith W.World K.Sink world.old out.old world.new out.new (conf_of conf.now) lines result }
+{
+    let mixed = match mix(rt, alloc, conf, world, gate) {
+        Ok(mixed) => mixed,
+        Err(fault) => return Err(fault_of_mixing(conf.turns, fault)),
+    };
+    let more = match with_lines(mixed, lines) {
+        Ok(more) => more,
+        Err(NoMemory) => return Err(Fault::NoMemory),
+    };
+    make_outputs(conf.legs.as_slice(), more, world, out)
+}
+
+/// Mixes a conference, writes its outputs, and prints what is seen, and what is counted of its inputs where it asks for that. To be
+/// counted each input is read to its end before one is mixed.
 #[inline(never)]
 pub(crate) fn mix_conf<R: Threads + Wait + Sync, W: World, K: Sink, G: Gate + Sync>(
     rt: &R,
@@ -90,9 +128,9 @@ pub(crate) fn mix_conf<R: Threads + Wait + Sync, W: World, K: Sink, G: Gate + Sy
 ) -> Result<(), Fault>
     ensures { MixingEnds W.World K.Sink world.old out.old world.new out.new (conf_of conf.now) result }
 {
-    let mixed = match mix(rt, alloc, conf, world, gate) {
-        Ok(mixed) => mixed,
+    let lines = match count_inputs(alloc, conf, world) {
+        Ok(lines) => lines,
         Err(fault) => return Err(fault_of_mixing(conf.turns, fault)),
     };
-    make_outputs(conf.legs.as_slice(), mixed, world, out)
+    mix_with(rt, alloc, conf, lines, world, out, gate)
 }

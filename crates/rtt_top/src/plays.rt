@@ -63,6 +63,8 @@ pub enum Case<'a> {
     Mixed(&'a str, &'a str, &'a str),
     /// What Ann's recording has, and what `attend` prints of her call with Bob, who types nothing.
     Attended(&'a [Piece<'a>], &'a str),
+    /// What Ann's recording has, and what `mix` prints of her call with Bob, who types nothing, where legs are counted.
+    Counted(&'a [Piece<'a>], &'a str),
     /// What is recorded of a mixer that sent under 9000, and what `cascade` prints of Ann behind it and Cy, who types nothing.
     Behind(&'a [Piece<'a>], &'a str),
     /// What the links of Ann and of Bob, who types nothing, give in so many turns; what `live` prints behind what Ann sees, and
@@ -407,6 +409,12 @@ fn is_right<R: Threads + Wait + Clock + Copy + Send + Sync + 'static>(
             world.add_file("b.in", &OPENING)?;
             add_lines(alloc, world, "c.txt", &[MIXER, ANN, BOB, "wait 0\n"])?;
             ends(rt, alloc, world, Ran("attend c.txt", 0, printed, ""))
+        }
+        Case::Counted(ann, printed) => {
+            world.add_file("a.in", recording_of(alloc, ann)?.as_slice())?;
+            world.add_file("b.in", &OPENING)?;
+            add_lines(alloc, world, "c.txt", &[MIXER, ANN, "counts\n", BOB])?;
+            ends(rt, alloc, world, Ran("mix c.txt", 0, printed, ""))
         }
         Case::Behind(sent, printed) => {
             world.add_file("b.out", recording_of(alloc, sent)?.as_slice())?;

@@ -1,5 +1,5 @@
 use crate::plays::Case::{
-    Attended, Behind, LinkFault, Live, Mixed, Relayed, Sent, Silent, Untaken, View, Wrong,
+    Attended, Behind, Counted, LinkFault, Live, Mixed, Relayed, Sent, Silent, Untaken, View, Wrong,
 };
 use crate::plays::Piece::{Octets, Packet, Plain, Rtcp};
 use crate::plays::{
@@ -600,7 +600,12 @@ const AS_ANN: &str = "\
 // Three packets are lost, which all have the `e`.
 const E_LOST: [Piece<'static>; 2] = [Octets(SENT_H), Octets(SENT_LAST)];
 
-const CONFERENCES: [Case<'static>; 11] = [
+// A packet of text of Bob's SSRC, and one whose version is not 2.
+const BY_BOB: Piece<'static> = Packet(600, b"\x80\x62\0\x02\0\0\x02\x58\0\0\x03\xEAx");
+
+const OF_VERSION_1: Piece<'static> = Packet(600, b"\x40\x62\0\x02\0\0\x02\x58\0\0\x03\xE9x");
+
+const CONFERENCES: [Case<'static>; 13] = [
     // who presses Enter first: the label stands before the first letter
     Mixed(
         "0 Hello. ",
@@ -643,6 +648,22 @@ const CONFERENCES: [Case<'static>; 11] = [
 == Bob aware\nAnn: H\n-- Ann bells 0\n-- packets 3 used 3 refused 0 foreign 0\n",
     ),
     Attended(&[H, BOB_LEAVES, I], AS_ANN),
+    // of Ann two packets were heard, one refused and one of Bob's SSRC passed over; RTCP is none
+    Counted(
+        &[NAMES_ANN, H, I, BY_BOB, OF_VERSION_1],
+        "\
+== Ann aware\nBob: \n-- Bob bells 0\n-- packets 0 used 0 refused 0 foreign 0\n\
+== Bob aware\nAnn: Hi\n-- Ann bells 0\n-- packets 4 used 4 refused 0 foreign 0\n\
+-- Ann came 4 text 2 refused 1 foreign 1 senders 1\n-- Bob came 0 text 0 refused 0 foreign 0 senders 0\n",
+    ),
+    // her recording has another SSRC
+    Counted(
+        &[BY_BOB],
+        "\
+== Ann aware\nBob: \n-- Bob bells 0\n-- packets 0 used 0 refused 0 foreign 0\n\
+== Bob aware\nAnn: \n-- Ann bells 0\n-- packets 0 used 0 refused 0 foreign 0\n\
+-- Ann came 1 text 0 refused 0 foreign 1 senders 0\n-- Bob came 0 text 0 refused 0 foreign 0 senders 0\n",
+    ),
     // all came
     Behind(
         &MIXED,
@@ -679,6 +700,8 @@ const CLOSED: Coming<'static> = Coming(0, Came::Closed, b"");
 
 const ALL_CLOSED: Line<'static> = Line(&[AN_A, CLOSED], &[CLOSED], None, "turns 100\n");
 
+const ALL_COUNTED: Line<'static> = Line(&[AN_A, CLOSED], &[CLOSED], None, "turns 100\ncounts\n");
+
 const NOTHING_COMES: Line<'static> = Line(&[], &[], None, "turns 1\n");
 
 const AN_A_COMES: Line<'static> = Line(&[AN_A], &[], None, "turns 1\n");
@@ -691,11 +714,18 @@ const NO_GIVE: Line<'static> = Line(&[AN_A], &[], Some(FailingLink::Give(5002, 1
 
 const ONE_TYPED: &str = "-- board Ann total 1\n-- board Bob total 0\n";
 
-const LIVES: [Case<'static>; 6] = [
+const LIVES: [Case<'static>; 7] = [
     // all links are closed: Bob is sent the A and both repeats
     Live(
         &ALL_CLOSED,
         "== Bob aware\nAnn: A\n-- Ann bells 0\n-- packets 3 used 3 refused 0 foreign 0\n-- live closed\n",
+        ONE_TYPED,
+    ),
+    // the same, and the legs are counted
+    Live(
+        &ALL_COUNTED,
+        "== Bob aware\nAnn: A\n-- Ann bells 0\n-- packets 3 used 3 refused 0 foreign 0\n-- live closed\n\
+-- Ann came 1 text 1 refused 0 foreign 0 senders 1\n-- Bob came 0 text 0 refused 0 foreign 0 senders 0\n",
         ONE_TYPED,
     ),
     // nothing comes, for one turn

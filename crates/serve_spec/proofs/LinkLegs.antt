@@ -80,6 +80,7 @@ entry_fits above n = record {
   each_turns = λ ws x e. tt;
   each_relabel = λ ws x e. tt;
   each_follow = λ q ws x e. tt;
+  each_counts = λ ws x e. tt;
   each_service = λ q word ws x e. tt;
 }
 

@@ -4,6 +4,7 @@ use Rattle.std.proofs.Common.{◌≡◌, ℕ, zero, suc, ◌-◌, ◌<◌, ◌�
 use Rattle.std.specs.Prelude.{codes, ◌==◌}
 use Rattle.std.specs.Str.{is_utf8, chars}
 use Rattle.std.specs.Char.{encode_utf8}
+use Rattle.std.specs.Fmt.{digits}
 use Rattle.wire_spec.specs.Rtp.{rtp, rtp_of_header}
 use Rattle.wire_spec.specs.Red.{headers_at, texts_at, red}
 use Rattle.wire_spec.specs.Text.{text_of_short, text_of}
@@ -14,6 +15,7 @@ use Rattle.file_spec.specs.Conf.{Conf, conf, entry, leg_of, mixer_of, stay_or_pl
 use Rattle.stream_spec.specs.Ready.{Chunk}
 use Rattle.text_spec.specs.Characters.{class_of}
 use Rattle.text_spec.specs.Shown.{shown}
+use Rattle.view_spec.specs.Tallies.{tally_heard, tally_unheard}
 use Rattle.view_spec.specs.Views.{aware_view}
 use Rattle.mixer_spec.specs.Setups.{leg_at, setup}
 use Rattle.mixer_spec.specs.Table.{Table, chunks_taken, is_idle, is_seated}
@@ -23,7 +25,7 @@ use Rattle.link_spec.specs.Links.{Takes, is_closed}
 use Rattle.link_spec.specs.Links as link
 use Rattle.live_spec.specs.Told.{ready_by}
 use Rattle.live_spec.specs.Live.{AllMayTurn, AreLive, IsOver, IsUpToDate, Live, MayTurn, at_last, but_last, first_takes, is_blocked}
-use Rattle.serve_spec.specs.Served.{Closed, Done, End, IsDrained, IsServed, chunks_live, end_line, given_to, hearing_at, live_printed}
+use Rattle.serve_spec.specs.Served.{counts_lines, Closed, Done, End, IsDrained, IsServed, chunks_live, end_line, given_to, hearing_at, live_printed}
 use Rattle.serve_spec.specs.Watched.{board_line, board_lines}
 use Rattle.serve_spec.specs.HeadLive.{HeadLive}
 use Rattle.serve_spec.proofs.Promised.{head_law}
@@ -90,15 +92,15 @@ view name other line came = aware_view name (record { name = other; display = re
 abbrev shows : List ℕ → ℕ → End → List ℕ
 shows line came end = (view (codes "Ann") (codes "Bob") [] 0 ++ (view (codes "Bob") (codes "Ann") line came ++ [])) ++ end_line end
 
-closed_is_printed : shows (codes "A") 3 Closed ≡ live_printed (call 5000000) (to_bob (first ∷ second ∷ third ∷ [])) Closed
+closed_is_printed : shows (codes "A") 3 Closed ≡ live_printed (call 5000000) to_the_end (to_bob (first ∷ second ∷ third ∷ [])) Closed
 unfolding is_utf8 chars encode_utf8 text_of text_of_short rtp rtp_of_header red headers_at texts_at shown class_of
 closed_is_printed = refl
 
-nothing_is_printed : shows [] 0 Done ≡ live_printed (call 1) (to_bob []) Done
+nothing_is_printed : shows [] 0 Done ≡ live_printed (call 1) quiet (to_bob []) Done
 unfolding is_utf8 chars encode_utf8 text_of text_of_short rtp rtp_of_header red headers_at texts_at shown class_of
 nothing_is_printed = refl
 
-letter_is_printed : shows (codes "A") 1 Done ≡ live_printed (call 1) (to_bob (first ∷ [])) Done
+letter_is_printed : shows (codes "A") 1 Done ≡ live_printed (call 1) one_letter (to_bob (first ∷ [])) Done
 unfolding is_utf8 chars encode_utf8 text_of text_of_short rtp rtp_of_header red headers_at texts_at shown class_of
 letter_is_printed = refl
 
@@ -248,6 +250,11 @@ watch_closed : board_lines long (chunks_live long to_the_end) ≡ board_line ann
 unfolding is_utf8 chars encode_utf8 text_of text_of_short rtp rtp_of_header red headers_at texts_at
 watch_closed = refl
 
+-- of Ann's link one datagram came, of Bob's none
+long_counts : counts_lines long to_the_end ≡ codes "-- Ann came 1 text 1 refused 0 foreign 0 senders 1\n-- Bob came 0 text 0 refused 0 foreign 0 senders 0\n"
+unfolding digits tally_heard tally_unheard is_utf8 chars encode_utf8 text_of text_of_short rtp rtp_of_header red headers_at texts_at
+long_counts = refl
+
 -- so it keeps what is promised
 live_closed_keeps : HeadLive long to_the_end (to_bob (first ∷ second ∷ third ∷ [])) Closed (shows (codes "A") 3 Closed)
 live_closed_keeps = head_law legs long to_the_end (to_bob (first ∷ second ∷ third ∷ [])) Closed (shows (codes "A") 3 Closed) many_turns live_closed
@@ -271,7 +278,7 @@ quiet_gives (suc (suc j)) leg e = absurd (cc e)
 -- after one turn all turns were made
 done_at_once : (takes : ℕ → Takes) (packets : List (List ℕ)) (printed : List ℕ) (table : Table) (live : Live (setup short) (hearing_at short) takes 1 table)
     → (IsOver (setup short) (hearing_at short) takes (chunks_live short takes) live.past (at_last live.counts) → ⊥)
-    → ((j : ℕ) (leg : LegLine) → leg_at short.legs j ≡ Some leg → to_bob packets j ≡ given_to short table j leg) → printed ≡ live_printed short (to_bob packets) Done
+    → ((j : ℕ) (leg : LegLine) → leg_at short.legs j ≡ Some leg → to_bob packets j ≡ given_to short table j leg) → printed ≡ live_printed short takes (to_bob packets) Done
     → IsServed short takes (to_bob packets) Done printed
 done_at_once takes packets printed table live goes_on gives prints = record {
   table = table;

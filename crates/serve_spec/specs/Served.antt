@@ -12,9 +12,11 @@ use Rattle.file_spec.specs.Conf.{Conf}
 use Rattle.mixer_spec.specs.Setups.{leg_at, setup, ssrc_of}
 use Rattle.mixer_spec.specs.Table.{Table, chunks_taken, is_idle, turned}
 use Rattle.view_spec.specs.Seen.{aware_seen, unaware_seen}
+use Rattle.view_spec.specs.Tallies.{tally_line}
 use Rattle.command_spec.specs.Mixing.{reception_of, sent_to, speaker_of}
 use Rattle.link_spec.specs.Links.{Takes, is_closed}
 use Rattle.live_spec.specs.Told.{Hearing, Told, heard_told, told_by}
+use Rattle.live_spec.specs.Tally.{kept, tally_by}
 use Rattle.live_spec.specs.Live.{IsOver, Live, at_last, live_chunks}
 
 -- how a live call ended: all turns were made, or all links are closed and nothing is left, or it broke off before
@@ -85,9 +87,17 @@ end_line Done = codes "-- live done\n"
 end_line Closed = codes "-- live closed\n"
 end_line Broken = []
 
+-- what is counted of each leg, one line for each, in leg order
+abbrev pub counts_lines : Conf → (ℕ → Takes) → List ℕ
+counts_lines c takes = flat_map (λ x. tally_line x.1.name (kept (tally_by (hearing_at c x.0) (takes x.0)))) (enumerate_from 0 c.legs)
+
+-- where the conference asks for it
+abbrev pub counted : Conf → (ℕ → Takes) → List ℕ
+counted c takes = if c.service.counts then counts_lines c takes else []
+
 -- what is printed; of a call that broke off, what would be
-abbrev pub live_printed : Conf → (ℕ → List (List ℕ)) → End → List ℕ
-live_printed c given end = live_views c given ++ end_line end
+abbrev pub live_printed : Conf → (ℕ → Takes) → (ℕ → List (List ℕ)) → End → List ℕ
+live_printed c takes given end = live_views c given ++ (end_line end ++ counted c takes)
 
 -- ---- the call
 -- The link of the leg j was closed, and all that is heard of it was taken by the mixer.
@@ -103,7 +113,7 @@ pub record IsServed (c : Conf) (takes : ℕ → Takes) (given : ℕ → List (Li
   pub live : Live (setup c) (hearing_at c) takes turns table
   pub few : turns ≤ c.turns
   pub gives : (j : ℕ) (leg : LegLine) → leg_at c.legs j ≡ Some leg → given j ≡ given_to c table j leg
-  pub prints : printed ≡ live_printed c given end
+  pub prints : printed ≡ live_printed c takes given end
   -- At `Done` all turns were made, and behind the last one the call was not over.
   pub done : end ≡ Done → turns ≡ c.turns
   pub goes_on : end ≡ Done → IsOver (setup c) (hearing_at c) takes (chunks_live c takes) live.past (at_last live.counts) → ⊥

@@ -12,7 +12,7 @@ use Rattle.mixer_spec.specs.Setups.{setup}
 use Rattle.mixer_spec.specs.Table.{Table, chunks_taken}
 use Rattle.view_spec.specs.Views.{printed_line}
 use Rattle.link_spec.specs.Links.{Takes}
-use Rattle.serve_spec.specs.Served.{Closed, End, chunks_live, live_printed}
+use Rattle.serve_spec.specs.Served.{Closed, End, chunks_live}
 
 -- the line of a leg, of which so many octets were taken
 abbrev pub board_line : LegLine → ℕ → List ℕ
@@ -21,10 +21,6 @@ board_line leg total = printed_line (codes "-- board " ++ leg.name ++ codes " to
 -- one for each leg, in leg order, where these chunks are those of each
 abbrev pub board_lines : Conf → (ℕ → List Chunk) → List ℕ
 board_lines c chunks = flat_map (λ x. board_line x.1 (octets (chunks x.0))) (enumerate_from 0 c.legs)
-
--- what is printed
-abbrev pub watched_printed : Conf → (ℕ → List (List ℕ)) → (ℕ → List Chunk) → End → List ℕ
-watched_printed c given chunks end = live_printed c given end ++ board_lines c chunks
 
 -- The lines of a board, where the links gave this and the mixer came to this table: they count what the mixer took. At `Closed`
 -- that is all that is heard.

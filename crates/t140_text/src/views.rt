@@ -1,11 +1,13 @@
 //! What is printed of a text, appended to what was printed before. Where memory runs out a part of it may be appended.
 ghost use Rattle.std.specs.Prelude.{◌≡◌, ◌++◌, OnOk, flat_map};
 ghost use Rattle.view_spec.specs.Views.{aware_title, counts_line, printed_lines, source_view, text_view, unaware_title};
+ghost use Rattle.view_spec.specs.Tallies.{tally_heard, tally_line, tally_unheard};
 ghost use Rattle.t140_text.specs.Displays.{Extends, display_of};
 
 use crate::{Counts, Lines, Shown};
 use itoa::Buffer;
 use rtt_base::{Bytes, NoMemory};
+use view_spec::Tally;
 
 /// Appends the first line of the view of a terminal that keeps its sources apart.
 #[tactic(auto, unfolding(view_spec::specs::Views::aware_title))]
@@ -77,6 +79,52 @@ pub fn append_counts(counts: Counts, out: &mut Bytes) -> Result<(), NoMemory>
         refused.format(counts.refused).as_bytes(),
         b" foreign ",
         foreign.format(counts.foreign).as_bytes(),
+        b"\n",
+    ];
+    append_all(&parts, out)
+}
+
+/// Appends the line of what is counted of the leg of this name.
+pub fn append_tally(name: &[u8], tally: Tally, out: &mut Bytes) -> Result<(), NoMemory>
+    ensures ok { OnOk result (out.new ≡ out.old ++ tally_line name.now tally) }
+    ensures kept { Extends out.old out.new }
+{
+    append_heard(name, tally, out)?;
+    append_unheard(tally, out)
+}
+
+// Appends how a leg of this name was heard.
+#[tactic(auto, unfolding(view_spec::specs::Tallies::tally_heard))]
+fn append_heard(name: &[u8], tally: Tally, out: &mut Bytes) -> Result<(), NoMemory>
+    ensures ok { OnOk result (out.new ≡ out.old ++ tally_heard name.now tally) }
+    ensures kept { Extends out.old out.new }
+{
+    let [mut came, mut text] = [Buffer::new(); 2];
+    let parts: [&[u8]; 6] = [
+        b"-- ",
+        name,
+        b" came ",
+        came.format(tally.came).as_bytes(),
+        b" text ",
+        text.format(tally.text).as_bytes(),
+    ];
+    append_all(&parts, out)
+}
+
+// Appends what of a leg was not heard, and how many senders were.
+#[tactic(auto, unfolding(view_spec::specs::Tallies::tally_unheard))]
+fn append_unheard(tally: Tally, out: &mut Bytes) -> Result<(), NoMemory>
+    ensures ok { OnOk result (out.new ≡ out.old ++ tally_unheard tally) }
+    ensures kept { Extends out.old out.new }
+{
+    let [mut refused, mut foreign, mut senders] = [Buffer::new(); 3];
+    let parts: [&[u8]; 7] = [
+        b" refused ",
+        refused.format(tally.refused).as_bytes(),
+        b" foreign ",
+        foreign.format(tally.foreign).as_bytes(),
+        b" senders ",
+        senders.format(tally.senders).as_bytes(),
         b"\n",
     ];
     append_all(&parts, out)

@@ -1,4 +1,5 @@
 pub mod Views
 pub mod Seen
+pub mod Tallies
 pub mod Markers
 pub mod Examples

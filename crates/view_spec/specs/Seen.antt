@@ -45,6 +45,9 @@ fate_at r item = fate_of_what r item.what
 abbrev pub is_packet : Fate → Bool
 is_packet fate = elim fate [ NoPacket ↦ false | _ ↦ true ]
 
+abbrev pub is_text : Fate → Bool
+is_text fate = elim fate [ Text ↦ true | _ ↦ false ]
+
 abbrev pub is_refused : Fate → Bool
 is_refused fate = elim fate [ Refused ↦ true | _ ↦ false ]
 

@@ -3,5 +3,7 @@
 
 mod counts;
 pub mod laws;
+mod tallies;
 
 pub use counts::Counts;
+pub use tallies::Tally;

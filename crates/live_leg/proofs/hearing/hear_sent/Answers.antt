@@ -2,11 +2,11 @@ use Rattle.std.proofs.Math.Logic.{∥∥₁_map}
 use Rattle.gap_tracker.specs.Stories.{ended}
 use Rattle.ear.specs.Hears.{text_for, told}
 use Rattle.live_leg.proofs.Ears.{becomes_giving}
-use Rattle.live_leg.proofs.Taking.{sent_first, sent_nobody, sent_other, sent_sender}
+use Rattle.live_leg.proofs.Taking.{sent_first, sent_other, sent_sender, sent_unheard}
 use Rattle.live_leg.proofs.hearing.hear_sent.Goals as goal
 
-pub returns-in-Nobody-clause-hears : goal.returns-in-Nobody-clause-hears
-returns-in-Nobody-clause-hears c = sent_nobody c.args.sent c.args.ear.now _ _ c.args.octets.now c.in-Nobody.is
+pub returns-in-Refused-clause-hears : goal.returns-in-Refused-clause-hears
+returns-in-Refused-clause-hears c = sent_unheard c.args.sent c.args.ear.now _ _ c.args.octets.now c.in-Refused.is
 
 pub returns-in-Sender-clause-hears : goal.returns-in-Sender-clause-hears
 returns-in-Sender-clause-hears c =

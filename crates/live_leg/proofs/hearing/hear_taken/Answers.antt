@@ -2,6 +2,7 @@ use Rattle.std.proofs.Math.Logic.{∥∥₁_map}
 use Rattle.gap_tracker.specs.Stories.{ended, went}
 use Rattle.live_leg.proofs.Ears.{becomes_giving}
 use Rattle.live_leg.proofs.Taking.{follows_closed, follows_datagram, follows_large, follows_quiet}
+use Rattle.live_leg.proofs.Tallying.{counts_closed, counts_datagram, counts_large, counts_quiet}
 use Rattle.live_leg.proofs.hearing.hear_taken.Goals as goal
 
 pub returns-in-Datagram-clause-hears : goal.returns-in-Datagram-clause-hears
@@ -32,3 +33,16 @@ returns-in-Closed-clause-hears c =
 pub returns-in-Closed-clause-giving : goal.returns-in-Closed-clause-giving
 returns-in-Closed-clause-giving c =
     ∥∥₁_map c.requires.giving (becomes_giving c.args.ear.now c.finish.new.self (λ conf story. ended story) c.finish.ensures.becomes)
+
+pub returns-in-Datagram-clause-counts : goal.returns-in-Datagram-clause-counts
+returns-in-Datagram-clause-counts c =
+    counts_datagram c.args.senders.now c.meet-sent.new.self c.args.tally.now c.count.new.self c.args.taken c.args.octets.now c.meet-sent.result c.in-Datagram.is c.meet-sent.ensures c.count.ensures
+
+pub returns-in-Large-clause-counts : goal.returns-in-Large-clause-counts
+returns-in-Large-clause-counts c = counts_large c.args.senders.now c.args.tally.now c.refuse.new.self c.args.taken c.args.octets.now c.in-Large.is c.refuse.ensures
+
+pub returns-in-Quiet-clause-counts : goal.returns-in-Quiet-clause-counts
+returns-in-Quiet-clause-counts c = counts_quiet c.args.senders.now c.args.tally.now c.args.taken c.args.octets.now c.in-Quiet.is
+
+pub returns-in-Closed-clause-counts : goal.returns-in-Closed-clause-counts
+returns-in-Closed-clause-counts c = counts_closed c.args.senders.now c.args.tally.now c.args.taken c.args.octets.now c.in-Closed.is

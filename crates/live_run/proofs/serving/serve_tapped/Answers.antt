@@ -1,12 +1,30 @@
-use Rattle.std.proofs.Common.{◌∙◌, inl, refl, ℕ, subst, sym, arith}
+use Rattle.std.proofs.Common.{◌≤◌, ◌∙◌, inl, refl, ℕ, List, length, ap, subst, sym, arith}
 use Rattle.conference.specs.Conferences.{conf_of}
 use Rattle.live_loop.specs.Clocks.{IsPaced}
+use Rattle.live_leg.specs.declared.legs.LinkLeg.{LinkLeg}
+use Rattle.live_leg.specs.declared.tallies.LegTally.{LegTally}
+use Rattle.live_run.specs.Listeners.{ArePrintedOf}
+use Rattle.live_run.specs.Reports.{end_of}
 use Rattle.live_run.specs.Spans.{span_of}
-use Rattle.live_run.proofs.Returning.{broke_off_by, done_turned, gave_nothing, given_up_by, same_span, served_by, was_not_opened}
+use Rattle.live_run.specs.Tallies.{tallies_in}
+use Rattle.live_run.proofs.Composing.{map_long}
+use Rattle.live_run.proofs.Returning.{broke_off_by, counted_by, done_turned, gave_nothing, given_up_by, same_span, served_by, was_not_opened}
 use Rattle.live_run.proofs.serving.serve_tapped.Goals as goal
 
 pub returns-in-Err-clause-given_up : goal.returns-in-Err-clause-given_up
 returns-in-Err-clause-given_up g c = was_not_opened g.W.Links.tells _ (g.W.Links.own_faults c.args.world.now) _ _ _ (conf_of c.args.conf.now) c.requires.links c.in-Err.fault c.in-Err.ensures.refused
+
+pub tallies_of-tallies-requires : goal.tallies_of-tallies-requires
+tallies_of-tallies-requires g c =
+    let seats : length c.args.conf.now.legs ≤ 16 = c.requires.links.stay.seats in
+    let many = c.call-turned.ensures.called.many_legs in
+    let same = ap (λ (legs : List (LinkLeg g.row.W-In.Denot)). length legs) c.as_slice.ensures.value in
+    omega (arith, seats, many, same)
+
+pub printed-requires-clause-tallied : goal.printed-requires-clause-tallied
+printed-requires-clause-tallied g c =
+    ap (λ (tallies : List LegTally). length tallies) (c.as_slice-2.ensures.value ∙ (c.tallies_of-tallies.ensures ∙ ap (λ (legs : List (LinkLeg g.row.W-In.Denot)). tallies_in legs) c.as_slice.ensures.value))
+    ∙ (map_long (λ (leg : LinkLeg g.row.W-In.Denot). leg.tally) c.call-turned.result.legs.items ∙ c.call-turned.ensures.called.many_legs)
 
 pub returns-in-Err-answer_of-clause-given_up : goal.returns-in-Err-answer_of-clause-given_up
 returns-in-Err-answer_of-clause-given_up g c =
@@ -20,7 +38,17 @@ pub returns-in-Ok-printed-clause-tapped : goal.returns-in-Ok-printed-clause-tapp
 returns-in-Ok-printed-clause-tapped g c =
     served_by g.W.In.LinkIn g.W.Out.LinkOut (g.T.Tap.stands c.call-turned.result.tap) g.W.Links.tells (conf_of c.args.conf.now) _ (g.W.Links.opened c.call-turned.new.world) c.call-turned.result c.call-turned.ensures.called c.requires.links (span_of g.W.Links c.args.world.now c.close_ends.new.world)
     (same_span g.W.Links c.args.world.now c.open_links.new.world c.call-turned.new.world c.close_ends.new.world c.in-Ok-open_links.ensures.same_pauses c.in-Ok-open_links.ensures.same_moment (c.close_ends.ensures.same_moment ∙ c.close_legs.ensures.same_moment)) (g.W.Links.opened c.close_legs.new.world) (g.W.Links.taken_at c.close_legs.new.world) (g.W.Links.taken_at c.close_ends.new.world) (g.W.Links.given_at c.close_ends.new.world)
-    c.close_legs.ensures.stored c.close_ends.ensures.same_taken c.close_legs.ensures.same_opened c.close_ends.ensures.stored c.in-Ok-answer_of.end c.in-Ok-printed.views (sym c.in-Ok-answer_of.ensures) c.in-Ok-printed.ensures
+    c.close_legs.ensures.stored c.close_ends.ensures.same_taken c.close_legs.ensures.same_opened c.close_ends.ensures.stored c.in-Ok-answer_of.end c.in-Ok-printed.views c.tallies_of-tallies.result.items (sym c.in-Ok-answer_of.ensures)
+    (subst (λ (tallies : List LegTally). ArePrintedOf (conf_of c.args.conf.now) c.call-turned.result.listeners.items tallies (end_of c.in-Ok-answer_of.end) c.in-Ok-printed.views) c.as_slice-2.ensures.value c.in-Ok-printed.ensures)
+    (c.tallies_of-tallies.ensures ∙ ap (λ (legs : List (LinkLeg g.row.W-In.Denot)). tallies_in legs) c.as_slice.ensures.value)
+
+pub returns-in-Ok-printed-clause-counted : goal.returns-in-Ok-printed-clause-counted
+returns-in-Ok-printed-clause-counted g c =
+    counted_by g.W.In.LinkIn g.W.Out.LinkOut (g.T.Tap.stands c.call-turned.result.tap) g.W.Links.tells (conf_of c.args.conf.now) _ (g.W.Links.opened c.call-turned.new.world) c.call-turned.result c.call-turned.ensures.called c.requires.links (span_of g.W.Links c.args.world.now c.close_ends.new.world)
+    (same_span g.W.Links c.args.world.now c.open_links.new.world c.call-turned.new.world c.close_ends.new.world c.in-Ok-open_links.ensures.same_pauses c.in-Ok-open_links.ensures.same_moment (c.close_ends.ensures.same_moment ∙ c.close_legs.ensures.same_moment)) (g.W.Links.opened c.close_legs.new.world) (g.W.Links.taken_at c.close_legs.new.world) (g.W.Links.taken_at c.close_ends.new.world) (g.W.Links.given_at c.close_ends.new.world)
+    c.close_legs.ensures.stored c.close_ends.ensures.same_taken c.close_legs.ensures.same_opened c.close_ends.ensures.stored c.in-Ok-answer_of.end c.in-Ok-printed.views c.tallies_of-tallies.result.items (sym c.in-Ok-answer_of.ensures)
+    (subst (λ (tallies : List LegTally). ArePrintedOf (conf_of c.args.conf.now) c.call-turned.result.listeners.items tallies (end_of c.in-Ok-answer_of.end) c.in-Ok-printed.views) c.as_slice-2.ensures.value c.in-Ok-printed.ensures)
+    (c.tallies_of-tallies.ensures ∙ ap (λ (legs : List (LinkLeg g.row.W-In.Denot)). tallies_in legs) c.as_slice.ensures.value)
 
 pub returns-in-Ok-printed-clause-objects_never_fall : goal.returns-in-Ok-printed-clause-objects_never_fall
 returns-in-Ok-printed-clause-objects_never_fall g c = λ p. omega (arith, c.call-turned.ensures.same_objects p, c.open_links.ensures.same_objects p, c.close_legs.ensures.objects_never_fall p, c.close_ends.ensures.objects_never_fall p)

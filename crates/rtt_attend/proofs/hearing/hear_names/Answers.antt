@@ -1,50 +1,14 @@
-use Rattle.std.proofs.Common.{◌≡◌, ℕ, List, length, ap, subst, sym, ◌∙◌}
+use Rattle.std.proofs.Common.{◌≡◌, List, ap, subst, sym, ◌∙◌}
 use Rattle.file_spec.specs.declared.conf_lines.LegLine.{LegLine}
 use Rattle.file_spec.specs.Conf.{Conf}
 use Rattle.file_spec.specs.Kept.{IsConference}
 use Rattle.conference.specs.Conferences.{conf_of}
-use Rattle.mixer_spec.specs.Bridged.{input_limit}
-use Rattle.command_spec.specs.Work.{Contents}
 use Rattle.command_spec.specs.Attending.{named_by}
-use Rattle.command_spec.specs.Inputs.{AllLie}
 use Rattle.command_spec.proofs.Naming.{named_conference}
-use Rattle.bridge_run.specs.Mixes.{RoseAt}
 use Rattle.rtt_attend.specs.declared.said.Said.{Said}
-use Rattle.rtt_attend.specs.Opened.{AreHeard}
-use Rattle.rtt_attend.specs.Named.{AreTold, says_in}
-use Rattle.rtt_attend.proofs.Lists.{same_function}
-use Rattle.rtt_attend.proofs.Legs.{are_told, is_named, lie_below, none_failed, none_refused, stops, unheard_of}
+use Rattle.rtt_attend.specs.Named.{says_in}
+use Rattle.rtt_attend.proofs.Legs.{is_named}
 use Rattle.rtt_attend.proofs.hearing.hear_names.Goals as goal
-
-pub returns-in-Err-hear_inputs-clause-stops : goal.returns-in-Err-hear_inputs-clause-stops
-returns-in-Err-hear_inputs-clause-stops g c =
-    let held = g.W.World.contents in
-    let objects = g.W.World.object_faults in
-    let last = objects c.hear_inputs.new.world in
-    let lines = c.as_slice-lines.result.now in
-    let conf = conf_of c.args.conf.now in
-    let call = RoseAt (g.W.World.own_faults c.args.world.now) (g.W.World.own_faults c.hear_inputs.new.world) in
-    let all_lie : g.W.World.tells → AllLie (held c.args.world.now) conf.legs = λ t. subst (λ (l : List LegLine). AllLie (held c.args.world.now) l) c.as_slice-lines.ensures
-    (lie_below g.W.World.tells g.W.Src.Source.left g.W.Src.Source.faults g.W.Src.Source.name (held c.args.world.now) lines c.in-Ok-open_inputs.sources.items (length lines) c.in-Ok-open_inputs.ensures.opened c.in-Ok-open_inputs.ensures.count t) in
-    stops (held c.args.world.now) conf g.W.World.tells call (objects c.args.world.now) last c.in-Err-hear_inputs.fault all_lie
-    (unheard_of g.W.World.tells (objects c.args.world.now) (objects c.open_inputs.new.world) last (held c.args.world.now) (held c.open_inputs.new.world) c.input_limit-limit.result (input_limit conf) lines conf.legs c.in-Err-hear_inputs.fault
-    c.as_slice-lines.ensures c.input_limit-limit.ensures c.open_inputs.ensures.same_objects c.open_inputs.ensures.same_contents c.in-Err-hear_inputs.ensures.unheard)
-
-pub returns-in-Err-hear_inputs-clause-none_failed : goal.returns-in-Err-hear_inputs-clause-none_failed
-returns-in-Err-hear_inputs-clause-none_failed g c =
-    let held = g.W.World.contents in
-    let objects = g.W.World.object_faults in
-    let last = objects c.hear_inputs.new.world in
-    let conf = conf_of c.args.conf.now in
-    none_failed (held c.args.world.now) conf g.W.World.tells (RoseAt (g.W.World.own_faults c.args.world.now) (g.W.World.own_faults c.hear_inputs.new.world)) (objects c.args.world.now) last c.in-Err-hear_inputs.fault
-    (unheard_of g.W.World.tells (objects c.args.world.now) (objects c.open_inputs.new.world) last (held c.args.world.now) (held c.open_inputs.new.world) c.input_limit-limit.result (input_limit conf) c.as_slice-lines.result.now conf.legs c.in-Err-hear_inputs.fault
-    c.as_slice-lines.ensures c.input_limit-limit.ensures c.open_inputs.ensures.same_objects c.open_inputs.ensures.same_contents c.in-Err-hear_inputs.ensures.unheard)
-
-pub returns-in-Err-hear_inputs-clause-first : goal.returns-in-Err-hear_inputs-clause-first
-returns-in-Err-hear_inputs-clause-first g c =
-    none_refused g.W.World.tells (g.W.World.own_faults c.args.world.now) (g.W.World.own_faults c.hear_inputs.new.world) (g.W.World.object_faults c.open_inputs.new.world) (g.W.World.object_faults c.hear_inputs.new.world)
-    (g.W.World.contents c.args.world.now) (g.W.World.contents c.open_inputs.new.world) c.input_limit-limit.result c.args.conf.now.legs c.as_slice-lines.result.now c.in-Err-hear_inputs.fault c.in-Err-hear_inputs.ensures.unheard
-    (λ n. c.hear_inputs.ensures.same_own n ∙ c.in-Ok-open_inputs.ensures.calm n)
 
 pub invariant_of-conf : goal.invariant_of-conf
 invariant_of-conf g c =
@@ -57,17 +21,7 @@ pub returns-clause-named : goal.returns-clause-named
 returns-clause-named g c = λ t.
     let old = conf_of c.args.conf.now in
     let held = g.W.World.contents c.args.world.now in
-    let then = g.W.World.contents c.open_inputs.new.world in
-    let lines = c.as_slice-lines.result.now in
-    let limit = c.input_limit-limit.result in
-    let said = c.in-Ok-hear_inputs.said in
-    let are = c.as_slice-lines.ensures in
-    let all_lie : AllLie held old.legs = subst (λ (l : List LegLine). AllLie held l) are
-    (lie_below g.W.World.tells g.W.Src.Source.left g.W.Src.Source.faults g.W.Src.Source.name held lines c.in-Ok-open_inputs.sources.items (length lines) c.in-Ok-open_inputs.ensures.opened c.in-Ok-open_inputs.ensures.count t) in
-    let same : then ≡ held = same_function then held (c.open_inputs.ensures.same_contents t) in
-    let told : AreTold held old said.items = are_told held old said.items (c.in-Ok-hear_inputs.ensures.count ∙ ap (λ (l : List LegLine). length l) are) all_lie
-    (subst (λ (n : ℕ). AreHeard n held old.legs said.items) c.input_limit-limit.ensures
-    (subst (λ (l : List LegLine). AreHeard limit held l said.items) are (subst (λ (h : Contents). AreHeard limit h lines said.items) same (c.in-Ok-hear_inputs.ensures.heard t)))) in
+    let said = c.in-Ok.said in
     let is : record old { legs = c.tell_legs.new.legs } ≡ named_by (says_in said.items) old =
     ap (λ (l : List LegLine). record old { legs = l }) c.tell_legs.ensures ∙ ap (λ (all : List Said). named_by (says_in all) old) c.as_slice.ensures.value in
-    is_named held old said.items (record old { legs = c.tell_legs.new.legs }) told is
+    is_named held old said.items (record old { legs = c.tell_legs.new.legs }) (c.in-Ok.ensures.told t) is

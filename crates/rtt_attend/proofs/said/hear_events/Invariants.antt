@@ -5,4 +5,7 @@ use Rattle.rtt_attend.proofs.said.hear_events.Given as goal
 
 -- those so far and those of the rest are all
 abbrev pub invariant-loop-event : goal.invariant-loop-event
-invariant-loop-event l = and_events l.ssrc l.at (said_of l.said) (drop l.event-index l.events) ≡ and_events l.ssrc l.at (said_of l.fn.said) l.events
+invariant-loop-event l = record {
+  said : and_events l.ssrc l.at (said_of l.said) (drop l.event-index l.events) ≡ and_events l.ssrc l.at (said_of l.fn.said) l.events;
+  tally : l.said.tally ≡ l.fn.said.tally;
+}

@@ -1,36 +1,32 @@
-use Rattle.std.proofs.Common.{Err, refl, sym, subst}
-use Rattle.std.specs.List.{concat}
+use Rattle.std.proofs.Common.{Err, refl, ap, sym, subst, ◌∙◌}
 use Rattle.conference.specs.Conferences.{conf_of}
 use Rattle.command_spec.specs.declared.faults.Fault.{Fault}
-use Rattle.sent_files.specs.Files.{recordings_of}
-use Rattle.bridge_run.specs.Mixes.{outputs_of}
-use Rattle.rtt_top.specs.Conferences.{OutputsEnd, ending_name}
+use Rattle.command_spec.specs.Inputs.{inputs_under}
+use Rattle.command_spec.specs.Mixing.{counted}
+use Rattle.command_spec.specs.Work.{Contents}
+use Rattle.rtt_top.specs.Conferences.{ending_name}
 use Rattle.rtt_top.specs.Outside.{outside_at}
 use Rattle.rtt_top.specs.Runs.{Ends}
-use Rattle.rtt_top.proofs.Bridging.{mixing_makes, names_outputs, stopped_mixing}
-use Rattle.rtt_top.proofs.Since.{ends_since, makes_since}
+use Rattle.rtt_top.proofs.Bridging.{stopped_mixing}
+use Rattle.rtt_top.proofs.Since.{comes_since, ends_since}
 use Rattle.rtt_top.proofs.mix.mix_conf.Goals as goal
 
 pub returns-in-Err : goal.returns-in-Err
 returns-in-Err g c = λ file command m.
     let old = outside_at g.W.World g.K.Sink c.args.world.now c.args.out.now in
-    let new = outside_at g.W.World g.K.Sink c.mix.new.world c.args.out.now in
+    let new = outside_at g.W.World g.K.Sink c.count_inputs.new.world c.args.out.now in
     let P : Fault → Type 0 = λ f. Ends command g.W.World.tells g.K.Sink.tells old new (ending_name file c.args.conf.now.legs (Err f)) (Err f) in
     subst P (sym c.fault_of_mixing.ensures)
-    (stopped_mixing g.W.World.tells g.K.Sink.tells old new file command (conf_of c.args.conf.now) c.in-Err.fault m c.in-Err.ensures.stops c.in-Err.ensures.none_failed c.in-Err.ensures.first ((λ shown. refl), c.in-Err.ensures.same_contents))
+    (stopped_mixing g.W.World.tells g.K.Sink.tells old new file command (conf_of c.args.conf.now) c.in-Err.fault m c.in-Err.ensures.stops c.in-Err.ensures.none_failed c.in-Err.ensures.first ((λ shown. refl), c.count_inputs.ensures.same_contents))
 
 pub returns : goal.returns
 returns g c = λ file command m.
+    let conf = conf_of c.args.conf.now in
     let old = outside_at g.W.World g.K.Sink c.args.world.now c.args.out.now in
-    let mid = outside_at g.W.World g.K.Sink c.mix.new.world c.args.out.now in
-    let new = outside_at g.W.World g.K.Sink c.make_outputs.new.world c.make_outputs.new.out in
-    let legs = c.args.conf.now.legs in
-    let mixed = c.in-Ok.mixed in
-    let printed = concat mixed.views.items in
-    let recordings = recordings_of mixed.outs in
-    let ends = subst (λ lines. OutputsEnd g.W.World g.K.Sink c.mix.new.world c.args.out.now c.make_outputs.new.world c.make_outputs.new.out lines mixed c.make_outputs.result) c.as_slice.ensures c.make_outputs.ensures in
-    ends_since command g.W.World.tells g.K.Sink.tells old mid new (ending_name file legs c.make_outputs.result) c.make_outputs.result
-    (record { same = c.mix.ensures.same_contents; calls_rise = c.mix.ensures.calls_never_fall; objects_rise = c.mix.ensures.objects_never_fall }) refl refl c.in-Ok.ensures.none_failed c.in-Ok.ensures.opened
-    (ends command (ending_name file legs) (names_outputs file legs)
-    (makes_since g.W.World.tells old.contents mid.contents command legs printed (outputs_of legs recordings) c.mix.ensures.same_contents
-    (mixing_makes g.W.World.tells old.contents command (conf_of c.args.conf.now) printed recordings m (λ told. let made = c.in-Ok.ensures.made told in (made.lie, made.makes)))))
+    let mid = outside_at g.W.World g.K.Sink c.count_inputs.new.world c.args.out.now in
+    let new = outside_at g.W.World g.K.Sink c.mix_with.new.world c.mix_with.new.out in
+    let same = c.count_inputs.ensures.same_contents in
+    ends_since command g.W.World.tells g.K.Sink.tells old mid new (ending_name file conf.legs c.mix_with.result) c.mix_with.result
+    (record { same = same; calls_rise = c.count_inputs.ensures.calls_never_fall; objects_rise = c.count_inputs.ensures.objects_never_fall }) refl refl c.in-Ok.ensures.calm c.in-Ok.ensures.opened
+    (c.mix_with.ensures (λ told. c.in-Ok.ensures.counted told ∙ ap (λ (held : Contents). counted conf (inputs_under held conf.legs)) (λ i name. sym (same told name) i)) file command
+    (comes_since g.W.World.tells old.contents mid.contents same command conf m))

@@ -5,4 +5,4 @@ use Rattle.live_leg.proofs.Texts.{counts_same}
 use Rattle.live_leg.proofs.legs.LinkLeg.quit.Goals as goal
 
 pub returns : goal.returns
-returns g c = stops g.L.LinkIn c.args.self.now _ Quit (λ leg. refl) c.requires refl refl refl refl (λ t. refl) refl (omega arith) refl (λ f h. tt) (λ b f h k. counts_same b f _ k)
+returns g c = stops g.L.LinkIn c.args.self.now _ Quit (λ leg. refl) c.requires refl refl refl refl refl (λ t. refl) refl (omega arith) refl (λ f h. tt) (λ b f h k. counts_same b f _ k)

@@ -1,5 +1,5 @@
 use Rattle.std.proofs.Common.{sym, ◌∙◌}
-use Rattle.live_leg.proofs.Knowing.{meets_nobody, meets_other, meets_sender}
+use Rattle.live_leg.proofs.Knowing.{meets_foreign, meets_other, meets_sender}
 use Rattle.live_leg.proofs.senders.Senders.meet_text.Goals as goal
 
 pub returns-then-is_sender : goal.returns-then-is_sender
@@ -13,4 +13,4 @@ returns-then-takes_over c =
 
 pub returns : goal.returns
 returns c =
-    meets_nobody c.args.self.now c.args.now c.args.ssrc (sym c.is_sender.ensures ∙ c.if-is_sender.false) (sym c.takes_over.ensures ∙ c.if-takes_over.false)
+    meets_foreign c.args.self.now c.args.now c.args.ssrc (sym c.is_sender.ensures ∙ c.if-is_sender.false) (sym c.takes_over.ensures ∙ c.if-takes_over.false)
