@@ -1,18 +1,17 @@
 -- The records of what was sent, packet by packet.
 use Rattle.std.proofs.Common.{Result, ◌≡◌, ℕ, zero, suc, ◌+◌, ◌-◌, ◌<◌, ◌≤◌, Some, List, [], ◌∷◌, ◌++◌, ◌⊎◌, inl, inr, drop, length, set, append_assoc, refl, ap, subst, sym, ◌∙◌, arith}
 use Rattle.std.specs.Prelude.{OnErr, OnOk, flat_map, slice_get}
-use Rattle.std.proofs.lemmas.List.{append-nil, length-map}
+use Rattle.std.proofs.lemmas.List.{append-nil}
 use Rattle.std.proofs.lemmas.Grind.{flat_map-append}
 use Rattle.stream_spec.specs.Own.{Sent}
 use Rattle.wire_spec.specs.Dump.{dump_opening, record_written}
 use Rattle.aware_output.specs.declared.outputs.OutConf.{OutConf}
-use Rattle.aware_output.specs.declared.speakers.Speaker.{Speaker}
 use Rattle.aware_output.specs.Sending.{octets_of}
-use Rattle.aware_output.specs.Standing.{StandsFor, speaker_of}
-use Rattle.aware_output.specs.States as output
+use Rattle.sent_log.specs.declared.pens.Pen.{Pen}
+use Rattle.sent_log.specs.Pens.{IsPenTo}
 use Rattle.sent_log.specs.States.{Sending, State, first_sent, recording_of, records_of, sents}
 use Rattle.rtt_io.specs.Fronts.{TakesFront}
-use Rattle.sent_files.specs.Files.{AreOutputsTo, IsOutputTo, recording_at}
+use Rattle.sent_files.specs.Files.{ArePensTo, recording_at}
 use Rattle.sent_files.specs.Writing.{HoldsRest}
 use Rattle.sent_files.proofs.Passing.{all_taken, err_then, front_before, front_taken, more_held, ok_then, taken_on}
 
@@ -97,10 +96,6 @@ pub front_is_taken : {A B : Type 0} (r : Result A B) (x : Sending) (n : ℕ) (be
 front_is_taken r x n before middle took page l h =
     err_then (TakesFront middle took page) (TakesFront before took (recording_of x)) r (front_taken before middle took page (recording_of x) (all_held x n before middle page l h))
 
--- ---- an output's sources
-pub as_many : (x : Sending) (o : output.State) (past : List Sent) → StandsFor x.conf x.sources o past → length o.speakers ≡ length x.sources
-as_many x o past s = ap (λ (xs : List Speaker). length xs) s.speakers ∙ length-map x.sources (speaker_of x.conf past)
-
 -- ---- a terminal's recording
 pub recording_is : (log : State) (terminal : ℕ) (x : Sending) → slice_get log terminal ≡ Some x → recording_at log terminal ≡ recording_of x
 recording_is [] terminal x e = absurd (cc e)
@@ -112,7 +107,7 @@ terminal_there [] terminal l = absurd (omega arith)
 terminal_there (x ∷ log) zero l = (x, refl)
 terminal_there (x ∷ log) (suc terminal) l = terminal_there log terminal (omega arith)
 
--- ---- outputs to all terminals
+-- ---- pens to all terminals
 get_push : {X : Type 0} (xs : List X) (x y : X) (j : ℕ) → slice_get (xs ++ x ∷ []) j ≡ Some y → (slice_get xs j ≡ Some y) ⊎ ((j ≡ length xs) × (x ≡ y))
 get_push [] x y zero e = inr (refl, cc e)
 get_push [] x y (suc j) e = absurd (cc e)
@@ -131,22 +126,22 @@ set_cases (z ∷ xs) zero x (suc j) y e = inl e
 set_cases (z ∷ xs) (suc i) x zero y e = inl e
 set_cases (z ∷ xs) (suc i) x (suc j) y e = elim (set_cases xs i x j y e) [ inl g ↦ inl g | inr p ↦ inr (ap suc p.0, p.1) ]
 
-pub one_output_more : (log : State) (outputs : List output.State) (terminal : ℕ) (new : output.State) → length outputs ≡ terminal
-    → ((j : ℕ) (x : Sending) (o : output.State) → slice_get log j ≡ Some x → slice_get outputs j ≡ Some o → IsOutputTo x o)
-    → ((x : Sending) → slice_get log terminal ≡ Some x → IsOutputTo x new)
-    → (j : ℕ) (x : Sending) (o : output.State) → slice_get log j ≡ Some x → slice_get (outputs ++ new ∷ []) j ≡ Some o → IsOutputTo x o
-one_output_more log outputs terminal new many all last j x o at there = elim (get_push outputs new o j there) [
+pub one_pen_more : (log : State) (pens : List Pen) (terminal : ℕ) (new : Pen) → length pens ≡ terminal
+    → ((j : ℕ) (x : Sending) (o : Pen) → slice_get log j ≡ Some x → slice_get pens j ≡ Some o → IsPenTo x o)
+    → ((x : Sending) → slice_get log terminal ≡ Some x → IsPenTo x new)
+    → (j : ℕ) (x : Sending) (o : Pen) → slice_get log j ≡ Some x → slice_get (pens ++ new ∷ []) j ≡ Some o → IsPenTo x o
+one_pen_more log pens terminal new many all last j x o at there = elim (get_push pens new o j there) [
   | inl old ↦ all j x o at old
-  | inr own ↦ subst (λ (y : output.State). IsOutputTo x y) own.1 (last x (ap (λ k. slice_get log k) (sym many ∙ sym own.0) ∙ at))
+  | inr own ↦ subst (λ (y : Pen). IsPenTo x y) own.1 (last x (ap (λ k. slice_get log k) (sym many ∙ sym own.0) ∙ at))
 ]
 
--- one output is another
-pub one_output_changed : (log : State) (outputs : List output.State) (terminal : ℕ) (new : output.State) → AreOutputsTo log outputs
-    → ((x : Sending) → slice_get log terminal ≡ Some x → IsOutputTo x new) → AreOutputsTo log (set outputs terminal new)
-one_output_changed log outputs terminal new all changed = record {
-  each = set_length outputs terminal new ∙ all.each;
-  stand = λ j x o at there. elim (set_cases outputs terminal new j o there) [
+-- one pen is another
+pub one_pen_changed : (log : State) (pens : List Pen) (terminal : ℕ) (new : Pen) → ArePensTo log pens
+    → ((x : Sending) → slice_get log terminal ≡ Some x → IsPenTo x new) → ArePensTo log (set pens terminal new)
+one_pen_changed log pens terminal new all changed = record {
+  each = set_length pens terminal new ∙ all.each;
+  stand = λ j x o at there. elim (set_cases pens terminal new j o there) [
     | inl old ↦ all.stand j x o at old
-    | inr own ↦ subst (λ (y : output.State). IsOutputTo x y) own.1 (changed x (ap (λ k. slice_get log k) (sym own.0) ∙ at))
+    | inr own ↦ subst (λ (y : Pen). IsPenTo x y) own.1 (changed x (ap (λ k. slice_get log k) (sym own.0) ∙ at))
   ];
 }

@@ -3,14 +3,13 @@ ghost use Rattle.std.specs.Prelude.{◌≡◌, ◌<◌, ◌≤◌, ◌++◌, len
 ghost use Rattle.rtt_io.specs.Counts.{Rose};
 ghost use Rattle.rtt_io.specs.Fronts.{TakesFront};
 ghost use Rattle.sent_log.specs.States.{AreLawful};
-ghost use Rattle.sent_files.specs.Files.{AreOutputsTo, recording_at};
+ghost use Rattle.sent_files.specs.Files.{ArePensTo, recording_at};
 
 use crate::pages::Page;
 use crate::records::write_recording;
-use aware_output::Output;
 use rtt_base::{Failed, NoMemory};
 use rtt_io::Sink;
-use sent_log::SentLog;
+use sent_log::{Pen, SentLog};
 use std::alloc::Global;
 use std::marker::Model;
 
@@ -18,32 +17,32 @@ use std::marker::Model;
 #[derive(Drop)]
 pub struct SentFiles {
     log: SentLog,
-    /// For each terminal an output to it.
-    outputs: Vec<Output>,
+    /// For each terminal a pen to it.
+    pens: Vec<Pen>,
     page: Page,
 }
 
 impl Model for SentFiles {
     ghost use Rattle.sent_log.specs.States.{State, AreLawful};
-    ghost use Rattle.sent_files.specs.Files.{AreOutputsTo};
+    ghost use Rattle.sent_files.specs.Files.{ArePensTo};
 
     ghost Value = { State };
 
     ghost view = { λ f. f.log };
 
-    ghost invariant = { λ f. AreLawful f.log × AreOutputsTo f.log f.outputs.items };
+    ghost invariant = { λ f. AreLawful f.log × ArePensTo f.log f.pens.items };
 }
 
-/// For each terminal an output to it.
-fn outputs_to(alloc: Global, log: &SentLog) -> Result<Vec<Output>, NoMemory>
-    ensures { IfOk result (λ outputs. AreOutputsTo log.now outputs.items) }
+/// For each terminal a pen to it.
+fn pens_to(alloc: Global, log: &SentLog) -> Result<Vec<Pen>, NoMemory>
+    ensures { IfOk result (λ pens. ArePensTo log.now pens.items) }
 {
-    let mut outputs = Vec::new(alloc);
+    let mut pens = Vec::new(alloc);
     for terminal in 0..log.terminals() {
-        let output = log.output(alloc, terminal)?;
-        outputs.push(output)?;
+        let pen = log.pen(alloc, terminal)?;
+        pens.push(pen)?;
     }
-    Ok(outputs)
+    Ok(pens)
 }
 
 impl SentFiles {
@@ -53,9 +52,9 @@ impl SentFiles {
         requires lawful { AreLawful log }
         ensures { IfOk result (λ files. files ≡ log) }
     {
-        let outputs = outputs_to(alloc, &log)?;
+        let pens = pens_to(alloc, &log)?;
         let page = Page::new(alloc)?;
-        Ok(SentFiles { log, outputs, page })
+        Ok(SentFiles { log, pens, page })
     }
 
     /// What was sent.
@@ -89,7 +88,7 @@ impl SentFiles {
         ensures partly { K.tells →
             OnErr result (TakesFront (K.took sink.old) (K.stored sink.new) (recording_at self.old terminal)) }
     {
-        let output = &mut self.outputs[terminal];
-        write_recording(&self.log, terminal, output, &mut self.page, sink)
+        let pen = &mut self.pens[terminal];
+        write_recording(&self.log, terminal, pen, &mut self.page, sink)
     }
 }

@@ -12,12 +12,12 @@ pub fn in_memory(alloc: Global, log: &SentLog, terminal: usize) -> Result<Bytes,
     requires { terminal < length log.now }
     ensures { IfOk result (λ octets. OfTerminal log.now terminal (λ x. IsLawful x → octets ≡ recording_of x)) }
 {
-    let mut output = log.output(alloc, terminal)?;
+    let mut pen = log.pen(alloc, terminal)?;
     let mut packet = Packet::new();
     let mut octets = Bytes::new(alloc);
     write_opening(&mut octets)?;
     for number in 0..log.count(terminal) {
-        let at = log.packet(terminal, number, &mut output, &mut packet);
+        let at = log.packet(terminal, number, &mut pen, &mut packet);
         write_record(at, packet.as_slice(), &mut octets)?;
     }
     Ok(octets)

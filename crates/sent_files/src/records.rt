@@ -4,17 +4,16 @@ ghost use Rattle.rtt_io.specs.Counts.{Rose};
 ghost use Rattle.rtt_io.specs.Fronts.{TakesFront};
 ghost use Rattle.wire_spec.specs.Dump.{dump_opening, record_written};
 ghost use Rattle.sent_log.specs.States.{IsLawful, OfTerminal, recording_of};
-ghost use Rattle.sent_files.specs.Files.{IsOutputTo};
+ghost use Rattle.sent_log.specs.Pens.{IsPenTo};
 ghost use Rattle.sent_files.specs.Writing.{HoldsRest};
 ghost use Rattle.sent_files.specs.declared.pages.TheConstants.{PAGE_OCTETS};
 
 use crate::pages::{PAGE_OCTETS, Page};
-use aware_output::Output;
 use rtpdump_io::{write_opening, write_record};
 use rtt_base::limits::MOST_PACKET_OCTETS;
 use rtt_base::{Failed, OctetBuffer, Packet};
 use rtt_io::Sink;
-use sent_log::SentLog;
+use sent_log::{Pen, SentLog};
 
 /// The most octets of a record: its head, and a packet.
 const MOST_RECORD_OCTETS: usize = 8 + MOST_PACKET_OCTETS;
@@ -79,19 +78,19 @@ fn store_page<K: Sink>(page: &Page, sink: &mut K) -> Result<(), Failed>
     sink.write_all(page.as_slice())
 }
 
-/// Writes the recording of what was sent to the terminal, by an output to it, and stores it. After `Failed` the sink took some
+/// Writes the recording of what was sent to the terminal, by a pen to it, and stores it. After `Failed` the sink took some
 /// of the octets from the front, or none.
 pub fn write_recording<K: Sink>(
     log: &SentLog,
     terminal: usize,
-    output: &mut Output,
+    pen: &mut Pen,
     page: &mut Page,
     sink: &mut K,
 ) -> Result<(), Failed>
     requires terminal { terminal < length log.now }
     requires lawful { OfTerminal log.now terminal IsLawful }
-    requires output { OfTerminal log.now terminal (λ x. IsOutputTo x output.old) }
-    ensures output { OfTerminal log.now terminal (λ x. IsOutputTo x output.new) }
+    requires pen { OfTerminal log.now terminal (λ x. IsPenTo x pen.old) }
+    ensures pen { OfTerminal log.now terminal (λ x. IsPenTo x pen.new) }
     ensures never_falls { K.faults sink.old ≤ K.faults sink.new }
     ensures failed { OnErr result (Rose (K.faults sink.old) (K.faults sink.new)) }
     ensures same_name { K.name sink.new ≡ K.name sink.old }
@@ -104,11 +103,11 @@ pub fn write_recording<K: Sink>(
     ensures partly { K.tells → OfTerminal log.now terminal (λ x.
         OnErr result (TakesFront (K.took sink.old) (K.stored sink.new) (recording_of x))) }
 {
-    output.restart();
+    log.restart(terminal, pen);
     begin(page);
     let mut packet = Packet::new();
     for number in 0..log.count(terminal) {
-        let at = log.packet(terminal, number, output, &mut packet);
+        let at = log.packet(terminal, number, pen, &mut packet);
         let turned = turn_page(page, sink);
         if turned.is_err() {
             return turned;

@@ -3,3 +3,5 @@ pub mod Growing
 pub mod Running
 pub mod Noting
 pub mod Rendering
+pub mod Written
+pub mod Penning

@@ -8,11 +8,8 @@ use Rattle.std.proofs.lemmas.List.Sorted.{IsNonDecreasingBy-push}
 use Rattle.std.proofs.lemmas.Option.{get_or_from_slice_get, slice_get_read, slice_get_within}
 use Rattle.stream_spec.specs.Own.{Sent, Stream}
 use Rattle.aware_output.specs.declared.outputs.OutConf.{OutConf}
-use Rattle.aware_output.specs.Confs.{stream_of}
-use Rattle.aware_output.specs.Sending.{OfNext, octets_of}
-use Rattle.aware_output.specs.Speakers.{EachIsNext, IsNext, text_of}
-use Rattle.aware_output.specs.Standing.{StandsFor}
-use Rattle.aware_output.specs.States as output
+use Rattle.aware_output.specs.Sending.{octets_of}
+use Rattle.aware_output.specs.Speakers.{EachIsNext, text_of}
 use Rattle.sent_log.specs.declared.logs.SentLog.TheInside.{Inside}
 use Rattle.sent_log.specs.declared.terminals.Entry.{Entry}
 use Rattle.sent_log.specs.declared.terminals.Terminal.{Terminal}
@@ -22,7 +19,7 @@ use Rattle.sent_log.specs.Lists.{list_at, octets_at}
 use Rattle.stream_spec.specs.Lists.{In}
 use Rattle.stream_spec.proofs.Lists.{in_append}
 use Rattle.rtt_base.specs.declared.text_packets.Pts.{Pts}
-use Rattle.sent_log.specs.States.{IsStreamOf, Makes, NeverFalls, OfTerminal, Sending, State, TellsText, first_sent, records_of, sents}
+use Rattle.sent_log.specs.States.{IsStreamOf, NeverFalls, OfTerminal, Sending, State, TellsText, first_sent, records_of, sents}
 use Rattle.sent_log.proofs.Noting.{get_map}
 
 -- ---- what holds of a terminal
@@ -105,38 +102,21 @@ each_drop c zero sent e = e
 each_drop c (suc n) [] e = e
 each_drop c (suc n) (x ∷ sent) e = each_drop c n sent e.1
 
-each_first : (c : Stream) (k : ℕ) (sent : List (ℕ × Sent)) → EachIsNext c (sents sent) → EachIsNext c (sents (first_sent k sent))
+pub each_first : (c : Stream) (k : ℕ) (sent : List (ℕ × Sent)) → EachIsNext c (sents sent) → EachIsNext c (sents (first_sent k sent))
 each_first c k sent e = subst (λ (xs : List Sent). EachIsNext c xs) (drop-map (λ (x : ℕ × Sent). x.1) (length sent - k) sent) (each_drop c (length sent - k) (sents sent) e)
 
--- ---- one packet
+-- ---- one entry
 
-pub made : (turns : List Turn) (texts : List (List ℕ)) (t : Terminal) (number : ℕ) (e : Entry) (old new : output.State) (octets : List ℕ) (turn : Turn) (text : List ℕ) → slice_get t.entries.items number ≡ Some e → turn ≡ turn_at turns e.turn
-    → text ≡ octets_at (list_at texts (t.first + e.source)) e.place e.len → OfNext old e.source turn.media text (λ conf sources past s. octets ≡ octets_of conf past s)
-    → OfNext old e.source turn.media text (λ conf sources past s. StandsFor conf sources new (s ∷ past))
-    → Makes (sending_of turns texts t) number old new octets turn.now
-made turns texts t number e old new octets turn text g te xe p s = λ lawful stands.
+-- it is the newest of the first of them
+pub entry_next : (turns : List Turn) (texts : List (List ℕ)) (t : Terminal) (number : ℕ) (e : Entry) → slice_get t.entries.items number ≡ Some e
+    → first_sent (number + 1) (sending_of turns texts t).sent ≡ sent_by turns texts t.first t.sources.items e ∷ first_sent number (sending_of turns texts t).sent
+entry_next turns texts t number e g =
     let f = sent_by turns texts t.first t.sources.items in
     let entries = t.entries.items in
     let ys = map f entries in
-    let sent = reverse ys in
     let l = slice_get_within entries number e g in
     let one : get_or ys number (f e) ≡ f e = get_or-map f entries number e (f e) l ∙ ap f (get_or_from_slice_get entries number e e g) in
-    let next : first_sent (number + 1) sent ≡ f e ∷ first_sent number sent =
-    next_reversed number ys (f e) (omega (arith, l, length-map entries f)) ∙ ap (λ (x : ℕ × Sent). x ∷ first_sent number sent) one in
-    let past = sents (first_sent number sent) in
-    let all = subst (λ (xs : List (ℕ × Sent)). EachIsNext (stream_of t.conf) (sents xs)) next (each_first (stream_of t.conf) (number + 1) sent lawful) in
-    let x : ℕ × Sent = (turn.now, text_of t.sources.items e.source turn.media text) in
-    let same : f e ≡ x =
-    ap (λ (u : Turn). (u.now, text_of t.sources.items e.source u.media (octets_at (list_at texts (t.first + e.source)) e.place e.len))) (sym te)
-    ∙ ap (λ (xs : List ℕ). (turn.now, text_of t.sources.items e.source turn.media xs)) (sym xe) in
-    let following : first_sent (number + 1) sent ≡ x ∷ first_sent number sent = next ∙ ap (λ (y : ℕ × Sent). y ∷ first_sent number sent) same in
-    let may : IsNext (stream_of t.conf) past x.1 = subst (λ (y : ℕ × Sent). IsNext (stream_of t.conf) past y.1) same all.0 in (
-      x,
-      following,
-      refl,
-      p t.conf t.sources.items past stands may,
-      subst (λ (xs : List (ℕ × Sent)). StandsFor t.conf t.sources.items new (sents xs)) (sym following) (s t.conf t.sources.items past stands may),
-    )
+    next_reversed number ys (f e) (omega (arith, l, length-map entries f)) ∙ ap (λ (x : ℕ × Sent). x ∷ first_sent number (reverse ys)) one
 
 -- ---- one text
 

@@ -1,5 +1,5 @@
 -- Texts that stand one behind the other.
-use Rattle.std.proofs.Common.{◌≡◌, ℕ, zero, suc, ◌+◌, ◌-◌, ◌<◌, ◌≤◌, Bool, true, false, inl, inr, List, [], ◌∷◌, ◌++◌, length, take, drop, append-nil, refl, ap, subst, sym, ◌∙◌, arith}
+use Rattle.std.proofs.Common.{◌≡◌, ℕ, zero, suc, ◌+◌, ◌-◌, ◌<◌, inl, inr, List, [], ◌∷◌, ◌++◌, length, take, drop, append-nil, refl, ap, subst, sym, ◌∙◌, arith}
 use Rattle.std.specs.Prelude.{◌==◌, slice_index, slice_index_or, slice_set, if◌then◌else◌}
 use Rattle.std.proofs.Math.Seq.{get_or-set_same, get_or-set_other, take-add}
 use Rattle.std.proofs.lemmas.Bool.{cases_eq, eq-eqb, ne_eqb}
@@ -54,7 +54,7 @@ source_in (s ∷ sources) zero l = inl refl
 source_in (s ∷ sources) (suc i) l = inr (source_in sources i (omega arith))
 
 -- two sources are different
-apart : (sources : List ℕ) (i k : ℕ) → AreDistinct sources → i < length sources → k < length sources → (i ≡ k → ⊥) → slice_index sources i ≡ slice_index sources k → ⊥
+pub apart : (sources : List ℕ) (i k : ℕ) → AreDistinct sources → i < length sources → k < length sources → (i ≡ k → ⊥) → slice_index sources i ≡ slice_index sources k → ⊥
 apart [] i k d l m n e = absurd (omega arith)
 apart (s ∷ sources) zero zero d l m n e = n refl
 apart (s ∷ sources) zero (suc k) d l m n e = d.0 (slice_index sources k) (source_in sources k (omega arith)) e

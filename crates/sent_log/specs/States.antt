@@ -9,8 +9,6 @@ use Rattle.stream_spec.specs.Lists.{In}
 use Rattle.aware_output.specs.Confs.{IsConf, stream_of}
 use Rattle.aware_output.specs.Speakers.{EachIsNext}
 use Rattle.aware_output.specs.Sending.{octets_of}
-use Rattle.aware_output.specs.Standing.{StandsFor}
-use Rattle.aware_output.specs.States as output
 
 -- What was sent to a terminal: its stream, its sources, and what was sent of them, newest first, each at its moment.
 pub record Sending : Type 0 where
@@ -73,13 +71,6 @@ first_sent count sent = drop (length sent - count) sent
 -- this holds of what was sent to the terminal
 abbrev pub OfTerminal : State → ℕ → (Sending → Type 0) → Type 0
 OfTerminal log terminal P = (x : Sending) → slice_get log terminal ≡ Some x → P x
-
--- The packet with this number was made so, by an output that had sent those before it: its moment and its octets.
-abbrev pub Makes : Sending → ℕ → (old new : output.State) → List ℕ → ℕ → Type 0
-Makes x number old new octets at = IsLawful x → StandsFor x.conf x.sources old (sents (first_sent number x.sent))
-    → (e : ℕ × Sent) × (first_sent (number + 1) x.sent ≡ e ∷ first_sent number x.sent) × (at ≡ e.0)
-    × (octets ≡ octets_of x.conf (sents (first_sent number x.sent)) e.1)
-    × StandsFor x.conf x.sources new (sents (first_sent (number + 1) x.sent))
 
 -- The packet with this number was sent of the source with this SSRC, with this text.
 pub record TellsText (x : Sending) (number ssrc : ℕ) (text : List ℕ) : Type 0 where

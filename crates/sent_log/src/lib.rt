@@ -2,11 +2,15 @@
 #![tactic(auto)]
 
 mod logs;
+mod pens;
+mod repeats;
 mod runs;
 mod terminals;
 #[cfg(test)]
 mod tests;
 mod text_lists;
 mod turns;
+mod writing;
 
 pub use logs::SentLog;
+pub use pens::Pen;

@@ -1,17 +1,18 @@
 //! A log of what was sent.
-ghost use Rattle.std.specs.Prelude.{◌≡◌, ◌<◌, ◌≤◌, ◌++◌, ◌∷◌, [], true, length, IfOk, IfSome, OnOk, OnErr};
+ghost use Rattle.std.specs.Prelude.{◌≡◌, ◌+◌, ◌%◌, ◌^◌, ◌<◌, ◌≤◌, ◌++◌, ◌∷◌, [], true, length, IfOk, IfSome, OnOk, OnErr};
 ghost use Rattle.aware_output.specs.Confs.{IsConf};
 ghost use Rattle.aware_output.specs.Speakers.{AreDistinct, text_of};
-ghost use Rattle.aware_output.specs.Standing.{StandsFor};
-ghost use Rattle.sent_log.specs.States.{HasSource, IsStreamOf, Makes, NeverFalls, OfTerminal, State, TellsText, said, sent_to, sents};
+ghost use Rattle.sent_log.specs.States.{HasSource, IsStreamOf, NeverFalls, OfTerminal, State, TellsText, said, sent_to, sents};
+ghost use Rattle.sent_log.specs.Pens.{IsPacket, IsPenOf, IsPenTo};
 ghost use Rattle.sent_log.specs.Insides.{IsLog, state_of};
 
+use crate::pens::Pen;
 use crate::runs::empty_runs;
 use crate::terminals::{Terminal, make_lists, never_fall};
 use crate::text_lists::TextList;
 use crate::turns::{Turn, note_turn};
-use aware_output::{OutConf, Output};
-use rtt_base::limits::MOST_PACKET_OCTETS;
+use crate::writing::make_packet;
+use aware_output::OutConf;
 use rtt_base::{NoMemory, Packet, Pts};
 use std::alloc::Global;
 use std::marker::Model;
@@ -166,48 +167,52 @@ impl SentLog {
         Some(list.text(run.from, run.to - run.from))
     }
 
-    /// An output to the terminal that has sent nothing.
-    pub fn output(&self, alloc: Global, terminal: usize) -> Result<Output, NoMemory>
+    /// A pen to the terminal that has written nothing.
+    pub fn pen(&self, alloc: Global, terminal: usize) -> Result<Pen, NoMemory>
         requires { terminal < length self.now }
-        ensures stands { IfOk result (λ output.
-            OfTerminal self.now terminal (λ x. StandsFor x.conf x.sources output [])) }
-        ensures sources { IfOk result (λ output.
-            OfTerminal self.now terminal (λ x. length output.speakers ≡ length x.sources)) }
+        ensures { IfOk result (λ pen. OfTerminal self.now terminal (λ x. IsPenOf x 0 pen)) }
     {
         let sent_to = &self.terminals[terminal];
-        Output::new(alloc, sent_to.conf, &sent_to.sources)
+        Pen::new(alloc, sent_to.conf.seq, sent_to.sources.len())
     }
 
-    /// Makes the packet with this number, counted from 0, that was sent to the terminal, by an output that has sent those
-    /// before it, in place of what `packet` had; and answers its moment, in milliseconds.
-    pub fn packet(
-        &self,
-        terminal: usize,
-        number: usize,
-        output: &mut Output,
-        packet: &mut Packet,
-    ) -> u32
+    /// As if the pen, which is one to the terminal, had written nothing. It takes no memory.
+    pub fn restart(&self, terminal: usize, pen: &mut Pen)
         requires terminal { terminal < length self.now }
-        requires number { OfTerminal self.now terminal (λ x. number < length x.sent) }
-        requires sources { OfTerminal self.now terminal (λ x. length output.old.speakers ≡ length x.sources) }
-        ensures made { OfTerminal self.now terminal (λ x.
-            Makes x number output.old output.new packet.new result) }
-        ensures some { 0 < length packet.new }
-        ensures fits { length packet.new ≤ 4224 }
-        ensures sources { length output.new.speakers ≡ length output.old.speakers }
+        requires pen { OfTerminal self.now terminal (λ x. IsPenTo x pen.old) }
+        ensures { OfTerminal self.now terminal (λ x. IsPenOf x 0 pen.new) }
     {
         let sent_to = &self.terminals[terminal];
-        let entry = sent_to.entries[number];
+        pen.restart(sent_to.conf.seq);
+    }
+
+    /// Makes the packet with this number, counted from 0, that was sent to the terminal, by a pen that has written those
+    /// before it, in place of what `packet` had; and answers its moment, in milliseconds.
+    #[inline(always)]
+    pub fn packet(&self, terminal: usize, number: usize, pen: &mut Pen, packet: &mut Packet) -> u32
+        requires terminal { terminal < length self.now }
+        requires number { OfTerminal self.now terminal (λ x. number < length x.sent) }
+        requires pen { OfTerminal self.now terminal (λ x. IsPenOf x number pen.old) }
+        ensures made { OfTerminal self.now terminal (λ x. IsPacket x number packet.new result) }
+        ensures pen { OfTerminal self.now terminal (λ x. IsPenOf x (number + 1) pen.new) }
+        ensures some { 0 < length packet.new }
+        ensures fits { length packet.new ≤ 4224 }
+    {
+        let sent_to = &self.terminals[terminal];
+        let entry = &sent_to.entries[number];
         let turn = self.turns[entry.turn as usize];
         let source = entry.source as usize;
-        let list = &self.texts[sent_to.first + source];
-        let text = list.text(entry.place as usize, entry.len as usize);
-        packet.clear();
-        let Ok(()) = output.packet(turn.media, source, text, packet) else {
-            unreachable!()
-        };
-        let fits = packet.len() <= MOST_PACKET_OCTETS;
-        prove!(fits);
+        let stamp = stamp_at(sent_to.conf.stamp, turn.media);
+        let repeats = &pen.sources[source];
+        make_packet(sent_to, &self.texts, repeats, entry, pen.seq, stamp, packet);
+        pen.keep(source, stamp, number);
         turn.now
     }
+}
+
+/// The timestamp at this media time, where it is `first` at 0.
+fn stamp_at(first: u32, media: u64) -> u32
+    ensures { result ≡ (first + media) % 2 ^ 32 }
+{
+    first.wrapping_add((media % (1 << 32)) as u32)
 }

@@ -39,8 +39,8 @@ fn send(
     sent: &Sent,
 ) -> Result<(), Fail> {
     assert!(rt; terminal < log.terminals());
-    let output = log.output(alloc, terminal)?;
-    assert!(rt; sent.source < output.sources());
+    let pen = log.pen(alloc, terminal)?;
+    assert!(rt; sent.source < pen.sources.len());
     assert!(rt; sent.text.len() < 1024);
     let now = u32::from(sent.media) + 1000;
     log.send(terminal, now, u64::from(sent.media), sent.source, sent.text)?;
@@ -58,7 +58,7 @@ fn expect(
     assert!(rt; terminal < log.terminals());
     assert!(rt; log.count(terminal) == all.len());
     assert!(rt; log.never_falls(terminal));
-    let mut made = log.output(alloc, terminal)?;
+    let mut made = log.pen(alloc, terminal)?;
     let mut written = Output::new(alloc, conf(), &[1001, 1002])?;
     for number in 0..all.len() {
         let sent = &all[number];

@@ -1,4 +1,4 @@
-use Rattle.played.proofs.FirstSent.{recording_is}
+use Rattle.played.proofs.Sendings.{recording_is}
 use Rattle.played.proofs.hearing.hear.Goals as goal
 
 pub records_of-records-requires : goal.records_of-records-requires

@@ -1,6 +1,6 @@
 use Rattle.std.proofs.Common.{ap, arith}
 use Rattle.view_spec.specs.declared.counts.Counts.{Counts}
-use Rattle.played.proofs.FirstSent.{few_sent}
+use Rattle.played.proofs.Sendings.{few_sent}
 use Rattle.played.proofs.SaidTexts.{heard_whole, if_ok, if_ok3}
 use Rattle.played.proofs.saying.heard_all.Goals as goal
 

@@ -1,16 +1,14 @@
-use Rattle.std.proofs.Common.{◌++◌, ℕ, List, append_assoc, ap, subst, sym, ◌∙◌, arith}
+use Rattle.std.proofs.Common.{◌++◌, ℕ, List, append_assoc, ap, sym, ◌∙◌, arith}
 use Rattle.std.proofs.lemmas.List.{append-nil}
 use Rattle.stream_spec.specs.Own.{Sent}
 use Rattle.wire_spec.specs.Dump.{dump_opening, record_written}
-use Rattle.aware_output.specs.Standing.{StandsFor}
-use Rattle.sent_log.specs.States.{first_sent, sents}
+use Rattle.sent_log.specs.States.{first_sent}
 use Rattle.sent_files.proofs.Recorded.{all_first, none_first, one_more, written_of}
 use Rattle.sent_files.proofs.memory.in_memory.Goals as goal
 
 pub loop-number-init : goal.loop-number-init
 loop-number-init c = record {
-  sources = c.in_ok-output.ensures.sources;
-  stands = λ x at lawful. subst (λ (s : List (ℕ × Sent)). StandsFor x.conf x.sources c.in_ok-output.output (sents s)) (sym (none_first x.sent)) (c.in_ok-output.ensures.stands x at);
+  pen = c.in_ok-pen.ensures;
   octets = λ x at lawful. c.in_ok-write_opening.ensures.ok ∙ (ap (λ (xs : List ℕ). xs ++ dump_opening) c.new-octets.ensures
       ∙ (sym (append-nil dump_opening) ∙ ap (λ (s : List (ℕ × Sent)). dump_opening ++ written_of x.conf s) (sym (none_first x.sent))));
 }
@@ -19,10 +17,9 @@ pub loop-number-preserved : goal.loop-number-preserved
 loop-number-preserved c =
     let before = c.loop-number.invariant in
     record {
-      sources = λ x at. c.packet-at.ensures.sources ∙ before.sources x at;
-      stands = λ x at lawful. (c.packet-at.ensures.made x at lawful (before.stands x at lawful)).4;
+      pen = c.packet-at.ensures.pen;
       octets = λ x at lawful.
-          let m = c.packet-at.ensures.made x at lawful (before.stands x at lawful) in
+          let m = c.packet-at.ensures.made x at lawful in
           let n = c.loop-number.number in
           let last = record_written (c.packet-at.result, c.packet-at.new.packet) in
           c.in_ok-write_record.ensures.ok

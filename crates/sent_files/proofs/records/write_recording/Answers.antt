@@ -1,13 +1,12 @@
-use Rattle.std.proofs.Common.{◌≡◌, ◌+◌, ◌++◌, ℕ, List, refl, subst, sym, ◌∙◌, arith}
+use Rattle.std.proofs.Common.{◌≡◌, ◌++◌, ℕ, List, refl, subst, sym, ◌∙◌, arith}
 use Rattle.std.proofs.lemmas.List.{append-nil}
 use Rattle.rtt_io.specs.Fronts.{TakesFront}
 use Rattle.wire_spec.specs.Dump.{dump_opening}
 use Rattle.stream_spec.specs.Own.{Sent}
-use Rattle.aware_output.specs.Standing.{StandsFor}
-use Rattle.sent_log.specs.States.{first_sent, recording_of, sents}
+use Rattle.sent_log.specs.States.{recording_of}
 use Rattle.sent_files.specs.Writing.{HoldsRest}
 use Rattle.sent_files.proofs.Passing.{err_then, nothing_taken, ok_gives}
-use Rattle.sent_files.proofs.Recorded.{as_many, front_is_taken, front_of_all, next_held, none_first, whole_taken, written_of}
+use Rattle.sent_files.proofs.Recorded.{front_is_taken, front_of_all, next_held, none_first, whole_taken, written_of}
 use Rattle.sent_files.proofs.records.write_recording.Goals as goal
 
 pub loop-number-init : goal.loop-number-init
@@ -15,23 +14,15 @@ loop-number-init g c =
     let took = g.K.Sink.took c.args.sink.now in
     let page = c.begin.new.page in
     record {
-      stands = λ x at.
-          let o = c.requires.output x at in
-          subst (λ (s : List (ℕ × Sent)). StandsFor x.conf x.sources c.restart.new.self (sents s)) (sym (none_first x.sent)) (c.restart.ensures.stands x.conf x.sources o.past o.stands);
+      pen = c.restart.ensures;
       calm = refl;
       named = refl;
       held = λ told x at. subst (λ (s : List (ℕ × Sent)). HoldsRest took took page (dump_opening ++ written_of x.conf s)) (sym (none_first x.sent))
           (subst (λ (xs : List ℕ). HoldsRest took took page xs) (c.begin.ensures ∙ sym (append-nil dump_opening)) (nothing_taken took page));
     }
 
-pub packet-at-requires-clause-sources : goal.packet-at-requires-clause-sources
-packet-at-requires-clause-sources g c = λ x at. as_many x c.loop-number.output (sents (first_sent c.loop-number.number x.sent)) (c.loop-number.invariant.stands x at)
-
-pub returns-then-is_err-clause-output : goal.returns-then-is_err-clause-output
-returns-then-is_err-clause-output g c = λ x at. record {
-  past = sents (first_sent (c.loop-number.number + 1) x.sent);
-  stands = (c.packet-at.ensures.made x at (c.requires.lawful x at) (c.loop-number.invariant.stands x at)).4;
-}
+pub returns-then-is_err-clause-pen : goal.returns-then-is_err-clause-pen
+returns-then-is_err-clause-pen g c = λ x at. record { each = (c.packet-at.ensures.pen x at).each }
 
 pub returns-then-is_err-clause-prefix : goal.returns-then-is_err-clause-prefix
 returns-then-is_err-clause-prefix g c = λ told x at.
@@ -63,11 +54,11 @@ loop-number-preserved g c =
     let middle = took c.loop-number.sink in
     let now = took c.turn_page-turned.new.sink in
     record {
-      stands = λ x at. (c.packet-at.ensures.made x at (c.requires.lawful x at) (c.loop-number.invariant.stands x at)).4;
+      pen = c.packet-at.ensures.pen;
       calm = ok_gives (g.K.Sink.faults c.turn_page-turned.new.sink ≡ g.K.Sink.faults c.loop-number.sink) turned went c.turn_page-turned.ensures.calm ∙ c.loop-number.invariant.calm;
       named = c.turn_page-turned.ensures.same_name ∙ c.loop-number.invariant.named;
       held = λ told x at.
-          let m = c.packet-at.ensures.made x at (c.requires.lawful x at) (c.loop-number.invariant.stands x at) in
+          let m = c.packet-at.ensures.made x at (c.requires.lawful x at) in
           next_held x.conf n x.sent m.0 c.packet-at.result c.packet-at.new.packet m.1 m.2 m.3
           (took c.args.sink.now) middle now c.loop-number.page c.turn_page-turned.new.page c.put_record.new.page dump_opening
           (c.loop-number.invariant.held told x at)
@@ -75,8 +66,8 @@ loop-number-preserved g c =
           c.put_record.ensures;
     }
 
-pub returns-clause-output : goal.returns-clause-output
-returns-clause-output g c = λ x at. record { past = sents (first_sent c.loop-number.number x.sent); stands = c.loop-number.invariant.stands x at }
+pub returns-clause-pen : goal.returns-clause-pen
+returns-clause-pen g c = λ x at. record { each = (c.loop-number.invariant.pen x at).each }
 
 pub returns-clause-appended : goal.returns-clause-appended
 returns-clause-appended g c = λ told x at.

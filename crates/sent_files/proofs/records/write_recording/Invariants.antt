@@ -1,14 +1,14 @@
 use Rattle.std.proofs.Common.{◌≡◌, ◌++◌}
 use Rattle.wire_spec.specs.Dump.{dump_opening}
-use Rattle.aware_output.specs.Standing.{StandsFor}
-use Rattle.sent_log.specs.States.{OfTerminal, first_sent, sents}
+use Rattle.sent_log.specs.Pens.{IsPenOf}
+use Rattle.sent_log.specs.States.{OfTerminal, first_sent}
 use Rattle.sent_files.specs.Writing.{HoldsRest}
 use Rattle.sent_files.proofs.Recorded.{written_of}
 use Rattle.sent_files.proofs.records.write_recording.Given as goal
 
 abbrev pub invariant-loop-number : goal.invariant-loop-number
 invariant-loop-number g l = record {
-  stands : OfTerminal l.log l.terminal (λ x. StandsFor x.conf x.sources l.output (sents (first_sent l.number x.sent)));
+  pen : OfTerminal l.log l.terminal (λ x. IsPenOf x l.number l.pen);
   calm : g.K.Sink.faults l.sink ≡ g.K.Sink.faults l.fn.sink;
   named : g.K.Sink.name l.sink ≡ g.K.Sink.name l.fn.sink;
   held : g.K.Sink.tells → OfTerminal l.log l.terminal (λ x. HoldsRest (g.K.Sink.took l.fn.sink) (g.K.Sink.took l.sink) l.page (dump_opening ++ written_of x.conf (first_sent l.number x.sent)));

@@ -9,4 +9,4 @@ has_source (x ∷ log) (suc terminal) source n l o p = has_source log terminal s
 
 pub send-requires-clause-source : goal.send-requires-clause-source
 send-requires-clause-source g c =
-    has_source c.args.log.now c.args.terminal c.args.sent.now.source (length c.in_ok-output.output.speakers) (omega arith) c.in_ok-output.ensures.sources (omega arith)
+    has_source c.args.log.now c.args.terminal c.args.sent.now.source (length c.in_ok-pen.pen.sources.items) (omega arith) (λ x at. (c.in_ok-pen.ensures x at).each) (omega (arith, c.in_ok-pen.pen.sources.ok.0))

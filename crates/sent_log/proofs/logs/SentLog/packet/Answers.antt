@@ -1,11 +1,33 @@
-use Rattle.std.proofs.Common.{◌≡◌, ◌+◌, ◌++◌, List, ℕ, length, ap, ◌∙◌, arith}
-use Rattle.std.proofs.lemmas.List.{get_or_read, length-take}
-use Rattle.aware_output.specs.Sending.{octets_of}
-use Rattle.aware_output.specs.Speakers.{text_of}
-use Rattle.sent_log.specs.Lists.{list_at, octets_at}
-use Rattle.sent_log.specs.States.{Makes, Sending}
-use Rattle.sent_log.proofs.Rendering.{list_read, made, number_within, of_terminal, reads, tells}
+use Rattle.std.proofs.Common.{◌≡◌, ◌+◌, ◌<◌, ◌%◌, ◌^◌, ℕ, List, Some, length, get_or, refl, ap, subst, sym, ◌∙◌, arith}
+use Rattle.std.specs.Prelude.{max, not, slice_get}
+use Rattle.std.proofs.lemmas.List.{get_or_read}
+use Rattle.std.proofs.lemmas.Option.{slice_get_read}
+use Rattle.sent_log.specs.declared.logs.SentLog.TheInside.{Inside}
+use Rattle.sent_log.specs.declared.pens.Pen.{Pen}
+use Rattle.sent_log.specs.declared.repeats.Kept.{Kept}
+use Rattle.sent_log.specs.declared.terminals.Entry.{Entry}
+use Rattle.sent_log.specs.declared.terminals.Terminal.{Terminal}
+use Rattle.sent_log.specs.declared.turns.Turn.{Turn}
+use Rattle.sent_log.specs.Insides.{sending_of, state_of}
+use Rattle.sent_log.specs.Pens.{IsPacket, IsPenOf}
+use Rattle.sent_log.specs.Repeats.{last_kept}
+use Rattle.sent_log.specs.Writing.{HasText, HasTexts, have_text, head_in, packet_in}
+use Rattle.sent_log.specs.States.{OfTerminal, Sending, State}
+use Rattle.sent_log.proofs.Penning.{all_short, below_count, has_text, has_texts, packet_made, pen_more}
+use Rattle.sent_log.proofs.Rendering.{Reads, number_within, of_terminal, reads, tells}
 use Rattle.sent_log.proofs.logs.SentLog.packet.Goals as goal
+
+-- what the pen knows of the terminal that was read
+pen_of : (i : Inside) (log : State) (terminal : ℕ) (t : Terminal) (number : ℕ) (e : Entry) (p : Pen) → state_of i ≡ log → Reads i terminal t number e → OfTerminal log terminal (λ x. IsPenOf x number p)
+    → IsPenOf (sending_of i.turns.items i.texts.items t) number p
+pen_of i log terminal t number e p v r o = tells i.turns.items i.texts.items i.terminals.items log terminal t (λ (x : Sending). IsPenOf x number p) v r.there o
+
+source_within : (i : Inside) (terminal : ℕ) (t : Terminal) (number : ℕ) (e : Entry) (p : Pen) → Reads i terminal t number e → IsPenOf (sending_of i.turns.items i.texts.items t) number p → e.source < length p.sources.items
+source_within i terminal t number e p r k = omega (arith, r.entry.source, k.each)
+
+source_read : (i : Inside) (terminal : ℕ) (t : Terminal) (number : ℕ) (e : Entry) (p : Pen) (s : List Kept) → Reads i terminal t number e → IsPenOf (sending_of i.turns.items i.texts.items t) number p → s ≡ get_or p.sources.items e.source s
+    → slice_get p.sources.items e.source ≡ Some s
+source_read i terminal t number e p s r k q = slice_get_read p.sources.items (length p.sources.items) e.source s refl (source_within i terminal t number e p r k) q
 
 pub index-entry-requires : goal.index-entry-requires
 index-entry-requires c =
@@ -20,41 +42,87 @@ index-turn-requires c =
     let r = reads i _ c.args.terminal c.index-sent_to.result.now c.args.number c.index-entry.result.now c.self.view_is c.self.invariant c.index-sent_to.ensures c.index-entry.ensures c.requires.terminal c.requires.number in
     omega (arith, r.entry.turn, i.turns.ok.0)
 
-pub index-list-requires : goal.index-list-requires
-index-list-requires c =
+pub index-repeats-requires : goal.index-repeats-requires
+index-repeats-requires c =
     let i = c.self.inside in
-    let r = reads i _ c.args.terminal c.index-sent_to.result.now c.args.number c.index-entry.result.now c.self.view_is c.self.invariant c.index-sent_to.ensures c.index-entry.ensures c.requires.terminal c.requires.number in
-    omega (arith, r.entry.source, r.stands.lists, i.texts.ok.0)
+    let t = c.index-sent_to.result.now in
+    let e = c.index-entry.result.now in
+    let p = c.args.pen.now in
+    let r = reads i _ c.args.terminal t c.args.number e c.self.view_is c.self.invariant c.index-sent_to.ensures c.index-entry.ensures c.requires.terminal c.requires.number in
+    let l = source_within i c.args.terminal t c.args.number e p r (pen_of i _ c.args.terminal t c.args.number e p c.self.view_is r c.requires.pen) in
+    omega (arith, l, p.sources.ok.0)
 
-pub text-text-requires : goal.text-text-requires
-text-text-requires c =
-    let i = c.self.inside in
-    let r = reads i _ c.args.terminal c.index-sent_to.result.now c.args.number c.index-entry.result.now c.self.view_is c.self.invariant c.index-sent_to.ensures c.index-entry.ensures c.requires.terminal c.requires.number in
-    omega (arith, r.entry.within, ap length (list_read i c.args.terminal _ c.args.number _ c.index-list.result.now r c.index-list.ensures))
+pub make_packet-requires-clause-conf : goal.make_packet-requires-clause-conf
+make_packet-requires-clause-conf c =
+    (reads c.self.inside _ c.args.terminal c.index-sent_to.result.now c.args.number c.index-entry.result.now c.self.view_is c.self.invariant c.index-sent_to.ensures c.index-entry.ensures c.requires.terminal c.requires.number).stands.conf
 
-pub packet-requires-clause-source : goal.packet-requires-clause-source
-packet-requires-clause-source c =
+pub make_packet-requires-clause-short : goal.make_packet-requires-clause-short
+make_packet-requires-clause-short c =
     let i = c.self.inside in
-    let r = reads i _ c.args.terminal c.index-sent_to.result.now c.args.number c.index-entry.result.now c.self.view_is c.self.invariant c.index-sent_to.ensures c.index-entry.ensures c.requires.terminal c.requires.number in
-    let n : length c.args.output.now.speakers ≡ length c.index-sent_to.result.now.sources.items = tells i.turns.items i.texts.items i.terminals.items c.args.self.now c.args.terminal c.index-sent_to.result.now (λ (x : Sending). length c.args.output.now.speakers ≡ length x.sources) c.self.view_is r.there c.requires.sources in
-    omega (arith, r.entry.source, n)
+    let t = c.index-sent_to.result.now in
+    let r = reads i _ c.args.terminal t c.args.number c.index-entry.result.now c.self.view_is c.self.invariant c.index-sent_to.ensures c.index-entry.ensures c.requires.terminal c.requires.number in
+    all_short i.turns.items i.texts.items t r.stands
 
-pub packet-requires-clause-text : goal.packet-requires-clause-text
-packet-requires-clause-text c =
+pub make_packet-requires-clause-texts : goal.make_packet-requires-clause-texts
+make_packet-requires-clause-texts c =
     let i = c.self.inside in
-    let r = reads i _ c.args.terminal c.index-sent_to.result.now c.args.number c.index-entry.result.now c.self.view_is c.self.invariant c.index-sent_to.ensures c.index-entry.ensures c.requires.terminal c.requires.number in
-    omega (arith, r.entry.short, ap length c.text-text.ensures, length-take {A = ℕ})
+    let t = c.index-sent_to.result.now in
+    let r = reads i _ c.args.terminal t c.args.number c.index-entry.result.now c.self.view_is c.self.invariant c.index-sent_to.ensures c.index-entry.ensures c.requires.terminal c.requires.number in
+    subst (λ (xs : List (List ℕ)). HasTexts xs t) (sym c.deref.ensures.value) (has_texts i.turns.items i.texts.items t r.stands)
+
+pub make_packet-requires-clause-text : goal.make_packet-requires-clause-text
+make_packet-requires-clause-text c =
+    let i = c.self.inside in
+    let t = c.index-sent_to.result.now in
+    let e = c.index-entry.result.now in
+    let r = reads i _ c.args.terminal t c.args.number e c.self.view_is c.self.invariant c.index-sent_to.ensures c.index-entry.ensures c.requires.terminal c.requires.number in
+    subst (λ (xs : List (List ℕ)). HasText xs t e) (sym c.deref.ensures.value) (has_text i.turns.items i.texts.items t e r.entry)
+
+pub make_packet-requires-clause-below : goal.make_packet-requires-clause-below
+make_packet-requires-clause-below c =
+    let i = c.self.inside in
+    let t = c.index-sent_to.result.now in
+    let e = c.index-entry.result.now in
+    let p = c.args.pen.now in
+    let s = c.index-repeats.result.now in
+    let r = reads i _ c.args.terminal t c.args.number e c.self.view_is c.self.invariant c.index-sent_to.ensures c.index-entry.ensures c.requires.terminal c.requires.number in
+    let k = pen_of i _ c.args.terminal t c.args.number e p c.self.view_is r c.requires.pen in
+    below_count i.turns.items i.texts.items t c.args.number e.source s (k.last e.source s (source_read i c.args.terminal t c.args.number e p s r k c.index-repeats.ensures))
+
+pub keep-requires : goal.keep-requires
+keep-requires c =
+    let i = c.self.inside in
+    let t = c.index-sent_to.result.now in
+    let e = c.index-entry.result.now in
+    let p = c.args.pen.now in
+    let r = reads i _ c.args.terminal t c.args.number e c.self.view_is c.self.invariant c.index-sent_to.ensures c.index-entry.ensures c.requires.terminal c.requires.number in
+    source_within i c.args.terminal t c.args.number e p r (pen_of i _ c.args.terminal t c.args.number e p c.self.view_is r c.requires.pen)
 
 pub returns-clause-made : goal.returns-clause-made
 returns-clause-made c =
     let i = c.self.inside in
-    let r = reads i _ c.args.terminal c.index-sent_to.result.now c.args.number c.index-entry.result.now c.self.view_is c.self.invariant c.index-sent_to.ensures c.index-entry.ensures c.requires.terminal c.requires.number in
     let t = c.index-sent_to.result.now in
     let e = c.index-entry.result.now in
-    let list = list_read i c.args.terminal t c.args.number e c.index-list.result.now r c.index-list.ensures in
-    let text : c.text-text.result.now ≡ octets_at (list_at i.texts.items (t.first + e.source)) e.place e.len = c.text-text.ensures ∙ ap (λ (xs : List ℕ). octets_at xs e.place e.len) list in
+    let p = c.args.pen.now in
+    let s = c.index-repeats.result.now in
+    let r = reads i _ c.args.terminal t c.args.number e c.self.view_is c.self.invariant c.index-sent_to.ensures c.index-entry.ensures c.requires.terminal c.requires.number in
+    let k = pen_of i _ c.args.terminal t c.args.number e p c.self.view_is r c.requires.pen in
     let turn = get_or_read i.turns.items e.turn c.index-turn.result.now r.entry.turn c.index-turn.ensures (record { now = 0; media = 0 }) in
-    of_terminal i.turns.items i.texts.items i.terminals.items c.args.self.now c.args.terminal t (λ (x : Sending). Makes x c.args.number c.args.output.now c.packet.new.self c.packet.new.out c.index-turn.result.now.now) c.self.view_is r.there
-    (made i.turns.items i.texts.items t c.args.number e c.args.output.now c.packet.new.self c.packet.new.out c.index-turn.result.now c.text-text.result.now r.read turn text
-    (λ conf sources past k n. (c.in-Ok.ensures.packet conf sources past k n).ok ∙ ap (λ (xs : List ℕ). xs ++ octets_of conf past (text_of sources e.source c.index-turn.result.now.media c.text-text.result.now)) c.clear.ensures)
-    (λ conf sources past k n. c.in-Ok.ensures.stands conf sources past k n))
+    of_terminal i.turns.items i.texts.items i.terminals.items c.args.self.now c.args.terminal t (λ (x : Sending). IsPacket x c.args.number c.make_packet.new.packet c.index-turn.result.now.now) c.self.view_is r.there
+    (packet_made i.turns.items i.texts.items t c.args.number e p s c.make_packet.new.packet c.index-turn.result.now.now p.seq c.stamp_at-stamp.result r.stands r.read k (source_read i c.args.terminal t c.args.number e p s r k c.index-repeats.ensures) refl
+    (c.stamp_at-stamp.ensures ∙ ap (λ (u : Turn). (t.conf.stamp + u.media) % 2 ^ 32) turn) (ap (λ (u : Turn). u.now) turn)
+    (c.make_packet.ensures.packet
+    ∙ ap (λ (xs : List (List ℕ)). packet_in xs t (last_kept t.conf.gens s) e (head_in t (not (have_text xs t (last_kept (max 1 t.conf.gens) s))) p.seq c.stamp_at-stamp.result e.source)) c.deref.ensures.value))
+
+pub returns-clause-pen : goal.returns-clause-pen
+returns-clause-pen c =
+    let i = c.self.inside in
+    let t = c.index-sent_to.result.now in
+    let e = c.index-entry.result.now in
+    let p = c.args.pen.now in
+    let r = reads i _ c.args.terminal t c.args.number e c.self.view_is c.self.invariant c.index-sent_to.ensures c.index-entry.ensures c.requires.terminal c.requires.number in
+    let k = pen_of i _ c.args.terminal t c.args.number e p c.self.view_is r c.requires.pen in
+    let turn = get_or_read i.turns.items e.turn c.index-turn.result.now r.entry.turn c.index-turn.ensures (record { now = 0; media = 0 }) in
+    of_terminal i.turns.items i.texts.items i.terminals.items c.args.self.now c.args.terminal t (λ (x : Sending). IsPenOf x (c.args.number + 1) c.keep.new.self) c.self.view_is r.there
+    (pen_more i.turns.items i.texts.items t c.args.number e p c.keep.new.self c.stamp_at-stamp.result r.stands r.read r.entry k
+    (c.stamp_at-stamp.ensures ∙ ap (λ (u : Turn). (t.conf.stamp + u.media) % 2 ^ 32) turn) c.keep.ensures.seq c.keep.ensures.sources)

@@ -1,15 +1,14 @@
-use Rattle.std.proofs.Common.{◌≡◌, ◌+◌, ◌-◌, ◌<◌, Some, List, ℕ, Bool, true, [], length, get_or, ap, subst, sym, ◌∙◌, arith}
-use Rattle.std.specs.Prelude.{slice_get, slice_index}
+use Rattle.std.proofs.Common.{◌≡◌, ◌+◌, ◌<◌, Some, List, ℕ, [], length, get_or, subst, sym, arith}
+use Rattle.std.specs.Prelude.{slice_get}
 use Rattle.std.proofs.lemmas.List.{get_or_read}
 use Rattle.sent_log.specs.declared.logs.SentLog.TheInside.{Inside}
 use Rattle.sent_log.specs.declared.runs.Run.{Run}
 use Rattle.sent_log.specs.declared.terminals.Terminal.{Terminal}
-use Rattle.sent_log.specs.Insides.{IsLog, IsTerminal, sending_of, said_of, state_of}
-use Rattle.sent_log.specs.Lists.{list_at, octets_at}
+use Rattle.sent_log.specs.Insides.{IsLog, IsTerminal, said_of, state_of}
+use Rattle.sent_log.specs.Lists.{list_at}
 use Rattle.sent_log.specs.Runs.{IsRun}
-use Rattle.sent_log.specs.States.{Sending, State, said, sents}
-use Rattle.sent_log.proofs.Rendering.{is_terminal, of_terminal, terminal_in}
-use Rattle.sent_log.proofs.logs.SentLog.said.Goals as goal
+use Rattle.sent_log.specs.States.{State}
+use Rattle.sent_log.proofs.Rendering.{is_terminal, terminal_in}
 
 -- the terminal that was read
 record ReadsTerminal (i : Inside) (terminal : ℕ) (t : Terminal) : Type 0 where

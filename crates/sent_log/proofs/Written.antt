@@ -1,0 +1,88 @@
+-- What is written of packets that are kept.
+use Rattle.std.proofs.Common.{◌≡◌, ℕ, zero, suc, ◌+◌, ◌<◌, ◌≤◌, Bool, true, false, cond, Result, Ok, Err, Some, drop, List, [], ◌∷◌, ◌++◌, length, take, append_assoc, refl, ap, sym, ◌∙◌, arith}
+use Rattle.std.specs.Prelude.{OnOk, is_err, slice_get}
+use Rattle.std.specs.List.{flat_map}
+use Rattle.std.proofs.lemmas.List.{append-nil, length-drop, length-take, take_all}
+use Rattle.std.proofs.lemmas.List.Elements.{All-head, All-tail}
+use Rattle.rtt_base.specs.declared.blocks.TextBlock.{TextBlock}
+use Rattle.wire_spec.specs.Red.{red_header, red_spelling}
+use Rattle.rtt_base.specs.declared.limits.TheConstants.{MOST_PACKET_OCTETS}
+use Rattle.wire_spec.proofs.Sizes.{AreShortTexts, packet_size}
+use Rattle.red_blocks.specs.declared.writing.TextHead.{TextHead}
+use Rattle.red_blocks.specs.Writing.{packet_with}
+use Rattle.sent_log.specs.Lists.{list_at}
+use Rattle.sent_log.specs.Repeats.{AreBelow}
+use Rattle.sent_log.specs.declared.terminals.Entry.{Entry}
+use Rattle.sent_log.specs.declared.repeats.Kept.{Kept}
+use Rattle.sent_log.specs.declared.terminals.Terminal.{Terminal}
+use Rattle.sent_log.specs.Writing.{HasText, HasTexts, blocks_in, entry_at, kept_header, kept_text, kept_texts, packet_in, text_in}
+
+-- what holds where all went well
+pub if_ok : {A E : Type 0} (P : Type 0) (r : Result A E) → OnOk r P → is_err r ≡ false → P
+if_ok P (Ok v) p e = p
+if_ok P (Err v) p e = cc e
+
+-- ---- one after the other
+
+-- the pieces of those before this one, and its own
+piece_more : {X : Type 0} (f : X → List ℕ) (xs : List X) (i : ℕ) (x : X) → slice_get xs i ≡ Some x → flat_map f (take i xs) ++ f x ≡ flat_map f (take (i + 1) xs)
+piece_more f [] i x e = cc e
+piece_more f (y ∷ xs) zero x e = let q : y ≡ x = cc e in let one : 0 + 1 ≡ 1 = refl in ap f (sym q) ∙ sym (append-nil (f y))
+piece_more f (y ∷ xs) (suc i) x e =
+    let k : suc i + 1 ≡ suc (i + 1) = omega arith in
+    append_assoc (f y) (flat_map f (take i xs)) (f x) ∙ (ap (λ (zs : List ℕ). f y ++ zs) (piece_more f xs i x e) ∙ ap (λ n. flat_map f (take n (y ∷ xs))) (sym k))
+
+pub texts_more : (texts : List (List ℕ)) (t : Terminal) (older : List Kept) (i : ℕ) (k : Kept) → slice_get older i ≡ Some k → kept_texts texts t (take i older) ++ kept_text texts t k ≡ kept_texts texts t (take (i + 1) older)
+texts_more texts t older i k e = piece_more (kept_text texts t) older i k e
+
+pub texts_of_all : (texts : List (List ℕ)) (t : Terminal) (older : List Kept) (i : ℕ) → length older ≤ i → kept_texts texts t (take i older) ≡ kept_texts texts t older
+texts_of_all texts t older i l = ap (λ (ks : List Kept). kept_texts texts t ks) (take_all i older l)
+
+-- ---- as blocks
+
+pub texts_are : (texts : List (List ℕ)) (t : Terminal) (stamp : ℕ) (kept : List Kept) → flat_map (λ (b : TextBlock). b.text) (blocks_in texts t stamp kept) ≡ kept_texts texts t kept
+texts_are texts t stamp [] = refl
+texts_are texts t stamp (k ∷ kept) = ap (λ (xs : List ℕ). kept_text texts t k ++ xs) (texts_are texts t stamp kept)
+
+pub headers_are : (texts : List (List ℕ)) (t : Terminal) (stamp t140 : ℕ) (kept : List Kept) → flat_map (red_header t140) (blocks_in texts t stamp kept) ≡ flat_map (kept_header texts t stamp t140) kept
+headers_are texts t stamp t140 [] = refl
+headers_are texts t stamp t140 (k ∷ kept) = ap (λ (xs : List ℕ). kept_header texts t stamp t140 k ++ xs) (headers_are texts t stamp t140 kept)
+
+-- the headers, and the texts behind them, are the red form
+pub red_is : (texts : List (List ℕ)) (t : Terminal) (stamp t140 : ℕ) (kept : List Kept) (text : List ℕ)
+    → (flat_map (kept_header texts t stamp t140) kept ++ t140 ∷ []) ++ (kept_texts texts t kept ++ text) ≡ red_spelling t140 (blocks_in texts t stamp kept) text
+red_is texts t stamp t140 kept text =
+    append_assoc (flat_map (kept_header texts t stamp t140) kept) (t140 ∷ []) (kept_texts texts t kept ++ text)
+    ∙ (ap (λ (xs : List ℕ). xs ++ t140 ∷ (kept_texts texts t kept ++ text)) (sym (headers_are texts t stamp t140 kept))
+    ∙ ap (λ (xs : List ℕ). flat_map (red_header t140) (blocks_in texts t stamp kept) ++ t140 ∷ (xs ++ text)) (sym (texts_are texts t stamp kept)))
+
+-- ---- how long it is
+
+-- the text of an entry has as many octets as it says
+pub text_size : (texts : List (List ℕ)) (t : Terminal) (e : Entry) → HasText texts t e → length (text_in texts t e) ≡ e.len
+text_size texts t e h =
+    let list = list_at texts (t.first + e.source) in
+    omega (arith, h.within, length-take e.len (drop e.place list), length-drop e.place list)
+
+kept_size : (texts : List (List ℕ)) (t : Terminal) (k : Kept) → HasTexts texts t → (k.sent ≡ true → k.number < length t.entries.items) → length (kept_text texts t k) ≤ 1023
+kept_size texts t k h l = go k.sent refl
+  where
+    go : (b : Bool) → k.sent ≡ b → length (cond b (text_in texts t (entry_at t.entries.items k.number)) []) ≤ 1023
+    go true q =
+        let x = h.each k.number (record { turn = 0; place = 0; len = 0; source = 0 }) (l q) in
+        omega (arith, x.short, text_size texts t (entry_at t.entries.items k.number) x)
+    go false q = omega arith
+
+kept_short : (texts : List (List ℕ)) (t : Terminal) (stamp : ℕ) (kept : List Kept) → HasTexts texts t → AreBelow (length t.entries.items) kept → AreShortTexts (blocks_in texts t stamp kept)
+kept_short texts t stamp [] h a = tt
+kept_short texts t stamp (k ∷ kept) h a =
+    (kept_size texts t k h (All-head (λ (x : Kept). x.sent ≡ true → x.number < length t.entries.items) k kept a), kept_short texts t stamp kept h (All-tail (λ (x : Kept). x.sent ≡ true → x.number < length t.entries.items) k kept a))
+
+blocks_count : (texts : List (List ℕ)) (t : Terminal) (stamp : ℕ) (kept : List Kept) → length (blocks_in texts t stamp kept) ≡ length kept
+blocks_count texts t stamp [] = refl
+blocks_count texts t stamp (k ∷ kept) = let r = blocks_count texts t stamp kept in omega (arith, r)
+
+pub packet_short : (texts : List (List ℕ)) (t : Terminal) (older : List Kept) (e : Entry) (head : TextHead) → HasTexts texts t → HasText texts t e → length older ≤ 3 → AreBelow (length t.entries.items) older
+    → length (packet_in texts t older e head) ≤ MOST_PACKET_OCTETS
+packet_short texts t older e head h w l a =
+    packet_size t.conf.pts (packet_with head (blocks_in texts t head.stamp older) (text_in texts t e)) (kept_short texts t head.stamp older h a) (omega (arith, l, blocks_count texts t head.stamp older)) (omega (arith, w.short, text_size texts t e w))
