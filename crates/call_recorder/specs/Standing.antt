@@ -1,5 +1,5 @@
 -- What a recording that is being written stands for.
-use Rattle.std.specs.Prelude.{◌≡◌, ℕ, ◌+◌, Option, None, Some, IsSome, List, [], ◌∷◌, ◌++◌, length, map, take}
+use Rattle.std.specs.Prelude.{◌≡◌, ℕ, ◌+◌, ◌≤◌, Option, None, Some, IsSome, List, [], ◌∷◌, ◌++◌, length, map, take}
 use Rattle.rtt_io.specs.declared.sinks.Sink as sinks
 use Rattle.record_spec.specs.Recorded.{Entry, Parts, noted, part_written, record_in, with_entry, begun_with}
 use Rattle.call_recorder.specs.declared.places.Place.{Place}
@@ -14,6 +14,8 @@ pub record Keeping (F : Type 0) : Type 0 where
   pub number : ℕ
   pub place : Place
   pub file : Option F
+  -- whole records that are not in the file yet
+  pub pending : List ℕ
 
 -- with an entry more in the last file
 abbrev pub with_more : Parts → Entry → Parts
@@ -23,10 +25,11 @@ with_more ps e = record { over = ps.over; last = with_entry ps.last e }
 abbrev pub with_next : Parts → Entry → Parts
 with_next ps e = record { over = ps.over ++ ps.last ∷ []; last = begun_with e }
 
--- All that stands in these files lies under their names, and behind it some octets of the record of this entry, or none.
-pub record StillHolds (stem : List ℕ) (start : ℕ) (contents : List ℕ → Option (List ℕ)) (ps : Parts) (e : Entry) : Type 0 where
+-- These files lie under their names, the last one but for at most so many octets at its end; or there is a front of these octets behind it.
+pub record StillHolds (stem : List ℕ) (start : ℕ) (contents : List ℕ → Option (List ℕ)) (missing : ℕ) (ps : Parts) (behind : List ℕ) : Type 0 where
   pub octets : ℕ
-  pub under : AreUnder stem contents (map (part_written start) ps.over ++ (part_written start ps.last ++ take octets (record_in ps.last.begins e)) ∷ [])
+  pub few : length (part_written start ps.last) ≤ octets + missing
+  pub under : AreUnder stem contents (map (part_written start) ps.over ++ take octets (part_written start ps.last ++ behind) ∷ [])
 
 module _ {F : Type 0} (g : sinks.Ghosts F) where
   -- it never failed, and has the name of this number
@@ -39,7 +42,7 @@ module _ {F : Type 0} (g : sinks.Ghosts F) where
     pub number : k.number ≡ length ps.over + 1
     pub place : IsPlaceOf k.start ps.last k.place
     pub over : AreUnder k.stem contents (map (part_written k.start) ps.over)
-    pub took : g.took file ≡ part_written k.start ps.last
+    pub took : g.took file ++ k.pending ≡ part_written k.start ps.last
     pub there : IsSome (contents (numbered k.stem k.number))
 
   -- of a recording that ended before its call no more is said than when it ended
@@ -55,10 +58,18 @@ module _ {F : Type 0} (g : sinks.Ghosts F) where
   abbrev pub NotesMore : (before after : List ℕ → Option (List ℕ)) → (old new : Keeping F) → Entry → Type 0
   NotesMore before after old new e = (ps : Parts) → StandsFor before old ps → StandsFor after new (noted old.start ps e)
 
+  -- whatever are its files, they stay that
+  abbrev pub StaysAll : (before after : List ℕ → Option (List ℕ)) → (old new : Keeping F) → Type 0
+  StaysAll before after old new = (ps : Parts) → StandsFor before old ps → StandsFor after new ps
+
   -- whatever are its files, all that stands in them lies under their names
   abbrev pub LiesThere : (before after : List ℕ → Option (List ℕ)) → Keeping F → Type 0
   LiesThere before after k = (ps : Parts) → StandsFor before k ps → AreUnder k.stem after (files_written k.start ps)
 
-  -- whatever were its files, all that was noted before this entry lies there
-  abbrev pub KeepsAll : (before after : List ℕ → Option (List ℕ)) → Keeping F → Entry → Type 0
-  KeepsAll before after k e = (ps : Parts) → StandsFor before k ps → StillHolds k.stem k.start after ps e
+  -- whatever were its files, all that was not pending lies there, and a front of what was
+  abbrev pub KeepsWritten : (before after : List ℕ → Option (List ℕ)) → Keeping F → Type 0
+  KeepsWritten before after k = (ps : Parts) → StandsFor before k ps → StillHolds k.stem k.start after (length k.pending) ps []
+
+  -- the same, where this entry was to be noted: where all that was pending lies there, so may a front of its record
+  abbrev pub KeepsNoted : (before after : List ℕ → Option (List ℕ)) → Keeping F → Entry → Type 0
+  KeepsNoted before after k e = (ps : Parts) → StandsFor before k ps → StillHolds k.stem k.start after (length k.pending) ps (record_in ps.last.begins e)

@@ -3,6 +3,12 @@ use Rattle.std.specs.Prelude.{◌≡◌, ◌≢◌, ◌⊎◌, ℕ, ◌++◌, Op
 use Rattle.rtt_io.specs.Counts.{Rose}
 use Rattle.rtt_io.specs.Names.{Same}
 
+-- a file took some octets of what was pending, and the rest is pending
+pub record IsFurther (took pending more less : List ℕ) : Type 0 where
+  pub went : List ℕ
+  pub taken : more ≡ took ++ went
+  pub rest : pending ≡ went ++ less
+
 module _ {J : Type 0} where
   -- a fault of this name was counted
   abbrev pub IsCaused : (own objects : J → List ℕ → ℕ) → J → J → List ℕ → Type 0

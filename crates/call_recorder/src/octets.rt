@@ -85,7 +85,7 @@ fn record_head(at: u32, size: u16, packet: u16) -> [u8; 8]
 
 /// Appends the record of octets that came, or were given, at the moment `at` of their file (milliseconds). After `NoMemory` `out` is as
 /// before.
-fn append_record(at: u32, octets: &[u8], out: &mut Bytes) -> Result<(), NoMemory>
+pub(crate) fn append_record(at: u32, octets: &[u8], out: &mut Bytes) -> Result<(), NoMemory>
     requires { length octets.now ≤ MOST_PACKET_OCTETS }
     ensures ok { OnOk result (out.new ≡ out.old ++ entry_written at octets.now) }
     ensures err { OnErr result (out.new ≡ out.old) }
@@ -99,32 +99,11 @@ fn append_record(at: u32, octets: &[u8], out: &mut Bytes) -> Result<(), NoMemory
     written
 }
 
-/// The head of a file that begins at `t`, in milliseconds since 1970, and the record of octets at its first moment.
-pub(crate) fn first_piece(alloc: Global, t: u64, octets: &[u8]) -> Result<Bytes, NoMemory>
-    requires { length octets.now ≤ MOST_PACKET_OCTETS }
-    ensures { IfOk result (λ piece. piece ≡ head_written t ++ entry_written 0 octets.now) }
-{
-    let mut piece = Bytes::new(alloc);
-    append_head(t, &mut piece)?;
-    append_record(0, octets, &mut piece)?;
-    Ok(piece)
-}
-
 /// The head of a file that begins at `t`, in milliseconds since 1970.
 pub(crate) fn head_piece(alloc: Global, t: u64) -> Result<Bytes, NoMemory>
     ensures { IfOk result (λ piece. piece ≡ head_written t) }
 {
     let mut piece = Bytes::new(alloc);
     append_head(t, &mut piece)?;
-    Ok(piece)
-}
-
-/// The record of octets that came, or were given, at the moment `at` of their file (milliseconds).
-pub(crate) fn record_piece(alloc: Global, at: u32, octets: &[u8]) -> Result<Bytes, NoMemory>
-    requires { length octets.now ≤ MOST_PACKET_OCTETS }
-    ensures { IfOk result (λ piece. piece ≡ entry_written at octets.now) }
-{
-    let mut piece = Bytes::new(alloc);
-    append_record(at, octets, &mut piece)?;
     Ok(piece)
 }

@@ -9,3 +9,6 @@ pub(crate) struct Place {
     pub(crate) size: u32,
     ghost small: { size ≤ MOST_RECORDING_OCTETS },
 }
+
+/// What is pending has at most so many octets.
+pub(crate) const MOST_PENDING_OCTETS: usize = 8192;

@@ -1,7 +1,8 @@
 use crate::{RecordFault, Recorder, Way, file_name, stem_of};
 use journal_io::MemJournals;
-use rtt_base::NoMemory;
 use rtt_base::limits::MOST_PACKET_OCTETS;
+use rtt_base::{NoMemory, Path};
+use rtt_io::{FailingCall, FailingWrite};
 use std::alloc::Global;
 use std::test::Fail;
 
@@ -100,5 +101,57 @@ fn sizes(alloc: Global) -> Result<[usize; 3], NoMemory> {
 #[test]
 fn a_file_has_at_most_4_mib(rt: HostRuntime) -> Result<(), Fail> {
     assert!(rt; sizes(rt.alloc())? == [44 + 1046 * 4008, 44 + 54 * 4008, 0]);
+    Ok(())
+}
+
+/// A record of two octets of RTCP at moment 0.
+const RECORD: &[u8] = b"\0\x0A\0\0\0\0\0\0\x80\xC9";
+
+/// What lies there of a recording in which three reports were noted and flushed, then four more, of which the write broke off behind so
+/// many octets.
+fn broken(alloc: Global, through: usize) -> Result<MemJournals, NoMemory> {
+    let mut journals = MemJournals::new(alloc);
+    let name = Path::from_text(alloc, "calls/one.Ann.in.1.rtp")?;
+    let write = FailingWrite { write: 3, through };
+    journals.fail(FailingCall::Write(name, write))?;
+    let stem = stem_of(alloc, "calls/one", "Ann", Way::In)?;
+    let Ok(mut recorder) = Recorder::begin(&mut journals, alloc, stem, 1500) else {
+        return Err(NoMemory);
+    };
+    for _ in 0..3u32 {
+        let _pending = recorder.note(&mut journals, 0, b"\x80\xC9");
+    }
+    let first = recorder.flush(&mut journals);
+    for _ in 0..4u32 {
+        let _pending = recorder.note(&mut journals, 0, b"\x80\xC9");
+    }
+    let second = recorder.flush(&mut journals);
+    if first.is_err() || second != Err(RecordFault::Failed) || !recorder.is_over() {
+        return Err(NoMemory);
+    }
+    Ok(journals)
+}
+
+/// Whether a file has a head and then so many octets, which are records of the report one behind the other.
+fn has_front(journals: &MemJournals, octets: usize) -> bool {
+    let Some(found) = journals.contents("calls/one.Ann.in.1.rtp") else {
+        return false;
+    };
+    let Some(records) = found.get(44..) else {
+        return false;
+    };
+    for record in records.chunks(10) {
+        if !RECORD.starts_with(record) {
+            return false;
+        }
+    }
+    records.len() == octets
+}
+
+#[test]
+fn what_is_pending_is_written_by_one_call(rt: HostRuntime) -> Result<(), Fail> {
+    assert!(rt; has_front(&broken(rt.alloc(), 0)?, 30));
+    assert!(rt; has_front(&broken(rt.alloc(), 4)?, 34));
+    assert!(rt; has_front(&broken(rt.alloc(), 25)?, 55));
     Ok(())
 }

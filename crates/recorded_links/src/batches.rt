@@ -2,22 +2,24 @@
 ghost use Rattle.std.specs.Prelude.{◌≤◌, ◌<◌, ◌^◌, length};
 ghost use Rattle.rtt_base.specs.declared.limits.TheConstants.{MOST_PACKET_OCTETS};
 
-use item_queue::Reuse;
 use rtt_base::{Bytes, NoMemory};
 use std::alloc::Global;
 
 /// The most octets that a batch has, where each entry counts for some more than its own.
-const MOST_BATCH_OCTETS: u64 = 65_536;
+const MOST_BATCH_OCTETS: u64 = 1_048_576;
 
 /// For how many octets more than its own an entry counts.
 const ENTRY_OCTETS: u64 = 64;
 
-/// Octets that came, or were given, and the moment (milliseconds).
-#[derive(Debug, Drop)]
+/// Of a batch that counts for more octets no memory is kept.
+const MOST_KEPT_OCTETS: u64 = 8192;
+
+/// How many octets came, or were given, and the moment (milliseconds).
+#[derive(Clone, Copy, Debug)]
 pub(crate) struct Note {
     pub(crate) at: u64,
-    pub(crate) octets: Bytes,
-    ghost few: { length octets ≤ MOST_PACKET_OCTETS },
+    pub(crate) len: usize,
+    ghost few: { len ≤ MOST_PACKET_OCTETS },
     ghost early: { at < 2 ^ 63 },
 }
 
@@ -26,6 +28,8 @@ pub(crate) struct Note {
 pub(crate) struct Batch {
     alloc: Global,
     notes: Vec<Note>,
+    /// Those of all notes.
+    octets: Bytes,
     /// For how many octets it counts.
     size: u64,
 }
@@ -35,29 +39,24 @@ pub(crate) fn entry_size(octets: &[u8]) -> u64 {
     (octets.len() as u64).saturating_add(ENTRY_OCTETS)
 }
 
-impl Reuse for Batch {
-    /// It takes no memory: that comes with what is noted.
-    fn blank(alloc: Global) -> Result<Batch, NoMemory> {
-        Ok(Batch::empty(alloc))
-    }
-}
-
 impl Batch {
     /// Nothing was noted. It takes no memory.
     pub(crate) fn empty(alloc: Global) -> Batch {
         Batch {
             alloc,
             notes: Vec::new(alloc),
+            octets: Bytes::new(alloc),
             size: 0,
         }
     }
 
-    pub(crate) fn is_empty(&self) -> bool {
-        self.notes.is_empty()
-    }
-
     pub(crate) fn notes(&self) -> &[Note] {
         self.notes.as_slice()
+    }
+
+    /// Those of all notes, one behind the other.
+    pub(crate) fn octets(&self) -> &[u8] {
+        self.octets.as_slice()
     }
 
     /// For how many octets it counts.
@@ -65,8 +64,14 @@ impl Batch {
         self.size
     }
 
+    /// Forgets all that was noted. It keeps its memory for what is noted next, unless that is much.
     pub(crate) fn clear(&mut self) {
+        if self.size > MOST_KEPT_OCTETS {
+            self.notes = Vec::new(self.alloc);
+            self.octets = Bytes::new(self.alloc);
+        }
         self.notes.clear();
+        self.octets.clear();
         self.size = 0;
     }
 
@@ -79,9 +84,13 @@ impl Batch {
         if size > MOST_BATCH_OCTETS {
             return Err(NoMemory);
         }
-        let mut copy = Bytes::new(self.alloc);
-        copy.append(octets)?;
-        self.notes.push(Note { at, octets: copy })?;
+        let before = self.octets.len();
+        self.octets.append(octets)?;
+        let len = octets.len();
+        if self.notes.push(Note { at, len }).is_err() {
+            self.octets.truncate(before);
+            return Err(NoMemory);
+        }
         self.size = size;
         Ok(())
     }

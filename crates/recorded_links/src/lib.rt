@@ -5,6 +5,7 @@ mod batches;
 mod ends;
 mod links;
 mod noters;
+mod shelves;
 mod starting;
 mod tracks;
 mod writers;

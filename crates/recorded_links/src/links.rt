@@ -83,6 +83,7 @@ where
         } = self;
         let Tracks {
             mut journals,
+            waiting: _,
             tracks,
         } = writer.finish(&rt);
         let failed = end_all(&mut journals, tracks, noters);

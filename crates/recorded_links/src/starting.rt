@@ -4,17 +4,17 @@ ghost use Rattle.std.specs.Prelude.{◌≡◌, ℕ, IfOk};
 use crate::batches::Batch;
 use crate::links::Recorded;
 use crate::noters::Noter;
+use crate::shelves::{Legs, Waiting};
 use crate::tracks::{Track, Tracks};
 use crate::writers::{StartFault, Writer};
 use call_recorder::{RecordFault, Recorder, Way, file_name, stem_of};
 use file_spec::LegLine;
-use item_queue::ItemQueue;
 use journal_io::Journals;
 use link_io::Links;
 use rtt_base::NoMemory;
 use std::alloc::Global;
 use std::sync::atomic::AtomicU64;
-use std::sync::{Arc, Wait};
+use std::sync::{Arc, Mutex, Wait};
 use std::thread::Threads;
 use std::time::Clock;
 
@@ -61,39 +61,36 @@ fn begin_recorder<J: Journals>(
 }
 
 /// Begins the recording of a leg in one way: makes its first file, and has who writes and who notes.
-fn begin_track<J: Journals, R: Wait + Copy + Drop>(
+pub(crate) fn begin_track<J: Journals, R: Wait + Copy + Drop>(
     rt: R,
     alloc: Global,
     journals: &mut J,
+    way: Way,
     stem: String,
     start: u64,
     number: usize,
     clock: &Arc<AtomicU64, Global>,
-    waiting: &Arc<AtomicU64, Global>,
+    waiting: &Arc<Waiting, Global>,
 ) -> Result<(Track<J>, Noter<R>), BeginFault> {
-    let Ok((queue, push, pop)) = ItemQueue::new(alloc) else {
+    let Ok(shelf) = Arc::new(alloc, Mutex::new(Batch::empty(alloc))) else {
         return Err(BeginFault::NoMemory);
     };
-    let Ok(queue) = Arc::new(alloc, queue) else {
+    let (Ok(theirs), Ok(clock)) = (Arc::try_clone(&shelf), Arc::try_clone(clock)) else {
         return Err(BeginFault::NoMemory);
     };
-    let (Ok(theirs), Ok(clock)) = (Arc::try_clone(&queue), Arc::try_clone(clock)) else {
-        return Err(BeginFault::NoMemory);
-    };
-    let (Ok(ours), Ok(waiting)) = (Arc::try_clone(waiting), Arc::try_clone(waiting)) else {
+    let Ok(waiting) = Arc::try_clone(waiting) else {
         return Err(BeginFault::NoMemory);
     };
     let recorder = begin_recorder(journals, alloc, stem, start)?;
     let track = Track {
+        alloc,
+        way,
+        leg: Legs::of(number),
         recorder,
-        queue: theirs,
-        pass: pop,
-        waiting: ours,
+        shelf: theirs,
+        spare: Batch::empty(alloc),
     };
-    Ok((
-        track,
-        Noter::new(rt, alloc, number, clock, waiting, queue, push),
-    ))
+    Ok((track, Noter::new(rt, number, way, clock, waiting, shelf)))
 }
 
 /// The recordings of a call as they are begun, and who notes.
@@ -103,8 +100,8 @@ struct Beginning<R> {
     alloc: Global,
     start: u64,
     clock: Arc<AtomicU64, Global>,
-    /// For how many octets counts what waits to be written.
-    waiting: Arc<AtomicU64, Global>,
+    /// What waits to be written.
+    waiting: Arc<Waiting, Global>,
     noters: Vec<Option<Noter<R>>>,
 }
 
@@ -112,6 +109,7 @@ struct Beginning<R> {
 fn begin_more<J: Journals, R: Wait + Copy + Drop>(
     beginning: &mut Beginning<R>,
     tracks: &mut Tracks<J>,
+    way: Way,
     stem: String,
 ) -> Result<(), BeginFault> {
     let number = beginning.noters.len();
@@ -119,6 +117,7 @@ fn begin_more<J: Journals, R: Wait + Copy + Drop>(
         beginning.rt,
         beginning.alloc,
         &mut tracks.journals,
+        way,
         stem,
         beginning.start,
         number,
@@ -143,7 +142,7 @@ fn begin_all<J: Journals, R: Wait + Copy + Drop>(
             let Ok(stem) = stem_of(beginning.alloc, prefix, leg.name.as_str(), way) else {
                 return Err(BeginFault::NoMemory);
             };
-            begin_more(beginning, tracks, stem)?;
+            begin_more(beginning, tracks, way, stem)?;
         }
     }
     Ok(())
@@ -187,6 +186,7 @@ where
         let clock = Arc::new(alloc, AtomicU64::new(0))?;
         let tracks = Tracks {
             journals,
+            waiting: Arc::new(alloc, Waiting::new())?,
             tracks: Vec::new(alloc),
         };
         let noters = Vec::new(alloc);
@@ -195,8 +195,8 @@ where
 
     /// The links over these, of whose legs `PREFIX.NAME.in.1.rtp` and `PREFIX.NAME.out.1.rtp` are recordings, and what follows them.
     /// It makes the first file of each, in leg order, in before out; what is there is never written over. `start` is what the wall clock
-    /// shows at moment 0 of the clock of the links, in milliseconds since 1970; what came and was given is written once a `tick`
-    /// (milliseconds), at most 100. Where a file can't be made, or no thread can be started that writes, those that were made stay.
+    /// shows at moment 0 of the clock of the links, in milliseconds since 1970; what came is written once a `tick` (milliseconds), at most
+    /// 100, and what was given once a second. Where a file can't be made, or no thread can be started that writes, those that were made stay.
     pub fn begin(
         rt: R,
         alloc: Global,
@@ -216,12 +216,16 @@ where
     {
         let (Ok(clock), Ok(waiting)) = (
             Arc::new(alloc, AtomicU64::new(0)),
-            Arc::new(alloc, AtomicU64::new(0)),
+            Arc::new(alloc, Waiting::new()),
         ) else {
+            return Err(BeginFault::NoMemory);
+        };
+        let Ok(theirs) = Arc::try_clone(&waiting) else {
             return Err(BeginFault::NoMemory);
         };
         let mut tracks = Tracks {
             journals,
+            waiting: theirs,
             tracks: Vec::new(alloc),
         };
         let mut beginning = Beginning {

@@ -1,12 +1,19 @@
+use crate::batches::Batch;
+use crate::noters::Noter;
+use crate::shelves::{Waiting, exchange};
+use crate::starting::begin_track;
+use crate::tracks::Track;
 use crate::{BeginFault, Finished, Recorded};
+use call_recorder::{Way, stem_of};
 use conf_text::{Form, read_conf};
 use conference::Conf;
 use journal_io::MemJournals;
-use link_io::{Came, LinkIn, LinkOut, Links, MemLinks, Planned};
+use link_io::{Came, FailingLink, LinkIn, LinkOut, Links, MemLinks, Planned};
 use rtt_base::{Bytes, NoMemory, Packet, Path};
 use rtt_io::{FailingCall, FailingWrite};
 use std::alloc::Global;
-use std::sync::Wait;
+use std::sync::atomic::AtomicU64;
+use std::sync::{Arc, Wait};
 use std::test::Fail;
 use std::thread::Threads;
 
@@ -41,13 +48,14 @@ fn conf(alloc: Global) -> Result<Conf, NoMemory> {
     }
 }
 
-/// Links at which this comes: of Ann a text, a datagram that is too long, and a report.
+/// Links at which this comes: of Ann a text, a datagram that is too long, and a report. What Ann is given first is not taken.
 fn links(alloc: Global) -> Result<MemLinks, NoMemory> {
     let mut links = MemLinks::new(alloc);
     links.plan(5001, Planned::new(alloc, 100, Came::Datagram, TEXT)?)?;
     links.plan(5001, Planned::new(alloc, 200, Came::Large, b"")?)?;
     links.plan(5001, Planned::new(alloc, 250, Came::Datagram, REPORT)?)?;
     links.plan(5001, Planned::new(alloc, FIVE_HOURS, Came::Datagram, TEXT)?)?;
+    links.fail(FailingLink::Give(5001, 1))?;
     Ok(links)
 }
 
@@ -106,7 +114,7 @@ fn call<R: Threads + Wait + Copy + Drop + Send + 'static>(
     Ok(links.finish())
 }
 
-/// Takes all that comes up to this moment (milliseconds), and gives Ann a text at 1000.
+/// Takes all that comes up to this moment (milliseconds), and gives Ann a report and a text at 1000.
 fn run<L: Links>(links: &mut L, last: u64) {
     let Ok((mut ann, mut ann_out)) = links.link(5001, "127.0.0.1:6001") else {
         return;
@@ -117,6 +125,7 @@ fn run<L: Links>(links: &mut L, last: u64) {
     }
     links.pause_until(1000);
     let beat = links.beat();
+    let _refused = ann_out.give(&beat, REPORT);
     let _given = ann_out.give(&beat, TEXT);
     links.pause_until(last);
     let _taken = ann.take(&mut out, 0);
@@ -201,5 +210,106 @@ fn a_call_without_links_has_files_without_records(rt: HostRuntime) -> Result<(),
     assert!(rt; done.failed?.is_none());
     assert!(rt; holds(rt.alloc(), &done.journals, "call.Ann.in.1.rtp", b"")?);
     assert!(rt; holds(rt.alloc(), &done.journals, "call.Bob.out.1.rtp", b"")?);
+    Ok(())
+}
+
+/// So many octets came at once; of such datagrams 258 have room on a shelf.
+const LARGE: [u8; 4000] = [7; 4000];
+
+/// A recording of what came of Ann, who notes, and what waits.
+type Begun<R> = (Track<MemJournals>, Noter<R>, Arc<Waiting, Global>);
+
+fn begun<R: Wait + Copy + Drop>(
+    rt: R,
+    alloc: Global,
+    journals: &mut MemJournals,
+) -> Result<Begun<R>, BeginFault> {
+    let (Ok(clock), Ok(waiting)) = (
+        Arc::new(alloc, AtomicU64::new(0)),
+        Arc::new(alloc, Waiting::new()),
+    ) else {
+        return Err(BeginFault::NoMemory);
+    };
+    let Ok(stem) = stem_of(alloc, "call", "Ann", Way::In) else {
+        return Err(BeginFault::NoMemory);
+    };
+    let (track, noter) = begin_track(
+        rt,
+        alloc,
+        journals,
+        Way::In,
+        stem,
+        START,
+        0,
+        &clock,
+        &waiting,
+    )?;
+    Ok((track, noter, waiting))
+}
+
+/// For how many octets counts what waits of 300 datagrams, and once that was taken away what waits of one more.
+fn waits<R: Wait + Copy + Drop>(rt: R, alloc: Global) -> Result<[u64; 2], BeginFault> {
+    let mut journals = MemJournals::new(alloc);
+    let (track, mut noter, _waiting) = begun(rt, alloc, &mut journals)?;
+    for _ in 0..300u32 {
+        noter.note(0, &LARGE);
+    }
+    let first = exchange(&rt, &track.shelf, Batch::empty(alloc)).size();
+    noter.note(0, &LARGE);
+    let next = exchange(&rt, &track.shelf, Batch::empty(alloc)).size();
+    Ok([first, next])
+}
+
+#[test]
+fn behind_what_has_no_room_nothing_is_noted(rt: HostRuntime) -> Result<(), Fail> {
+    let alloc = rt.alloc();
+    assert!(rt; waits(rt, alloc)? == [258 * 4064, 0]);
+    Ok(())
+}
+
+/// Whether something could not be noted of 5000 datagrams, which are written 200 at a time.
+fn is_over_behind_many<R: Wait + Copy + Drop>(rt: R, alloc: Global) -> Result<bool, BeginFault> {
+    let mut journals = MemJournals::new(alloc);
+    let (mut track, mut noter, waiting) = begun(rt, alloc, &mut journals)?;
+    for _ in 0..25u32 {
+        for _ in 0..200u32 {
+            noter.note(0, &LARGE);
+        }
+        track.write(&rt, &mut journals, &waiting);
+    }
+    Ok(noter.is_over())
+}
+
+#[test]
+fn what_was_written_waits_no_more(rt: HostRuntime) -> Result<(), Fail> {
+    let alloc = rt.alloc();
+    assert!(rt; !is_over_behind_many(rt, alloc)?);
+    Ok(())
+}
+
+/// What lies there of a recording of which two texts and a report were written one after the other.
+fn written_in_turn<R: Wait + Copy + Drop>(rt: R, alloc: Global) -> Result<MemJournals, BeginFault> {
+    let mut journals = MemJournals::new(alloc);
+    let (mut track, mut noter, waiting) = begun(rt, alloc, &mut journals)?;
+    noter.note(100, TEXT);
+    track.write(&rt, &mut journals, &waiting);
+    noter.note(101, TEXT);
+    track.write(&rt, &mut journals, &waiting);
+    noter.note(102, REPORT);
+    track.write(&rt, &mut journals, &waiting);
+    let _whole = track.recorder.end(&mut journals);
+    Ok(journals)
+}
+
+/// The records of these.
+const IN_TURN: &[u8] =
+    b"\0\x16\0\x0E\0\0\0\x64\x80\xE2\0\x05\0\0\0\x64\0\0\x03\xE9Hi\0\x16\0\x0E\0\0\0\x65\x80\xE2\0\x05\0\0\0\x64\0\0\x03\xE9Hi\
+    \0\x10\0\0\0\0\0\x66\x80\xC9\0\x01\0\0\x03\xE9";
+
+#[test]
+fn what_is_noted_behind_a_write_is_in_the_file(rt: HostRuntime) -> Result<(), Fail> {
+    let alloc = rt.alloc();
+    let journals = written_in_turn(rt, alloc)?;
+    assert!(rt; holds(rt.alloc(), &journals, "call.Ann.in.1.rtp", IN_TURN)?);
     Ok(())
 }

@@ -1,70 +1,56 @@
 //! The recordings of a call, as they are written.
-ghost use Rattle.std.specs.Arc.{arc_value};
-ghost use Rattle.item_queue.specs.Passes.{IsPopOf};
+ghost use Rattle.std.specs.Prelude.{◌≡◌, [], IfSome};
 
 use crate::batches::Batch;
 use crate::noters::Noter;
-use call_recorder::Recorder;
-use item_queue::{ItemQueue, MOST_QUEUED, PopPass};
+use crate::shelves::{Legs, Shelf, Waiting, exchange};
+use call_recorder::{Recorder, Way};
 use journal_io::Journals;
 use rtt_base::NoMemory;
 use std::alloc::Global;
-use std::sync::atomic::{AtomicU64, Ordering};
+use std::mem;
 use std::sync::{Arc, Wait};
 
-/// A recording, and the queue out of which it is written.
+/// A recording, and the shelf from which it is written.
 #[derive(Drop)]
 pub(crate) struct Track<J: Journals> {
+    pub(crate) alloc: Global,
+    pub(crate) way: Way,
+    pub(crate) leg: Legs,
     pub(crate) recorder: Recorder<J>,
-    pub(crate) queue: Arc<ItemQueue<Batch>, Global>,
-    pub(crate) pass: PopPass<Batch>,
-    /// For how many octets counts what waits to be written in the whole call.
-    pub(crate) waiting: Arc<AtomicU64, Global>,
-    ghost fits: { IsPopOf (arc_value queue) pass },
+    pub(crate) shelf: Shelf,
+    /// An empty batch, which goes on the shelf next.
+    pub(crate) spare: Batch,
 }
 
 impl<J: Journals> Track<J> {
-    /// Writes the entries of a batch.
-    pub(crate) fn write(&mut self, journals: &mut J, batch: &Batch) {
+    // Has the entries of a batch in its recording.
+    fn note(&mut self, journals: &mut J, batch: &Batch) {
+        let mut rest = batch.octets();
         for note in batch.notes() {
-            let _ended = self
-                .recorder
-                .note(journals, note.at, note.octets.as_slice());
+            let (octets, more) = rest.split_at(note.len.min(rest.len()));
+            let _ended = self.recorder.note(journals, note.at, octets);
+            rest = more;
         }
     }
 
-    // Writes the next batch that waits in its queue, if one does.
-    fn write_next<R: Wait>(&mut self, rt: &R, journals: &mut J) -> bool {
-        let Some(mut batch) = self.queue.pop(rt, &mut self.pass) else {
-            return false;
-        };
-        self.write(journals, &batch);
-        self.waiting.fetch_sub(batch.size(), Ordering::SeqCst);
+    /// Writes what waits on its shelf.
+    pub(crate) fn write<R: Wait>(&mut self, rt: &R, journals: &mut J, waiting: &Waiting)
+        ensures written { IfSome self.new.recorder.file (λ _. self.new.recorder.pending ≡ []) }
+    {
+        let spare = mem::replace(&mut self.spare, Batch::empty(self.alloc));
+        let mut batch = exchange(rt, &self.shelf, spare);
+        self.note(journals, &batch);
+        let _ended = self.recorder.flush(journals);
+        waiting.uncount(batch.size());
         batch.clear();
-        self.queue.give_back(rt, batch);
-        true
+        self.spare = batch;
     }
 
-    /// Writes what waits in its queue, at most as many batches as it has places.
-    pub(crate) fn drain<R: Wait>(&mut self, rt: &R, journals: &mut J) {
-        for _ in 0..MOST_QUEUED {
-            if !self.write_next(rt, journals) {
-                return;
-            }
-        }
-    }
-}
-
-impl<J: Journals> Track<J> {
-    /// Writes what its noter did not hand on. The answer is whether all was written that came, or was given.
+    /// Ends it. The answer is whether all was written that came, or was given.
     fn end<R: Wait + Drop>(&mut self, journals: &mut J, noter: Option<Noter<R>>) -> bool {
-        let Some(noter) = noter else {
-            self.recorder.end(journals);
-            return false;
-        };
-        let (rest, over) = noter.into_rest();
-        self.write(journals, &rest);
-        self.recorder.end(journals) && !over
+        let whole = self.recorder.end(journals) == Ok(true);
+        whole && noter.is_some_and(|noter| !noter.is_over())
     }
 }
 
@@ -84,18 +70,41 @@ pub(crate) fn end_all<J: Journals, R: Wait + Drop>(
     Ok(failed)
 }
 
+/// What is written in a round.
+#[derive(Clone, Copy, Debug, PartialEq, Eq)]
+pub(crate) enum Round {
+    /// What came.
+    Short,
+    /// What came, and what was given.
+    Full,
+}
+
+impl Round {
+    /// Whether a recording of this way and leg is written in it, where something came of these legs.
+    fn takes(self, way: Way, leg: Legs, came: Legs) -> bool {
+        match self {
+            Round::Short => way == Way::In && came.has(leg),
+            Round::Full => true,
+        }
+    }
+}
+
 /// All recordings of a call, in leg order, in before out, and where their files are made.
 #[derive(Drop)]
 pub(crate) struct Tracks<J: Journals> {
     pub(crate) journals: J,
+    pub(crate) waiting: Arc<Waiting, Global>,
     pub(crate) tracks: Vec<Track<J>>,
 }
 
 impl<J: Journals> Tracks<J> {
-    /// Writes what waits in each queue in turn.
-    pub(crate) fn drain<R: Wait>(&mut self, rt: &R) {
+    /// Writes what waits in each recording in turn that this round takes.
+    pub(crate) fn write<R: Wait>(&mut self, rt: &R, round: Round) {
+        let came = self.waiting.legs();
         for track in &mut self.tracks {
-            track.drain(rt, &mut self.journals);
+            if round.takes(track.way, track.leg, came) {
+                track.write(rt, &mut self.journals, &self.waiting);
+            }
         }
     }
 }

@@ -1,5 +1,5 @@
 //! Who writes the recordings of a call.
-use crate::tracks::Tracks;
+use crate::tracks::{Round, Tracks};
 use journal_io::Journals;
 use std::alloc::Global;
 use std::sync::atomic::{AtomicBool, Ordering};
@@ -10,6 +10,9 @@ use std::time::Duration;
 
 /// The longest rest between two rounds (milliseconds).
 const LONGEST_REST: u32 = 100;
+
+/// For how long rests together have no full round among them (milliseconds).
+const FULL_REST: u32 = 900;
 
 /// Tells who writes to end.
 #[derive(Drop)]
@@ -47,6 +50,15 @@ pub(crate) enum StartFault {
     NoMemory,
 }
 
+/// The round behind a rest, where so many milliseconds of rests went by since the last full one.
+fn round_after(rested: u32) -> Round {
+    if rested < FULL_REST {
+        Round::Short
+    } else {
+        Round::Full
+    }
+}
+
 /// Writes what waits, again and again with a rest, until it is told to end.
 fn write_on<J: Journals + Drop, R: Wait + Drop>(
     rt: R,
@@ -54,13 +66,19 @@ fn write_on<J: Journals + Drop, R: Wait + Drop>(
     rest: u32,
     bell: &Bell,
 ) -> Tracks<J> {
+    let mut rested: u32 = 0;
     for _ in rt.forever() {
-        tracks.drain(&rt);
+        let round = round_after(rested);
+        tracks.write(&rt, round);
+        if round == Round::Full {
+            rested = 0;
+        }
         if bell.ended.load(Ordering::SeqCst) {
             break;
         }
         bell.parker
             .park_timeout(&rt, Duration::from_millis(u64::from(rest)));
+        rested = rested.saturating_add(rest);
     }
     tracks
 }
@@ -98,7 +116,7 @@ where
             }
             Writer::Nobody(tracks) => tracks,
         };
-        tracks.drain(rt);
+        tracks.write(rt, Round::Full);
         tracks
     }
 }

@@ -1,26 +1,27 @@
-use Rattle.std.proofs.Common.{rules, ◌≡◌, ◌<◌, ◌^◌, Some, IfSome, true≢false, string_bytes, sym, subst, ◌∙◌}
-use Rattle.call_recorder.specs.Files.{AreUnder, files_written}
-use Rattle.call_recorder.specs.Standing.{IsFresh, StandsFor}
-use Rattle.record_spec.specs.Recorded.{Parts}
-use Rattle.call_recorder.proofs.Noting.{handed_back, is_writing}
+use Rattle.std.proofs.Common.{rules, ◌≡◌, ◌<◌, ◌^◌, [], Some, IfSome, string_bytes, ap, subst, ◌∙◌}
+use Rattle.call_recorder.specs.Standing.{IsFresh}
+use Rattle.call_recorder.proofs.Noting.{all_lies, left_pending}
 use Rattle.call_recorder.proofs.recorders.Recorder.end.Goals as goal
-use Rattle.call_recorder.proofs.recorders.Recorder.end.Goals.{in-Some, in-None}
+
+pub returns-in_default-write_pending-clause-keeps : goal.returns-in_default-write_pending-clause-keeps
+returns-in_default-write_pending-clause-keeps g c = λ tells ps stands.
+    let sink = g.J.File.Sink in
+    let file = c.in-Some.file in
+    let is : c.self.inside.file ≡ Some file = search rules in
+    let fresh = subst (λ o. IfSome o (λ f. IsFresh sink (string_bytes c.self.inside.stem) c.self.inside.number f)) is c.self.invariant.1 in
+    let small : c.self.inside.number < 2 ^ 64 = search rules in
+    left_pending sink (g.J.Journals.contents c.args.journals.now) (g.J.Journals.contents c.write_pending.new.journals) c.args.self.now _ file (λ _. [])
+    c.self.view_is is small fresh.1 (λ told. c.write_pending.ensures.left told tells (search rules)) (c.write_pending.ensures.others tells) ps stands
 
 pub returns-clause-whole : goal.returns-clause-whole
 returns-clause-whole g c = λ tells whole ps stands.
-    elim c.match-take.branch [
-      | in-Some w ↦
-          let sink = g.J.File.Sink in
-          let before = g.J.Journals.contents c.args.journals.now in
-          let after = g.J.Journals.contents c.match-take.journals in
-          let file = w.in-Some.file in
-          let is : c.self.inside.file ≡ Some file = search rules in
-          let fresh = subst (λ o. IfSome o (λ f. IsFresh sink (string_bytes c.self.inside.stem) c.self.inside.number f)) is c.self.invariant.1 in
-          let small : c.self.inside.number < 2 ^ 64 = search rules in
-          subst (λ k. StandsFor sink before k ps → AreUnder k.stem after (files_written k.start ps)) c.self.view_is
-          (λ s. handed_back sink before after _ file ps small fresh.1
-          (λ there. search (rules, w.done.ensures.kept tells there))
-          (λ n other. search (rules, w.done.ensures.other_contents tells n other))
-          (is_writing sink before _ file ps is s)) stands
-      | in-None w ↦ absurd (true≢false (sym whole ∙ w.result-is))
-    ]
+    let sink = g.J.File.Sink in
+    let file = c.in-Some.file in
+    let written = c.in-Some-write_pending.file in
+    let is : c.self.inside.file ≡ Some file = search rules in
+    let fresh = subst (λ o. IfSome o (λ f. IsFresh sink (string_bytes c.self.inside.stem) c.self.inside.number f)) is c.self.invariant.1 in
+    let small : c.self.inside.number < 2 ^ 64 = search rules in
+    let named : sink.name written ≡ sink.name file = search rules in
+    all_lies sink (g.J.Journals.contents c.args.journals.now) (g.J.Journals.contents c.write_pending.new.journals) (g.J.Journals.contents c.done.new.self) c.args.self.now _ file written
+    c.self.view_is is small (ap g.J.Journals.contents (search rules)) (λ told. search (rules, c.write_pending.ensures.took told)) (named ∙ fresh.1)
+    (c.done.ensures.kept tells) (c.done.ensures.other_contents tells) ps stands
