@@ -1,21 +1,24 @@
-ghost use Rattle.std.specs.Prelude.{◌≡◌, [], length, vec_len, IfSome};
+ghost use Rattle.std.specs.Prelude.{◌≡◌, ◌<◌, [], suc, length, vec_len, IfSome};
+ghost use Rattle.std.specs.Vec.{vec_capacity};
 ghost use Rattle.item_lanes.specs.Lanes.{AreNew};
 ghost use Rattle.live_leg.specs.Stands.{LegGave, LegStands};
 ghost use Rattle.live_loop.specs.Walks.{AreAt};
 
 use crate::{LivePort, Turned, drain_all, inlets_of, ports_over, take_turns};
 use ear::EarConf;
-use item_lanes::{Lane, LaneRoom, Started, join_lanes, keep_lanes};
+use item_lanes::{Lane, LaneRoom, Started, join_lanes, keep_lanes, start_lanes};
 use link_io::{Beat, Came, LinkIn, Links, MemIn, MemLinks, Planned};
 use live_leg::{LegConf, LegItem, LinkLeg};
 use mix_loop::Mixes;
 use rtt_base::{Bytes, Chunk, Full, NoMemory, Pts};
 use rtt_io::StillGate;
 use std::alloc::Global;
+use std::process::Abort;
 use std::sync::atomic::{AtomicBool, Ordering};
 use std::sync::{Arc, Wait};
 use std::test::Fail;
-use std::thread::Threads;
+use std::thread;
+use std::thread::{Scope, Threads};
 
 // Takes each text, and counts them and the turns. It stands for no calls.
 #[derive(Drop)]
@@ -115,7 +118,9 @@ fn link(alloc: Global, count: u16, closes: bool) -> Result<MemIn, NoMemory> {
     Ok(link)
 }
 
-type AnnPort = LivePort<Lane<LegItem, LinkLeg<MemIn>, StillGate>>;
+type AnnLane = Lane<LegItem, LinkLeg<MemIn>, StillGate>;
+
+type AnnPort = LivePort<AnnLane>;
 
 // How the turns of a call ended, how many there were, and how many texts were taken.
 #[derive(Clone, Copy, PartialEq)]
@@ -167,27 +172,52 @@ const ANN: LegConf = LegConf {
     follow: false,
 };
 
-// A leg over this link, alone, and its stop word.
-fn ann(alloc: Global, link: MemIn) -> Option<(Vec<LinkLeg<MemIn>>, Arc<AtomicBool, Global>)>
-    ensures new { IfSome result (λ r. AreNew (LegGave ⟦<MemIn as LinkIn>⟧) r.0.items) }
-    ensures one { IfSome result (λ r. vec_len r.0 ≡ 1) }
+// A leg over this link, alone, which this word stops.
+fn ann(alloc: Global, link: MemIn, stop: &Arc<AtomicBool, Global>) -> Option<Vec<LinkLeg<MemIn>>>
+    ensures new { IfSome result (λ legs. AreNew (LegGave ⟦<MemIn as LinkIn>⟧) legs.items) }
+    ensures one { IfSome result (λ legs. vec_len legs ≡ 1) }
 {
-    let Ok(stop) = Arc::new(alloc, AtomicBool::new(false)) else {
-        return None;
-    };
-    let Ok(theirs) = Arc::try_clone(&stop) else {
+    let Ok(theirs) = Arc::try_clone(stop) else {
         return None;
     };
     let Ok(leg) = LinkLeg::new(alloc, link, ANN, 100, theirs) else {
         return None;
     };
-    let legs = alone(alloc, leg)?;
-    Some((legs, stop))
+    alone(alloc, leg)
+}
+
+// A mixer of so many legs.
+fn new_mixer(legs: usize) -> Counting
+    ensures legs { result.legs ≡ legs }
+    ensures none { result.turns ≡ 0 }
+{
+    Counting {
+        legs,
+        taken: 0,
+        turns: 0,
+        moments: [0; 3],
+        first: 0,
+    }
+}
+
+// What this mixer counted of turns that ended so.
+fn ran_of(turned: Turned<NoMemory>, mixer: Counting) -> Ran {
+    let moments = mixer.moments;
+    Ran {
+        turned,
+        turns: mixer.turns,
+        taken: mixer.taken,
+        moments,
+        first: mixer.first,
+    }
 }
 
 // A call of one leg, which begins at this moment.
 fn run<R: Threads + Wait>(rt: &R, alloc: Global, link: MemIn, begin: u64) -> Option<Ran> {
-    let (legs, stop) = ann(alloc, link)?;
+    let Ok(stop) = Arc::new(alloc, AtomicBool::new(false)) else {
+        return None;
+    };
+    let legs = ann(alloc, link, &stop)?;
     let Ok(room) = LaneRoom::new(alloc, legs.len()) else {
         return None;
     };
@@ -200,13 +230,7 @@ fn run<R: Threads + Wait>(rt: &R, alloc: Global, link: MemIn, begin: u64) -> Opt
         ports.destroy_empty();
         return None;
     };
-    let mut mixer = Counting {
-        legs: legs.len(),
-        taken: 0,
-        turns: 0,
-        moments: [0; 3],
-        first: 0,
-    };
+    let mut mixer = new_mixer(legs.len());
     let mut world = MemLinks::new(alloc);
     world.pause_until(begin);
     let Started {
@@ -217,13 +241,7 @@ fn run<R: Threads + Wait>(rt: &R, alloc: Global, link: MemIn, begin: u64) -> Opt
     let turned = turn_and_drain(rt, ports.as_mut_slice(), &mut mixer, &mut world, &stop);
     let lanes = inlets_of(ports, back);
     let _legs = join_lanes(rt, lanes, joined);
-    Some(Ran {
-        turned,
-        turns: mixer.turns,
-        taken: mixer.taken,
-        moments: mixer.moments,
-        first: mixer.first,
-    })
+    Some(ran_of(turned, mixer))
 }
 
 // A call of one leg, whose link gives so many texts and is closed, or is quiet behind them.
@@ -304,5 +322,95 @@ fn what_comes_behind_a_silence_is_offered_before_the_turn(rt: HostRuntime) -> Re
         return Err(NoMemory)?;
     };
     assert!(rt; ran.first == 1);
+    Ok(())
+}
+
+// Puts the only one of a list behind these, where there is room for it.
+fn put_behind<T>(only: Vec<T>, all: &mut Vec<T>)
+    requires one { vec_len only ≡ 1 }
+    requires room { vec_len all.old < vec_capacity all.old }
+    ensures behind { vec_len all.new ≡ suc (vec_len all.old) }
+    ensures room { vec_capacity all.new ≡ vec_capacity all.old }
+{
+    let mut only = only;
+    let Some(one) = only.pop() else {
+        unreachable!()
+    };
+    only.destroy_empty();
+    all.push_reserved(one);
+}
+
+// Starts a leg that is alone, on a thread of so many octets of stack.
+fn start_alone<'s, 'e, R: Abort + Wait + Sync>(
+    scope: &'s Scope<'s, &'e ()>,
+    rt: &'s R,
+    alloc: Global,
+    stack: usize,
+    legs: Vec<LinkLeg<MemIn>>,
+) -> Vec<AnnLane>
+    requires new { AreNew (LegGave ⟦<MemIn as LinkIn>⟧) legs.items }
+    requires one { vec_len legs ≡ 1 }
+    ensures { vec_len result ≡ 1 }
+{
+    let room = LaneRoom::new(alloc, 1).expect(rt, "room for a lane");
+    let Started { lanes, back: _ } = start_lanes(scope, rt, StillGate, stack, legs, room);
+    lanes
+}
+
+// A call of two legs, whose threads have so many octets of stack each.
+fn run_two_in<'s, 'e, R: Abort + Threads + Wait + Sync>(
+    scope: &'s Scope<'s, &'e ()>,
+    rt: &'s R,
+    alloc: Global,
+    links: (MemIn, MemIn),
+    stacks: (usize, usize),
+) -> Ran {
+    let stop = Arc::new(alloc, AtomicBool::new(false)).expect(rt, "a stop word");
+    let first = ann(alloc, links.0, &stop).expect(rt, "the first leg");
+    let second = ann(alloc, links.1, &stop).expect(rt, "the second leg");
+    let mut lanes = Vec::with_capacity(alloc, 2).expect(rt, "room for lanes");
+    let ports = Vec::with_capacity(alloc, 2).expect(rt, "room for ports");
+    let inlets = Vec::with_capacity(alloc, 2).expect(rt, "room for inlets");
+    let back = Vec::with_capacity(alloc, 2).expect(rt, "room for legs");
+    let mut mixer = new_mixer(2);
+    let mut world = MemLinks::new(alloc);
+    world.pause_until(30);
+    let first = start_alone(scope, rt, alloc, stacks.0, first);
+    let second = start_alone(scope, rt, alloc, stacks.1, second);
+    put_behind(first, &mut lanes);
+    put_behind(second, &mut lanes);
+    let mut ports = ports_over(lanes, ports);
+    let turned = turn_and_drain(rt, ports.as_mut_slice(), &mut mixer, &mut world, &stop);
+    let lanes = inlets_of(ports, inlets);
+    let _legs = join_lanes(rt, lanes, back);
+    ran_of(turned, mixer)
+}
+
+// Enough octets of stack for a leg's thread, and more than a thread can have.
+const STACK: usize = 2_097_152;
+
+const REFUSED: usize = usize::MAX;
+
+// The same, at whose first link 20 texts come before it is closed, and at the second a text behind a silence.
+fn run_two<R: Abort + Threads + Wait + Sync>(
+    rt: &R,
+    alloc: Global,
+    stacks: (usize, usize),
+) -> Result<Ran, NoMemory> {
+    let first = link(alloc, 20, true)?;
+    let second = link_behind_a_silence(alloc)?;
+    Ok(thread::scope(thread::scope_env(), rt, |scope| -> Ran {
+        run_two_in(scope, rt, alloc, (first, second), stacks)
+    }))
+}
+
+#[test]
+fn a_call_is_the_same_whichever_leg_has_a_thread(rt: HostRuntime) -> Result<(), Fail> {
+    let ran = run_two(&rt, rt.alloc(), (STACK, STACK))?;
+    assert!(rt; ran.turned == Turned::Done);
+    assert!(rt; ran.first == 21);
+    assert!(rt; run_two(&rt, rt.alloc(), (STACK, REFUSED))? == ran);
+    assert!(rt; run_two(&rt, rt.alloc(), (REFUSED, STACK))? == ran);
+    assert!(rt; run_two(&rt, rt.alloc(), (REFUSED, REFUSED))? == ran);
     Ok(())
 }
