@@ -1,0 +1,5 @@
+pub mod Pieces
+pub mod Rooms
+pub mod PieceHeadline
+pub mod Mixing
+pub mod Laws
