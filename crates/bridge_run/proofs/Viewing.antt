@@ -24,9 +24,9 @@ use Rattle.terminal.specs.declared.confs.TermConf.{TermConf}
 use Rattle.terminal.specs.declared.terminals.Terminal.{Terminal}
 use Rattle.terminal.specs.declared.views.View.{View}
 use Rattle.terminal.specs.Terminals.{counts_of, reception, texts_of, IsTextOf, Heard}
-use Rattle.terminal.specs.Told.{AppendsSeen}
 use Rattle.mixer_posts.proofs.LegLines.{legs_more}
 use Rattle.bridge_run.specs.declared.views.Seen.{Seen}
+use Rattle.bridge_run.specs.Shown.{AddsView}
 use Rattle.bridge_run.specs.Viewed.{Adds, AddsCounts, AddsSeen, HasFew, IsSeenAs, IsSeenBetween, counts_from, first_legs, joined, marks_of, markers_from, marks_below, packets_below, summed, terminal_conf, used_below, view_from, views_below}
 
 -- which element is meant makes no difference within
@@ -52,7 +52,7 @@ ssrcs_are [] = refl
 ssrcs_are (l ∷ ls) = ap (λ (xs : List ℕ). l.ssrc ∷ xs) (ssrcs_are ls)
 
 -- pieces, and one behind them
-piece_more : (old new : List (List ℕ)) (piece : List ℕ) → new ≡ old ++ piece ∷ [] → concat new ≡ concat old ++ piece
+pub piece_more : (old new : List (List ℕ)) (piece : List ℕ) → new ≡ old ++ piece ∷ [] → concat new ≡ concat old ++ piece
 piece_more old new piece e = ap concat e ∙ (concat-append old (piece ∷ []) ∙ ap (λ (xs : List ℕ). concat old ++ xs) (append-nil piece))
 
 -- ---- one terminal
@@ -102,15 +102,15 @@ module _ (t : Terminal) (q : TermConf) (sources : List ℕ) (items : List Item) 
           omega (arith, here, rest, sum_by-cons (λ (text : SourceText). text.marks) t ts, sum_by-cons (markers_at (reception q) items) s ss)
 
 -- what a view shows of a terminal is added, and then its numbers
-pub seen_as : (c : Conf) (own : ℕ) (leg : LegLine) (records : List (ℕ × List ℕ)) (t : Terminal) (q : TermConf) (sources : List ℕ) (view : View) (none piece : List ℕ) (old shown new : Seen)
-    → q ≡ terminal_conf c leg → Heard t q sources (came c.plan own records) → none ≡ [] → AppendsSeen t view none piece → shown.views.items ≡ old.views.items ++ piece ∷ []
+pub seen_as : (c : Conf) (own : ℕ) (leg : LegLine) (records : List (ℕ × List ℕ)) (t : Terminal) (q : TermConf) (sources : List ℕ) (view : View) (old shown new : Seen)
+    → q ≡ terminal_conf c leg → Heard t q sources (came c.plan own records) → AddsView t view old.views.items shown.views.items
     → shown.packets ≡ old.packets → shown.used ≡ old.used → shown.marks ≡ old.marks → AddsCounts t shown new → IsSeenAs c own leg sources view records old new
-seen_as c own leg records t q sources view none piece old shown new e h n s pushed packets used marks a = record {
+seen_as c own leg records t q sources view old shown new e h s packets used marks a = record {
   terminal = t;
   heard = subst (λ (r : TermConf). Heard t r sources (came c.plan own records)) e h;
-  shown = piece;
-  is_shown = subst (λ (before : List ℕ). AppendsSeen t view before piece) n s;
-  views = ap (λ (v : Vec (List ℕ)). concat v.items) a.views ∙ piece_more old.views.items shown.views.items piece pushed;
+  shown = s.shown;
+  is_shown = s.is_shown;
+  views = ap (λ (v : Vec (List ℕ)). concat v.items) a.views ∙ s.added;
   packets = omega (arith, a.packets, packets);
   used = omega (arith, a.used, used);
   marks = omega (arith, a.marks, marks);

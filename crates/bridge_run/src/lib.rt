@@ -1,17 +1,21 @@
 //! Mixes a conference over recordings: what is sent to each terminal, and what is seen there.
 #![tactic(auto)]
 
+mod known_lines;
 mod legs;
 mod loggers;
 mod logs;
 mod mixed;
 mod mixing;
 mod parts;
+mod pieces;
+mod showing;
 mod views;
 
 pub use legs::leg_over;
 pub use mixed::{MixFault, Mixed};
 pub use mixing::{Answered, input_limit, mix, mix_held, mix_opened};
+pub use pieces::Piece;
 pub use views::{Seen, views_of};
 
 #[cfg(test)]

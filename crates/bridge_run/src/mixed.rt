@@ -1,13 +1,13 @@
 //! What a mixing makes, and why it may make nothing.
+use crate::pieces::Piece;
 use rtpdump_io::DumpFault;
-use rtt_base::Bytes;
 use sent_files::SentFiles;
 
 /// What a mixing makes. The numbers are sums over all terminals.
 #[derive(Drop)]
 pub struct Mixed {
-    /// What is seen at the terminals, in leg order, one view behind the other.
-    pub views: Vec<Bytes>,
+    /// What is seen at the terminals, in leg order, one view behind the other, each in one piece or more.
+    pub views: Vec<Piece>,
     /// What was sent to each terminal, in leg order, ready to be written.
     pub outs: SentFiles,
     /// How many packets came.

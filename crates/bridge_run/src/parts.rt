@@ -7,9 +7,11 @@ ghost use Rattle.bridge_run.specs.Viewed.{AddsSeen, ArePartsOf, AreOf, AreSumsOf
 ghost use Rattle.bridge_run.specs.declared.parts.TheConstants.{MOST_PARTS};
 ghost use Rattle.file_spec.specs.declared.limits.TheConstants.{MOST_LEGS};
 
+use crate::known_lines::{KnownLines, lines_on_threads};
+use crate::pieces::Piece;
 use crate::views::{Seen, nothing_seen, views_between, views_of};
 use conference::Conf;
-use rtt_base::{Bytes, NoMemory};
+use rtt_base::NoMemory;
 use sent_log::SentLog;
 use std::alloc::Global;
 use std::thread;
@@ -54,6 +56,7 @@ fn part_of(
     alloc: Global,
     conf: &Conf,
     log: &SentLog,
+    known: &[KnownLines],
     size: usize,
     number: usize,
 ) -> Result<Seen, NoMemory>
@@ -65,7 +68,7 @@ fn part_of(
 {
     let from = begin_of(number, size, log.terminals());
     let to = begin_of(number + 1, size, log.terminals());
-    views_between(alloc, conf, log, from, to)
+    views_between(alloc, conf, log, known, from, to)
 }
 
 /// What is seen at the terminals of each part.
@@ -74,6 +77,7 @@ fn parts_of<R: Threads + Sync>(
     alloc: Global,
     conf: &Conf,
     log: &SentLog,
+    known: &[KnownLines],
     size: usize,
 ) -> Result<Vec<Result<Seen, NoMemory>>, NoMemory>
     requires each { length log.now ≡ length conf.now.legs }
@@ -86,7 +90,7 @@ fn parts_of<R: Threads + Sync>(
         rt,
         alloc,
         MOST_PARTS,
-        &|number| { part_of(alloc, conf, log, size, number) },
+        &|number| { part_of(alloc, conf, log, known, size, number) },
     ) {
         Ok(parts) => Ok(parts),
         Err(_) => Err(NoMemory),
@@ -94,7 +98,7 @@ fn parts_of<R: Threads + Sync>(
 }
 
 /// Puts these pieces behind others.
-fn add_pieces(pieces: Vec<Bytes>, all: &mut Vec<Bytes>) -> Result<(), NoMemory>
+fn add_pieces(pieces: Vec<Piece>, all: &mut Vec<Piece>) -> Result<(), NoMemory>
     ensures { OnOk result (all.new.items ≡ all.old.items ++ pieces.items) }
 {
     for piece in pieces {
@@ -139,7 +143,8 @@ pub(crate) fn views_on_threads<R: Threads + Sync>(
         return views_of(alloc, conf, log);
     }
     let size = part_size(log.terminals());
-    let parts = parts_of(rt, alloc, conf, log, size)?;
+    let known = lines_on_threads(rt, alloc, conf, log)?;
+    let parts = parts_of(rt, alloc, conf, log, &known, size)?;
     let mut total = nothing_seen(alloc);
     for part in parts {
         let seen = part?;

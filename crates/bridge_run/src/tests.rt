@@ -1,4 +1,4 @@
-use crate::{Mixed, mix};
+use crate::{Mixed, Piece, mix};
 use conf_text::read_conf;
 use conference::Conf;
 use file_spec::Form;
@@ -191,7 +191,7 @@ fn mixed<R: Threads + Wait + Sync, G: Gate + Sync>(
     }
 }
 
-fn are_same(views: &[Bytes], others: &[Bytes]) -> bool {
+fn are_same(views: &[Piece], others: &[Piece]) -> bool {
     match (views, others) {
         ([a, views @ ..], [b, others @ ..]) => {
             a.as_slice() == b.as_slice() && are_same(views, others)

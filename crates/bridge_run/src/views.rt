@@ -9,17 +9,20 @@ ghost use Rattle.terminal.specs.Views.{Fits};
 ghost use Rattle.file_spec.specs.declared.limits.TheConstants.{MOST_LEGS};
 ghost use Rattle.rtt_base.specs.declared.limits.TheConstants.{MOST_SOURCES};
 
+use crate::known_lines::KnownLines;
+use crate::pieces::Piece;
+use crate::showing::add_shown;
 use conference::{Conf, LegLine, others};
 use played::played;
-use rtt_base::{Bytes, NoMemory};
+use rtt_base::NoMemory;
 use sent_log::SentLog;
 use std::alloc::Global;
 use terminal::{TermConf, Terminal, View};
 
-/// What is seen at terminals, in leg order, one view behind the other. The numbers are sums over them.
+/// What is seen at terminals, in leg order, one view behind the other, each in one piece or more. The numbers are sums over them.
 #[derive(Drop)]
 pub struct Seen {
-    pub views: Vec<Bytes>,
+    pub views: Vec<Piece>,
     /// How many packets came.
     pub packets: u64,
     /// How many of them were used.
@@ -72,6 +75,7 @@ fn add_seen(
     sources: &[u32],
     view: View<'_>,
     log: &SentLog,
+    known: &[KnownLines],
     seen: &mut Seen,
 ) -> Result<(), NoMemory>
     requires own { own < length conf.now.legs }
@@ -95,9 +99,7 @@ fn add_seen(
         own,
         conf.plan.as_slice(),
     )?;
-    let mut octets = Bytes::new(alloc);
-    terminal.append_view(alloc, view, &mut octets)?;
-    seen.views.push(octets)?;
+    add_shown(alloc, &terminal, view, known, &mut seen.views)?;
     count(&terminal, seen);
     Ok(())
 }
@@ -108,6 +110,7 @@ fn add_view(
     conf: &Conf,
     own: usize,
     log: &SentLog,
+    known: &[KnownLines],
     seen: &mut Seen,
 ) -> Result<(), NoMemory>
     requires own { own < length conf.now.legs }
@@ -127,10 +130,10 @@ fn add_view(
             name: &leg.name,
             names,
         };
-        return add_seen(alloc, conf, own, sources, view, log, seen);
+        return add_seen(alloc, conf, own, sources, view, log, known, seen);
     }
     let view = View::Unaware { name: &leg.name };
-    add_seen(alloc, conf, own, &[conf.mixer.ssrc], view, log, seen)
+    add_seen(alloc, conf, own, &[conf.mixer.ssrc], view, log, known, seen)
 }
 
 /// Of no terminal.
@@ -153,6 +156,7 @@ pub(crate) fn views_between(
     alloc: Global,
     conf: &Conf,
     log: &SentLog,
+    known: &[KnownLines],
     from: usize,
     to: usize,
 ) -> Result<Seen, NoMemory>
@@ -165,7 +169,7 @@ pub(crate) fn views_between(
 {
     let mut seen = nothing_seen(alloc);
     for own in from..to {
-        add_view(alloc, conf, own, log, &mut seen)?;
+        add_view(alloc, conf, own, log, known, &mut seen)?;
     }
     Ok(seen)
 }
@@ -177,5 +181,5 @@ pub fn views_of(alloc: Global, conf: &Conf, log: &SentLog) -> Result<Seen, NoMem
     ensures views { IfOk result (λ seen. AreViewsOf (conf_of conf.now) (recordings_of log.now) (joined seen)) }
     ensures sums { IfOk result (λ seen. AreSumsOf (conf_of conf.now) (recordings_of log.now) (summed seen)) }
 {
-    views_between(alloc, conf, log, 0, log.terminals())
+    views_between(alloc, conf, log, &[], 0, log.terminals())
 }

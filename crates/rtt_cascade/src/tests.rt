@@ -1,4 +1,5 @@
 use crate::{CascadeFault, cascade};
+use bridge_run::Piece;
 use conf_text::read_conf;
 use conference::Conf;
 use file_spec::Form;
@@ -71,7 +72,7 @@ fn conf_of(alloc: Global) -> Result<Conf, NoMemory> {
 }
 
 // All views, one behind the other.
-fn joined(alloc: Global, views: &[Bytes]) -> Result<Bytes, NoMemory> {
+fn joined(alloc: Global, views: &[Piece]) -> Result<Bytes, NoMemory> {
     let mut all = Bytes::new(alloc);
     for view in views {
         all.append(view.as_slice())?;

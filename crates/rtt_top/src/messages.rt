@@ -10,6 +10,7 @@ ghost use Rattle.rtt_top.specs.Sinks.{Wrote, WrotePartly, TookFront, TookIfCalm,
 
 use crate::names::ending_name;
 use crate::told::write_name;
+use bridge_run::Piece;
 use command_spec::{Fault, Refusal, dump_kind_name};
 use file_spec::ConfKind;
 use frame_spec::FrameKind;
@@ -239,6 +240,32 @@ pub(crate) fn print_all<K: Sink>(pieces: &[Bytes], out: &mut K) -> Result<(), Fa
     ensures partly { WrotePartly K.Sink out.old out.new (concat pieces.now) result }
 {
     match write_pieces(out, pieces) {
+        Ok(()) => Ok(()),
+        Err(Failed) => Err(Fault::CannotPrint),
+    }
+}
+
+/// Writes pieces that several may hold, one behind the other.
+fn write_views<K: Sink>(out: &mut K, pieces: &[Piece]) -> Result<(), Failed>
+    ensures never_falls { K.faults out.old ≤ K.faults out.new }
+    ensures failed { OnErr result (Rose (K.faults out.old) (K.faults out.new)) }
+    ensures written { Wrote K.Sink out.old out.new (concat pieces.now) result }
+    ensures partly { WrotePartly K.Sink out.old out.new (concat pieces.now) result }
+{
+    for piece in pieces {
+        out.write_all(piece.as_slice())?;
+    }
+    Ok(())
+}
+
+/// Prints what is seen of a conference, piece by piece.
+pub(crate) fn print_views<K: Sink>(pieces: &[Piece], out: &mut K) -> Result<(), Fault>
+    ensures fault { IfErr result (λ fault. fault ≡ Fault.CannotPrint) }
+    ensures cause { OnErr result (Rose (K.faults out.old) (K.faults out.new)) }
+    ensures printed { Wrote K.Sink out.old out.new (concat pieces.now) result }
+    ensures partly { WrotePartly K.Sink out.old out.new (concat pieces.now) result }
+{
+    match write_views(out, pieces) {
         Ok(()) => Ok(()),
         Err(Failed) => Err(Fault::CannotPrint),
     }

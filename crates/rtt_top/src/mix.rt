@@ -8,8 +8,8 @@ ghost use Rattle.rtt_top.specs.Worlds.{SavesEach, IsUnwrittenIn};
 ghost use Rattle.file_spec.specs.declared.limits.TheConstants.{MOST_LEGS};
 
 use crate::files::{fault_of_dump, save_recording};
-use crate::messages::print_all;
-use bridge_run::{MixFault, Mixed, mix};
+use crate::messages::print_views;
+use bridge_run::{MixFault, Mixed, Piece, mix};
 use command_spec::{Fault, Refusal};
 use conference::{Conf, LegLine};
 use rtt_attend::count_inputs;
@@ -77,19 +77,18 @@ pub(crate) fn make_outputs<W: World, K: Sink>(
     if saved.is_err() {
         return saved;
     }
-    print_all(mixed.views.as_slice(), out)
+    print_views(mixed.views.as_slice(), out)
 }
 
 /// A mixing with these lines behind its views.
-fn with_lines(mixed: Mixed, lines: Bytes) -> Result<Mixed, NoMemory>
+fn with_lines(alloc: Global, mixed: Mixed, lines: Bytes) -> Result<Mixed, NoMemory>
     ensures views { IfOk result (λ more. more.views.items ≡ mixed.views.items ++ lines ∷ []) }
     ensures outs { IfOk result (λ more. more.outs ≡ mixed.outs) }
 {
     let mut more = mixed;
-    match more.views.push(lines) {
-        Ok(()) => Ok(more),
-        Err(_) => Err(NoMemory),
-    }
+    let lines = Piece::new(alloc, lines)?;
+    more.views.push(lines)?;
+    Ok(more)
 }
 
 /// Mixes a conference, writes its outputs, and prints what is seen, and behind it these lines.
@@ -108,7 +107,7 @@ fn mix_with<R: Threads + Wait + Sync, W: World, K: Sink, G: Gate + Sync>(
         Ok(mixed) => mixed,
         Err(fault) => return Err(fault_of_mixing(conf.turns, fault)),
     };
-    let more = match with_lines(mixed, lines) {
+    let more = match with_lines(alloc, mixed, lines) {
         Ok(more) => more,
         Err(NoMemory) => return Err(Fault::NoMemory),
     };

@@ -13,8 +13,8 @@ use Rattle.bridge_run.proofs.Recorded.{read_recording}
 use Rattle.bridge_run.proofs.Viewing.{leg_read, has_few, seen_as}
 use Rattle.bridge_run.proofs.views.add_seen.Goals as goal
 
-pub append_view-requires-clause-finished : goal.append_view-requires-clause-finished
-append_view-requires-clause-finished c = λ whole.
+pub add_shown-requires-clause-finished : goal.add_shown-requires-clause-finished
+add_shown-requires-clause-finished c = λ whole.
     let x = found_at c.args.log.now c.args.own (omega (arith, c.requires.own, c.requires.each)) in (
       c.conf_at.result,
       c.args.sources.now,
@@ -22,8 +22,8 @@ append_view-requires-clause-finished c = λ whole.
       c.in_ok-terminal.ensures.heard x.0 x.1 (records_of x.0.conf x.0.sent) (c.requires.sent x.0 x.1).written,
     )
 
-pub append_view-requires-clause-fits : goal.append_view-requires-clause-fits
-append_view-requires-clause-fits c = λ whole.
+pub add_shown-requires-clause-fits : goal.add_shown-requires-clause-fits
+add_shown-requires-clause-fits c = λ whole.
     let x = found_at c.args.log.now c.args.own (omega (arith, c.requires.own, c.requires.each)) in
     let heard = c.in_ok-terminal.ensures.heard x.0 x.1 (records_of x.0.conf x.0.sent) (c.requires.sent x.0 x.1).written in
     subst (λ n. Fits c.args.view n) (sym heard.each) c.requires.fits
@@ -48,8 +48,8 @@ returns-clause-adds c = λ records d w.
     let written = subst (λ (octets : List ℕ). IsWrittenOf octets records) (read_recording c.args.log.now own x.0 x.1) w in
     let heard = subst (λ (ps : List PlanLine). Heard c.in_ok-terminal.terminal c.conf_at.result sources (came ps own records)) c.as_slice-2.ensures (c.in_ok-terminal.ensures.heard x.0 x.1 records written) in
     subst (λ (l : LegLine). IsSeenAs conf own l sources c.args.view records c.args.seen.now c.count.new.seen) same
-    (seen_as conf own leg records c.in_ok-terminal.terminal c.conf_at.result sources c.args.view c.new-octets.result c.append_view.new.out c.args.seen.now (record c.args.seen.now { views = c.push.new.self }) c.count.new.seen
-    c.conf_at.ensures heard c.new-octets.ensures c.in_ok-append_view.ensures.seen c.in_ok-push.ensures.items refl refl refl c.count.ensures.adds)
+    (seen_as conf own leg records c.in_ok-terminal.terminal c.conf_at.result sources c.args.view c.args.seen.now (record c.args.seen.now { views = c.add_shown.new.pieces }) c.count.new.seen
+    c.conf_at.ensures heard c.in_ok-add_shown.ensures refl refl refl c.count.ensures.adds)
 
 pub returns-clause-with_it : goal.returns-clause-with_it
 returns-clause-with_it c =

@@ -18,14 +18,14 @@ returns-then-is_err g c = λ command name names m.
 pub returns : goal.returns
 returns g c = λ command name names m.
     let old = outside_at g.W.World g.K.Sink c.args.world.now c.args.out.now in
-    let new = outside_at g.W.World g.K.Sink c.save_outputs-saved.new.world c.print_all.new.out in
+    let new = outside_at g.W.World g.K.Sink c.save_outputs-saved.new.world c.print_views.new.out in
     let legs = c.args.legs.now in
     let printed = concat c.args.mixed.views.items in
     let recordings = recordings_of c.args.mixed.outs in
     let stored : g.W.World.tells → AllStored (outputs_of legs recordings) old.contents new.contents = λ told.
     saved c.save_outputs-saved.result (AllStored (outputs_of legs recordings) old.contents new.contents)
     (sym c.is_err.ensures.value ∙ c.if-is_err.false) (c.save_outputs-saved.ensures.saved told) in
-    printed_outputs g.W.World.tells g.K.Sink.tells old new command name legs printed recordings c.print_all.result m stored
-    c.print_all.ensures.fault c.print_all.ensures.cause
-    (subst (λ views. g.K.Sink.tells → OnOk c.print_all.result (g.K.Sink.took c.print_all.new.out ≡ g.K.Sink.took c.args.out.now ++ concat views)) c.as_slice.ensures.value c.print_all.ensures.printed)
-    (subst (λ views. g.K.Sink.tells → OnErr c.print_all.result ((n : ℕ) × (g.K.Sink.took c.print_all.new.out ≡ g.K.Sink.took c.args.out.now ++ take n (concat views)))) c.as_slice.ensures.value c.print_all.ensures.partly)
+    printed_outputs g.W.World.tells g.K.Sink.tells old new command name legs printed recordings c.print_views.result m stored
+    c.print_views.ensures.fault c.print_views.ensures.cause
+    (subst (λ views. g.K.Sink.tells → OnOk c.print_views.result (g.K.Sink.took c.print_views.new.out ≡ g.K.Sink.took c.args.out.now ++ concat views)) c.as_slice.ensures.value c.print_views.ensures.printed)
+    (subst (λ views. g.K.Sink.tells → OnErr c.print_views.result ((n : ℕ) × (g.K.Sink.took c.print_views.new.out ≡ g.K.Sink.took c.args.out.now ++ take n (concat views)))) c.as_slice.ensures.value c.print_views.ensures.partly)
