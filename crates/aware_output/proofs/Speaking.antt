@@ -15,12 +15,12 @@ use Rattle.red_window.specs.Kept.{blocks_kept}
 use Rattle.red_window.specs.Standing.{MayFollow}
 use Rattle.red_window.specs.Standing as window
 use Rattle.red_window.proofs.Repeating.{last_or_more, repeats_are}
-use Rattle.aware_output.specs.declared.outputs.OutConf.{OutConf}
+use Rattle.aware_output.specs.declared.outputs.PacketizerSettings.{PacketizerSettings}
 use Rattle.aware_output.specs.declared.speakers.Speaker.{Speaker}
-use Rattle.aware_output.specs.Confs.{IsConf, stream_of}
+use Rattle.aware_output.specs.Settings.{AreSettings, stream_of}
 use Rattle.aware_output.specs.Speakers.{AreDistinct, IsNext, EachIsNext, anew, speaker_at}
 use Rattle.aware_output.specs.States.{State}
-use Rattle.aware_output.specs.Standing.{StandsFor, speaker_of, source_at}
+use Rattle.aware_output.specs.Standing.{PacketizerStandsFor, speaker_of, source_at}
 use Rattle.rtt_base.specs.declared.limits.TheConstants.{MOST_PACKET_OCTETS}
 use Rattle.stream_spec.proofs.Typing.{take_more, text_in, steps, fits_offset}
 
@@ -38,14 +38,14 @@ link_of : (g media : ℕ) (zs : List Sent) → (has_text_in g zs ≡ true → If
 link_of g media [] f = tt
 link_of g media (z ∷ zs) f = f
 
-chain_of : (c : Stream) (past : List Sent) (s : ℕ) → EachIsNext c past → Chain c.gens (sent_of s past)
+chain_of : (c : Stream) (past : List Sent) (s : ℕ) → EachIsNext c past → Chain c.generations (sent_of s past)
 chain_of c [] s p = tt
 chain_of c (e ∷ past) s p = go (e.source == s) refl (chain_of c past s p.1)
   where
-    go : (b : Bool) → (e.source == s) ≡ b → Chain c.gens (sent_of s past) → Chain c.gens (cond b (e ∷ sent_of s past) (sent_of s past))
+    go : (b : Bool) → (e.source == s) ≡ b → Chain c.generations (sent_of s past) → Chain c.generations (cond b (e ∷ sent_of s past) (sent_of s past))
     go true q r =
         let same : e.source ≡ s = grind (arith, nat_tests) in
-        (subst (λ (n : ℕ). Link c.gens e.media (sent_of n past)) same (link_of c.gens e.media (sent_of e.source past) p.0.near), r)
+        (subst (λ (n : ℕ). Link c.generations e.media (sent_of n past)) same (link_of c.generations e.media (sent_of e.source past) p.0.near), r)
     go false q r = r
 
 -- each of the last k with text lies at most k steps before
@@ -59,14 +59,14 @@ within_steps g (suc k) media (z ∷ zs) l n p x i h =
       | inr j ↦ let r = within_steps g k z.media zs (omega arith) p.0 p.1 x j h in omega (arith, near, r)
     ]
 
-pub may_send : (c : Stream) (past : List Sent) (e : Sent) → c.gens ≤ 3 → EachIsNext c past → IsNext c past e → MaySend c past e
+pub may_send : (c : Stream) (past : List Sent) (e : Sent) → c.generations ≤ 3 → EachIsNext c past → IsNext c past e → MaySend c past e
 may_send c past e l p n = record {
   later = n.later;
-  near = λ x i h. let r = within_steps c.gens c.gens e.media (sent_of e.source past) (omega arith) (link_of c.gens e.media (sent_of e.source past) n.near) (chain_of c past e.source p) x i h in omega (arith, r, fits_offset c.gens l);
+  near = λ x i h. let r = within_steps c.generations c.generations e.media (sent_of e.source past) (omega arith) (link_of c.generations e.media (sent_of e.source past) n.near) (chain_of c past e.source p) x i h in omega (arith, r, fits_offset c.generations l);
   text = n.text;
 }
 
-pub sendable : (c : Stream) (past : List Sent) → c.gens ≤ 3 → EachIsNext c past → Sendable c past
+pub sendable : (c : Stream) (past : List Sent) → c.generations ≤ 3 → EachIsNext c past → Sendable c past
 sendable c [] l p = tt
 sendable c (e ∷ past) l p = (may_send c past e l p.1 p.0, sendable c past l p.1)
 
@@ -82,9 +82,9 @@ pub has_room : {T E : Type 0} (greatest : Option ℕ) (before after octets : Lis
 has_room None before after octets r few a = tt
 has_room (Some most) before after octets r few a = λ l. a.room.1 (omega (arith, few, l))
 
-may_follow : (c : Stream) (past : List Sent) (e : Sent) → MaySend c past e → MayFollow c.gens e.media (sent_of e.source past)
+may_follow : (c : Stream) (past : List Sent) (e : Sent) → MaySend c past e → MayFollow c.generations e.media (sent_of e.source past)
 may_follow c past e m = record {
-  later = λ x i. m.later x (in_sent_of e.source past x (take_in c.gens (sent_of e.source past) x i)).0;
+  later = λ x i. m.later x (in_sent_of e.source past x (take_in c.generations (sent_of e.source past) x i)).0;
   near = m.near;
 }
 
@@ -96,26 +96,26 @@ pause_is g zs due spoke result d s r = r ∙ (both due spoke ∙ (ap (λ b. not 
     both false b = refl
 
 same_packet : (m m' : Bool) (s s' t t' c c' o o' : ℕ) (bs bs' : List TextBlock) (x : List ℕ) → m ≡ m' → s ≡ s' → t ≡ t' → c ≡ c' → o ≡ o' → bs ≡ bs'
-    → (let p : Packet = record { mark = m; seq = s; stamp = t; ssrc = c; source = o; older = bs; primary = x } in p) ≡ record { mark = m'; seq = s'; stamp = t'; ssrc = c'; source = o'; older = bs'; primary = x }
+    → (let p : Packet = record { marker_bit = m; seq = s; timestamp = t; ssrc = c; source = o; older = bs; primary = x } in p) ≡ record { marker_bit = m'; seq = s'; timestamp = t'; ssrc = c'; source = o'; older = bs'; primary = x }
 same_packet m m' s s' t t' c c' o o' bs bs' x a b d e f g = rw (a, b, d, e, f, g) refl
 
 -- the packet of what is written is that of the text
-pub packet_is : (conf given : OutConf) (past : List Sent) (e : Sent) (speaker : Speaker) (mark : Bool) (seq stamp : ℕ) → IsConf conf → given ≡ conf → EachIsNext (stream_of conf) past → IsNext (stream_of conf) past e
-    → speaker ≡ speaker_of conf past e.source → mark ≡ not (has_text_in (max 1 conf.gens) (sent_of e.source past)) → seq ≡ (conf.seq + length past) % 65536 → stamp ≡ (conf.stamp + e.media) % 2 ^ 32
-    → packet_written given.pts (record { mark = mark; seq = seq; stamp = stamp; ssrc = given.ssrc; source = speaker.source; older = blocks_kept stamp speaker.window; primary = e.text })
-    ≡ packet_written conf.pts (packet_after (stream_of conf) past e)
-packet_is conf given past e speaker mark seq stamp k q p n w m s t =
-    let a = packet_after (stream_of conf) past e in
-    let kept : window.StandsFor conf.gens conf.stamp speaker.window (sent_of e.source past) = record { last = ap (λ (x : Speaker). x.window) w } in
-    let older = repeats_are conf.gens conf.stamp e.media stamp speaker.window (sent_of e.source past) kept t (may_follow (stream_of conf) past e (may_send (stream_of conf) past e k.gens p n)) in
-    let same = same_packet mark a.mark seq a.seq stamp a.stamp given.ssrc conf.ssrc speaker.source e.source (blocks_kept stamp speaker.window) a.older e.text m s t (ap (λ (x : OutConf). x.ssrc) q) (ap (λ (x : Speaker). x.source) w) older in
-    ap (packet_written given.pts) same ∙ ap (λ (x : OutConf). packet_written x.pts a) q
+pub packet_is : (settings given : PacketizerSettings) (past : List Sent) (e : Sent) (speaker : Speaker) (marker_bit : Bool) (seq timestamp : ℕ) → AreSettings settings → given ≡ settings → EachIsNext (stream_of settings) past → IsNext (stream_of settings) past e
+    → speaker ≡ speaker_of settings past e.source → marker_bit ≡ not (has_text_in (max 1 settings.generations) (sent_of e.source past)) → seq ≡ (settings.seq + length past) % 65536 → timestamp ≡ (settings.timestamp + e.media) % 2 ^ 32
+    → packet_written given.payload_types (record { marker_bit = marker_bit; seq = seq; timestamp = timestamp; ssrc = given.ssrc; source = speaker.source; older = blocks_kept timestamp speaker.window; primary = e.text })
+    ≡ packet_written settings.payload_types (packet_after (stream_of settings) past e)
+packet_is settings given past e speaker marker_bit seq timestamp k q p n w m s t =
+    let a = packet_after (stream_of settings) past e in
+    let kept : window.WindowStandsFor settings.generations settings.timestamp speaker.window (sent_of e.source past) = record { last = ap (λ (x : Speaker). x.window) w } in
+    let older = repeats_are settings.generations settings.timestamp e.media timestamp speaker.window (sent_of e.source past) kept t (may_follow (stream_of settings) past e (may_send (stream_of settings) past e k.generations p n)) in
+    let same = same_packet marker_bit a.marker_bit seq a.seq timestamp a.timestamp given.ssrc settings.ssrc speaker.source e.source (blocks_kept timestamp speaker.window) a.older e.text m s t (ap (λ (x : PacketizerSettings). x.ssrc) q) (ap (λ (x : Speaker). x.source) w) older in
+    ap (packet_written given.payload_types) same ∙ ap (λ (x : PacketizerSettings). packet_written x.payload_types a) q
 
 -- ---- the sources
-pub speaker_there : (conf : OutConf) (past : List Sent) (sources : List ℕ) (i : ℕ) (d : Speaker) → i < length sources → get_or (map (speaker_of conf past) sources) i d ≡ speaker_of conf past (source_at sources i)
-speaker_there conf past [] i d l = absurd (omega arith)
-speaker_there conf past (s ∷ sources) zero d l = refl
-speaker_there conf past (s ∷ sources) (suc i) d l = speaker_there conf past sources i d (omega arith)
+pub speaker_there : (settings : PacketizerSettings) (past : List Sent) (sources : List ℕ) (i : ℕ) (d : Speaker) → i < length sources → get_or (map (speaker_of settings past) sources) i d ≡ speaker_of settings past (source_at sources i)
+speaker_there settings past [] i d l = absurd (omega arith)
+speaker_there settings past (s ∷ sources) zero d l = refl
+speaker_there settings past (s ∷ sources) (suc i) d l = speaker_there settings past sources i d (omega arith)
 
 source_in : (sources : List ℕ) (i : ℕ) → i < length sources → In (source_at sources i) sources
 source_in [] i l = absurd (omega arith)
@@ -123,85 +123,85 @@ source_in (s ∷ sources) zero l = inl refl
 source_in (s ∷ sources) (suc i) l = inr (source_in sources i (omega arith))
 
 -- nothing changes of another source
-other_stays : (conf : OutConf) (past : List Sent) (e : Sent) (t : ℕ) → (e.source ≡ t → ⊥) → speaker_of conf past t ≡ speaker_of conf (e ∷ past) t
-other_stays conf past e t n = go (e.source == t) refl
+other_stays : (settings : PacketizerSettings) (past : List Sent) (e : Sent) (t : ℕ) → (e.source ≡ t → ⊥) → speaker_of settings past t ≡ speaker_of settings (e ∷ past) t
+other_stays settings past e t n = go (e.source == t) refl
   where
-    go : (b : Bool) → (e.source == t) ≡ b → speaker_at conf.gens conf.stamp t (sent_of t past) ≡ speaker_at conf.gens conf.stamp t (cond b (e ∷ sent_of t past) (sent_of t past))
+    go : (b : Bool) → (e.source == t) ≡ b → speaker_at settings.generations settings.timestamp t (sent_of t past) ≡ speaker_at settings.generations settings.timestamp t (cond b (e ∷ sent_of t past) (sent_of t past))
     go true q = absurd (n (let same : e.source ≡ t = grind (arith, nat_tests) in same))
     go false q = refl
 
-others_stay : (conf : OutConf) (past : List Sent) (e : Sent) (sources : List ℕ) → ((t : ℕ) → In t sources → e.source ≡ t → ⊥) → map (speaker_of conf past) sources ≡ map (speaker_of conf (e ∷ past)) sources
-others_stay conf past e [] n = refl
-others_stay conf past e (t ∷ sources) n = rw (other_stays conf past e t (n t (inl refl)), others_stay conf past e sources (λ u i. n u (inr i))) refl
+others_stay : (settings : PacketizerSettings) (past : List Sent) (e : Sent) (sources : List ℕ) → ((t : ℕ) → In t sources → e.source ≡ t → ⊥) → map (speaker_of settings past) sources ≡ map (speaker_of settings (e ∷ past)) sources
+others_stay settings past e [] n = refl
+others_stay settings past e (t ∷ sources) n = rw (other_stays settings past e t (n t (inl refl)), others_stay settings past e sources (λ u i. n u (inr i))) refl
 
 -- one source has sent a text
-pub speakers_after : (conf : OutConf) (past : List Sent) (e : Sent) (sources : List ℕ) (i : ℕ) (speaker : Speaker) → AreDistinct sources → i < length sources → e.source ≡ source_at sources i
-    → speaker ≡ speaker_of conf (e ∷ past) e.source → set (map (speaker_of conf past) sources) i speaker ≡ map (speaker_of conf (e ∷ past)) sources
-speakers_after conf past e [] i speaker a l q w = absurd (omega arith)
-speakers_after conf past e (s ∷ sources) zero speaker a l q w =
-    rw (others_stay conf past e sources (λ t j r. a.0 t j (sym q ∙ r))) (ap (λ (x : Speaker). x ∷ map (speaker_of conf (e ∷ past)) sources) (w ∙ ap (speaker_of conf (e ∷ past)) q))
-speakers_after conf past e (s ∷ sources) (suc i) speaker a l q w =
+pub speakers_after : (settings : PacketizerSettings) (past : List Sent) (e : Sent) (sources : List ℕ) (i : ℕ) (speaker : Speaker) → AreDistinct sources → i < length sources → e.source ≡ source_at sources i
+    → speaker ≡ speaker_of settings (e ∷ past) e.source → set (map (speaker_of settings past) sources) i speaker ≡ map (speaker_of settings (e ∷ past)) sources
+speakers_after settings past e [] i speaker a l q w = absurd (omega arith)
+speakers_after settings past e (s ∷ sources) zero speaker a l q w =
+    rw (others_stay settings past e sources (λ t j r. a.0 t j (sym q ∙ r))) (ap (λ (x : Speaker). x ∷ map (speaker_of settings (e ∷ past)) sources) (w ∙ ap (speaker_of settings (e ∷ past)) q))
+speakers_after settings past e (s ∷ sources) (suc i) speaker a l q w =
     let there = source_in sources i (omega arith) in
-    rw (other_stays conf past e s (λ r. a.0 (source_at sources i) there (sym r ∙ q))) (ap (λ (xs : List Speaker). speaker_of conf (e ∷ past) s ∷ xs) (speakers_after conf past e sources i speaker a.1 (omega arith) q w))
+    rw (other_stays settings past e s (λ r. a.0 (source_at sources i) there (sym r ∙ q))) (ap (λ (xs : List Speaker). speaker_of settings (e ∷ past) s ∷ xs) (speakers_after settings past e sources i speaker a.1 (omega arith) q w))
 
 pub own_sent : (e : Sent) (past : List Sent) → sent_of e.source (e ∷ past) ≡ e ∷ sent_of e.source past
 own_sent e past = let same : (e.source == e.source) ≡ true = grind (arith, nat_tests) in rw same refl
 
-pub kept_after : (conf : OutConf) (sources : List ℕ) (past : List Sent) (e : Sent) (i : ℕ) (s new : State) (speaker : Speaker) → StandsFor conf sources s past → IsNext (stream_of conf) past e → i < length sources
-    → e.source ≡ source_at sources i → speaker ≡ speaker_at conf.gens conf.stamp e.source (e ∷ sent_of e.source past) → new.conf ≡ s.conf → new.seq ≡ (s.seq + 1) % 65536
-    → new.speakers ≡ set s.speakers i speaker → StandsFor conf sources new (e ∷ past)
-kept_after conf sources past e i s new speaker r n l q w c k u = record {
+pub kept_after : (settings : PacketizerSettings) (sources : List ℕ) (past : List Sent) (e : Sent) (i : ℕ) (s new : State) (speaker : Speaker) → PacketizerStandsFor settings sources s past → IsNext (stream_of settings) past e → i < length sources
+    → e.source ≡ source_at sources i → speaker ≡ speaker_at settings.generations settings.timestamp e.source (e ∷ sent_of e.source past) → new.settings ≡ s.settings → new.seq ≡ (s.seq + 1) % 65536
+    → new.speakers ≡ set s.speakers i speaker → PacketizerStandsFor settings sources new (e ∷ past)
+kept_after settings sources past e i s new speaker r n l q w c k u = record {
   sent = (n, r.sent);
   distinct = r.distinct;
-  conf_is = c ∙ r.conf_is;
-  seq = counted s.seq new.seq conf.seq (length past) r.seq k;
+  settings_is = c ∙ r.settings_is;
+  seq = counted s.seq new.seq settings.seq (length past) r.seq k;
   speakers = u ∙ (ap (λ (xs : List Speaker). set xs i speaker) r.speakers
-      ∙ speakers_after conf past e sources i speaker r.distinct l q (w ∙ ap (λ (zs : List Sent). speaker_at conf.gens conf.stamp e.source zs) (sym (own_sent e past))));
+      ∙ speakers_after settings past e sources i speaker r.distinct l q (w ∙ ap (λ (zs : List Sent). speaker_at settings.generations settings.timestamp e.source zs) (sym (own_sent e past))));
 }
   where
     counted : (old new first n : ℕ) → old ≡ (first + n) % 65536 → new ≡ (old + 1) % 65536 → new ≡ (first + suc n) % 65536
     counted old new first n p q = omega arith
 
 -- ---- within the sources
-pub map_length : (conf : OutConf) (past : List Sent) (sources : List ℕ) → length (map (speaker_of conf past) sources) ≡ length sources
-map_length conf past [] = refl
-map_length conf past (s ∷ sources) = let r = map_length conf past sources in omega (arith, r)
+pub map_length : (settings : PacketizerSettings) (past : List Sent) (sources : List ℕ) → length (map (speaker_of settings past) sources) ≡ length sources
+map_length settings past [] = refl
+map_length settings past (s ∷ sources) = let r = map_length settings past sources in omega (arith, r)
 
-pub within : (conf : OutConf) (sources : List ℕ) (s : State) (past : List Sent) (i : ℕ) → StandsFor conf sources s past → i < length s.speakers → i < length sources
-within conf sources s past i r l = omega (arith, l, ap (λ (xs : List Speaker). length xs) r.speakers, map_length conf past sources)
+pub within : (settings : PacketizerSettings) (sources : List ℕ) (s : State) (past : List Sent) (i : ℕ) → PacketizerStandsFor settings sources s past → i < length s.speakers → i < length sources
+within settings sources s past i r l = omega (arith, l, ap (λ (xs : List Speaker). length xs) r.speakers, map_length settings past sources)
 
-pub speaker_is : (conf : OutConf) (sources : List ℕ) (s : State) (past : List Sent) (i : ℕ) (x : Speaker) → StandsFor conf sources s past → i < length s.speakers → x ≡ get_or s.speakers i x
-    → x ≡ speaker_of conf past (source_at sources i)
-speaker_is conf sources s past i x r l e = e ∙ (ap (λ (xs : List Speaker). get_or xs i x) r.speakers ∙ speaker_there conf past sources i x (within conf sources s past i r l))
+pub speaker_is : (settings : PacketizerSettings) (sources : List ℕ) (s : State) (past : List Sent) (i : ℕ) (x : Speaker) → PacketizerStandsFor settings sources s past → i < length s.speakers → x ≡ get_or s.speakers i x
+    → x ≡ speaker_of settings past (source_at sources i)
+speaker_is settings sources s past i x r l e = e ∙ (ap (λ (xs : List Speaker). get_or xs i x) r.speakers ∙ speaker_there settings past sources i x (within settings sources s past i r l))
 
 -- ---- a new output
-pub new_speakers : (conf : OutConf) (sources : List ℕ) (i : ℕ) (x : Speaker) → i < length sources → x ≡ speaker_of conf [] (get_or sources i 0)
-    → map (speaker_of conf []) (take i sources) ++ x ∷ [] ≡ map (speaker_of conf []) (take (i + 1) sources)
-new_speakers conf [] i x l e = absurd (omega arith)
-new_speakers conf (s ∷ sources) zero x l e = ap (λ (y : Speaker). y ∷ []) e
-new_speakers conf (s ∷ sources) (suc i) x l e =
+pub new_speakers : (settings : PacketizerSettings) (sources : List ℕ) (i : ℕ) (x : Speaker) → i < length sources → x ≡ speaker_of settings [] (get_or sources i 0)
+    → map (speaker_of settings []) (take i sources) ++ x ∷ [] ≡ map (speaker_of settings []) (take (i + 1) sources)
+new_speakers settings [] i x l e = absurd (omega arith)
+new_speakers settings (s ∷ sources) zero x l e = ap (λ (y : Speaker). y ∷ []) e
+new_speakers settings (s ∷ sources) (suc i) x l e =
     let k : suc i + 1 ≡ suc (i + 1) = omega arith in
-    ap (λ (xs : List Speaker). speaker_of conf [] s ∷ xs) (new_speakers conf sources i x (omega arith) e) ∙ ap (λ n. map (speaker_of conf []) (take n (s ∷ sources))) (sym k)
+    ap (λ (xs : List Speaker). speaker_of settings [] s ∷ xs) (new_speakers settings sources i x (omega arith) e) ∙ ap (λ n. map (speaker_of settings []) (take n (s ∷ sources))) (sym k)
 
-pub all_taken : (conf : OutConf) (sources : List ℕ) (i : ℕ) → length sources ≤ i → map (speaker_of conf []) (take i sources) ≡ map (speaker_of conf []) sources
-all_taken conf [] zero l = refl
-all_taken conf [] (suc i) l = refl
-all_taken conf (s ∷ sources) zero l = absurd (omega arith)
-all_taken conf (s ∷ sources) (suc i) l = ap (λ (xs : List Speaker). speaker_of conf [] s ∷ xs) (all_taken conf sources i (omega arith))
+pub all_taken : (settings : PacketizerSettings) (sources : List ℕ) (i : ℕ) → length sources ≤ i → map (speaker_of settings []) (take i sources) ≡ map (speaker_of settings []) sources
+all_taken settings [] zero l = refl
+all_taken settings [] (suc i) l = refl
+all_taken settings (s ∷ sources) zero l = absurd (omega arith)
+all_taken settings (s ∷ sources) (suc i) l = ap (λ (xs : List Speaker). speaker_of settings [] s ∷ xs) (all_taken settings sources i (omega arith))
 
 -- ---- an output that has sent nothing again
-forgotten : (conf : OutConf) (past : List Sent) (sources : List ℕ) → map (anew conf.gens conf.stamp) (map (speaker_of conf past) sources) ≡ map (speaker_of conf []) sources
-forgotten conf past [] = refl
-forgotten conf past (s ∷ sources) = ap (λ (xs : List Speaker). speaker_of conf [] s ∷ xs) (forgotten conf past sources)
+forgotten : (settings : PacketizerSettings) (past : List Sent) (sources : List ℕ) → map (anew settings.generations settings.timestamp) (map (speaker_of settings past) sources) ≡ map (speaker_of settings []) sources
+forgotten settings past [] = refl
+forgotten settings past (s ∷ sources) = ap (λ (xs : List Speaker). speaker_of settings [] s ∷ xs) (forgotten settings past sources)
 
-pub restarts : (conf : OutConf) (sources : List ℕ) (s : State) (past : List Sent) (speakers : List Speaker) → StandsFor conf sources s past → s.conf.seq < 65536
-    → ((base : ℕ) → speakers ≡ map (anew s.conf.gens base) s.speakers) → StandsFor conf sources (record { conf = s.conf; seq = s.conf.seq; speakers = speakers }) []
-restarts conf sources s past speakers r fits all = record {
+pub restarts : (settings : PacketizerSettings) (sources : List ℕ) (s : State) (past : List Sent) (speakers : List Speaker) → PacketizerStandsFor settings sources s past → s.settings.seq < 65536
+    → ((base : ℕ) → speakers ≡ map (anew s.settings.generations base) s.speakers) → PacketizerStandsFor settings sources (record { settings = s.settings; seq = s.settings.seq; speakers = speakers }) []
+restarts settings sources s past speakers r fits all = record {
   sent = tt;
   distinct = r.distinct;
-  conf_is = r.conf_is;
-  seq = omega (arith, fits, ap (λ (x : OutConf). x.seq) r.conf_is);
-  speakers = all conf.stamp
-      ∙ (ap (λ (x : OutConf). map (anew x.gens conf.stamp) s.speakers) r.conf_is
-      ∙ (ap (λ (xs : List Speaker). map (anew conf.gens conf.stamp) xs) r.speakers ∙ forgotten conf past sources));
+  settings_is = r.settings_is;
+  seq = omega (arith, fits, ap (λ (x : PacketizerSettings). x.seq) r.settings_is);
+  speakers = all settings.timestamp
+      ∙ (ap (λ (x : PacketizerSettings). map (anew x.generations settings.timestamp) s.speakers) r.settings_is
+      ∙ (ap (λ (xs : List Speaker). map (anew settings.generations settings.timestamp) xs) r.speakers ∙ forgotten settings past sources));
 }

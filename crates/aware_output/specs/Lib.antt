@@ -1,4 +1,4 @@
-pub mod Confs
+pub mod Settings
 pub mod Speakers
 pub mod States
 pub mod Standing

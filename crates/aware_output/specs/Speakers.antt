@@ -12,7 +12,7 @@ abbrev pub AreDistinct : List ℕ → Type 0
 AreDistinct [] = Unit {0}
 AreDistinct (s ∷ more) = ((t : ℕ) → In t more → s ≡ t → ⊥) × AreDistinct more
 
--- the source of which this was sent, newest first: g blocks are kept, with stamps counted from `base`
+-- the source of which this was sent, newest first: g blocks are kept, with timestamps counted from `base`
 abbrev pub speaker_at : ℕ → ℕ → ℕ → List Sent → Speaker
 speaker_at g base source sent = record { source = source; window = kept_last g base sent; spoke = has_text_in 1 sent }
 
@@ -28,7 +28,7 @@ text_of sources source media text = record { source = slice_index sources source
 -- most the longest step after the last packet of the source.
 pub record IsNext (c : Stream) (past : List Sent) (e : Sent) : Type 0 where
   pub later : (x : Sent) → In x past → (x.media < e.media) × (e.media < x.media + 2 ^ 31)
-  pub near : has_text_in c.gens (sent_of e.source past) ≡ true → IfSome (nth 0 (sent_of e.source past)) (λ last. e.media ≤ last.media + longest_step c.gens)
+  pub near : has_text_in c.generations (sent_of e.source past) ≡ true → IfSome (nth 0 (sent_of e.source past)) (λ last. e.media ≤ last.media + longest_step c.generations)
   pub text : (length e.text ≤ MOST_TEXT_OCTETS) × IsUtf8 e.text
 
 -- each of these could be sent after those before it

@@ -1,9 +1,9 @@
 -- What an output stands for: what was sent, and of each source what is to be repeated.
 use Rattle.std.specs.Prelude.{◌≡◌, ℕ, ◌+◌, ◌%◌, List, length, map, slice_index}
 use Rattle.stream_spec.specs.Own.{Sent, sent_of}
-use Rattle.aware_output.specs.declared.outputs.OutConf.{OutConf}
+use Rattle.aware_output.specs.declared.outputs.PacketizerSettings.{PacketizerSettings}
 use Rattle.aware_output.specs.declared.speakers.Speaker.{Speaker}
-use Rattle.aware_output.specs.Confs.{stream_of}
+use Rattle.aware_output.specs.Settings.{stream_of}
 use Rattle.aware_output.specs.Speakers.{AreDistinct, EachIsNext, speaker_at}
 use Rattle.aware_output.specs.States.{State}
 
@@ -11,13 +11,13 @@ abbrev pub source_at : List ℕ → ℕ → ℕ
 source_at sources source = slice_index sources source
 
 -- a source after what was sent of all
-abbrev pub speaker_of : OutConf → List Sent → ℕ → Speaker
-speaker_of conf past source = speaker_at conf.gens conf.stamp source (sent_of source past)
+abbrev pub speaker_of : PacketizerSettings → List Sent → ℕ → Speaker
+speaker_of settings past source = speaker_at settings.generations settings.timestamp source (sent_of source past)
 
 -- An output to these sources has sent this, newest first.
-pub record StandsFor (conf : OutConf) (sources : List ℕ) (s : State) (past : List Sent) : Type 0 where
-  pub sent : EachIsNext (stream_of conf) past
+pub record PacketizerStandsFor (settings : PacketizerSettings) (sources : List ℕ) (s : State) (past : List Sent) : Type 0 where
+  pub sent : EachIsNext (stream_of settings) past
   pub distinct : AreDistinct sources
-  pub conf_is : s.conf ≡ conf
-  pub seq : s.seq ≡ (conf.seq + length past) % 65536
-  pub speakers : s.speakers ≡ map (speaker_of conf past) sources
+  pub settings_is : s.settings ≡ settings
+  pub seq : s.seq ≡ (settings.seq + length past) % 65536
+  pub speakers : s.speakers ≡ map (speaker_of settings past) sources

@@ -1,10 +1,10 @@
 -- What an output knows.
 use Rattle.std.specs.Prelude.{ℕ, List}
-use Rattle.aware_output.specs.declared.outputs.OutConf.{OutConf}
+use Rattle.aware_output.specs.declared.outputs.PacketizerSettings.{PacketizerSettings}
 use Rattle.aware_output.specs.declared.speakers.Speaker.{Speaker}
 
 -- its stream, the next sequence number, and its sources
 pub record State : Type 0 where
-  pub conf : OutConf
+  pub settings : PacketizerSettings
   pub seq : ℕ
   pub speakers : List Speaker

@@ -7,7 +7,7 @@ mod outputs;
 mod speakers;
 
 pub use laws::{output_is_lawful, packets_are_own};
-pub use outputs::{OutConf, Output};
+pub use outputs::{PacketizerSettings, Packetizer};
 
 #[cfg(test)]
 mod tests;

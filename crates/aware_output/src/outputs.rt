@@ -4,65 +4,65 @@ ghost use Rattle.rtt_base.specs.Buffers.{Appends};
 
 use crate::speakers::{Speaker, forget_all};
 use red_blocks::{TextHead, write_text};
-use rtt_base::{NoMemory, OctetBuffer, Pts};
+use rtt_base::{NoMemory, OctetBuffer, PayloadTypes};
 use std::alloc::Global;
 use std::marker::Model;
 
 /// The stream of an output.
 #[derive(Clone, Copy, Debug)]
-pub struct OutConf {
+pub struct PacketizerSettings {
     pub ssrc: u32,
     /// The first sequence number.
     pub seq: u16,
     /// The timestamp at the media time 0.
-    pub stamp: u32,
+    pub timestamp: u32,
     /// The payload types, below 128 and different.
-    pub pts: Pts,
+    pub payload_types: PayloadTypes,
     /// How many blocks each packet repeats, 0 to 3.
-    pub gens: u8,
+    pub generations: u8,
 }
 
 /// The packets to one terminal: one numbering, and redundancy for each source.
 #[derive(Drop)]
-pub struct Output {
-    conf: OutConf,
+pub struct Packetizer {
+    settings: PacketizerSettings,
     /// The next sequence number.
     seq: u16,
     speakers: Vec<Speaker>,
 }
 
-impl Model for Output {
+impl Model for Packetizer {
     ghost use Rattle.aware_output.specs.States.{State};
-    ghost use Rattle.aware_output.specs.Confs.{IsConf};
+    ghost use Rattle.aware_output.specs.Settings.{AreSettings};
 
     ghost Value = { State };
 
-    ghost view = { λ o. record { conf = o.conf; seq = o.seq; speakers = o.speakers.items } };
+    ghost view = { λ o. record { settings = o.settings; seq = o.seq; speakers = o.speakers.items } };
 
-    ghost invariant = { λ o. IsConf o.conf };
+    ghost invariant = { λ o. AreSettings o.settings };
 }
 
-impl Output {
+impl Packetizer {
     ghost use Rattle.rtt_base.specs.declared.limits.TheConstants.{MOST_PACKET_OCTETS};
-    ghost use Rattle.aware_output.specs.Confs.{IsConf};
+    ghost use Rattle.aware_output.specs.Settings.{AreSettings};
     ghost use Rattle.aware_output.specs.Speakers.{AreDistinct};
-    ghost use Rattle.aware_output.specs.Standing.{StandsFor};
+    ghost use Rattle.aware_output.specs.Standing.{PacketizerStandsFor};
     ghost use Rattle.aware_output.specs.Sending.{OfSent, OfNext, OfStamped, has_repeats, octets_of};
 
     /// An output that has sent nothing, to these sources, all different: each is written as the CSRC of its packets, or
     /// without CSRC where it is the SSRC itself. It takes all memory that it ever needs.
-    pub fn new(alloc: Global, conf: OutConf, sources: &[u32]) -> Result<Output, NoMemory>
-        requires conf { IsConf conf }
+    pub fn new(alloc: Global, settings: PacketizerSettings, sources: &[u32]) -> Result<Packetizer, NoMemory>
+        requires settings { AreSettings settings }
         requires distinct { AreDistinct sources.now }
-        ensures { IfOk result (λ output. StandsFor conf sources.now output []) }
+        ensures { IfOk result (λ output. PacketizerStandsFor settings sources.now output []) }
     {
         let mut speakers = Vec::new(alloc);
         for source in sources {
-            speakers.push(Speaker::new(*source, conf.gens))?;
+            speakers.push(Speaker::new(*source, settings.generations))?;
         }
-        let seq = conf.seq;
-        Ok(Output {
-            conf,
+        let seq = settings.seq;
+        Ok(Packetizer {
+            settings,
             seq,
             speakers,
         })
@@ -70,11 +70,11 @@ impl Output {
 
     /// As if nothing was sent. It takes no memory.
     pub fn restart(&mut self)
-        ensures stands { OfSent self.old (λ conf sources past. StandsFor conf sources self.new []) }
+        ensures stands { OfSent self.old (λ settings sources past. PacketizerStandsFor settings sources self.new []) }
         ensures sources { length self.new.speakers ≡ length self.old.speakers }
     {
-        self.seq = self.conf.seq;
-        forget_all(&mut self.speakers, self.conf.gens);
+        self.seq = self.settings.seq;
+        forget_all(&mut self.speakers, self.settings.generations);
     }
 
     /// The number of sources.
@@ -87,7 +87,7 @@ impl Output {
     /// Whether text of the source, counted from 0, is still to be repeated.
     pub fn due(&self, source: usize) -> bool
         requires { source < length self.now.speakers }
-        ensures { OfSent self.now (λ conf sources past. result ≡ has_repeats conf sources past source) }
+        ensures { OfSent self.now (λ settings sources past. result ≡ has_repeats settings sources past source) }
     {
         self.speakers[source].window.due()
     }
@@ -105,43 +105,43 @@ impl Output {
     ) -> Result<(), O::Refusal>
         requires source { source < length self.old.speakers }
         requires text { length text.now < 1024 }
-        ensures packet { OfNext self.old source media text.now (λ conf sources past e.
-            Appends O.greatest (O.written out.old) (O.written out.new) (octets_of conf past e) result) }
+        ensures packet { OfNext self.old source media text.now (λ settings sources past e.
+            Appends O.greatest (O.written out.old) (O.written out.new) (octets_of settings past e) result) }
         ensures fits { IfSome O.greatest (λ most.
             length (O.written out.old) + MOST_PACKET_OCTETS ≤ most → IsOk result) }
         ensures some { OnOk result (length (O.written out.old) < length (O.written out.new)) }
-        ensures stands { OfNext self.old source media text.now (λ conf sources past e.
-            OnOk result (StandsFor conf sources self.new (e ∷ past))) }
+        ensures stands { OfNext self.old source media text.now (λ settings sources past e.
+            OnOk result (PacketizerStandsFor settings sources self.new (e ∷ past))) }
         ensures sources { length self.new.speakers ≡ length self.old.speakers }
         ensures err { OnErr result (self.new ≡ self.old) }
     {
-        let stamp = self.stamp_at(media);
-        let written = self.write(stamp, source, text, out);
+        let timestamp = self.timestamp_at(media);
+        let written = self.write(timestamp, source, text, out);
         if written.is_ok() {
-            self.keep(stamp, source, text);
+            self.keep(timestamp, source, text);
         }
         written
     }
 
     /// The timestamp at this media time.
-    fn stamp_at(&self, media: u64) -> u32
-        ensures { result ≡ (self.now.conf.stamp + media) % 2 ^ 32 }
+    fn timestamp_at(&self, media: u64) -> u32
+        ensures { result ≡ (self.now.settings.timestamp + media) % 2 ^ 32 }
     {
-        self.conf.stamp.wrapping_add((media % (1 << 32)) as u32)
+        self.settings.timestamp.wrapping_add((media % (1 << 32)) as u32)
     }
 
     /// Appends the packet.
     fn write<O: OctetBuffer>(
         &self,
-        stamp: u32,
+        timestamp: u32,
         source: usize,
         text: &[u8],
         out: &mut O,
     ) -> Result<(), O::Refusal>
         requires source { source < length self.now.speakers }
         requires text { length text.now < 1024 }
-        ensures packet { OfStamped self.now source stamp text.now (λ conf sources past e.
-            Appends O.greatest (O.written out.old) (O.written out.new) (octets_of conf past e) result) }
+        ensures packet { OfStamped self.now source timestamp text.now (λ settings sources past e.
+            Appends O.greatest (O.written out.old) (O.written out.new) (octets_of settings past e) result) }
         ensures fits { IfSome O.greatest (λ most.
             length (O.written out.old) + MOST_PACKET_OCTETS ≤ most → IsOk result) }
         ensures some { OnOk result (length (O.written out.old) < length (O.written out.new)) }
@@ -149,24 +149,24 @@ impl Output {
         let speaker = &self.speakers[source];
         speaker.window.packets_fit();
         let head = TextHead {
-            mark: speaker.is_after_pause(),
+            marker_bit: speaker.is_after_pause(),
             seq: self.seq,
-            stamp,
-            ssrc: self.conf.ssrc,
+            timestamp,
+            ssrc: self.settings.ssrc,
             source: speaker.source,
         };
-        write_text(&head, &speaker.window, text, self.conf.pts, out)
+        write_text(&head, &speaker.window, text, self.settings.payload_types, out)
     }
 
     /// Counts the packet, and keeps its text.
-    fn keep(&mut self, stamp: u32, source: usize, text: &[u8])
+    fn keep(&mut self, timestamp: u32, source: usize, text: &[u8])
         requires source { source < length self.old.speakers }
         requires text { length text.now < 1024 }
         ensures sources { length self.new.speakers ≡ length self.old.speakers }
-        ensures stands { OfStamped self.old source stamp text.now (λ conf sources past e.
-            StandsFor conf sources self.new (e ∷ past)) }
+        ensures stands { OfStamped self.old source timestamp text.now (λ settings sources past e.
+            PacketizerStandsFor settings sources self.new (e ∷ past)) }
     {
-        self.speakers[source].keep(stamp, text);
+        self.speakers[source].keep(timestamp, text);
         self.seq = self.seq.wrapping_add(1);
     }
 }

@@ -38,11 +38,11 @@ impl Speaker {
     }
 
     /// Keeps what was sent in a packet with this timestamp.
-    pub fn keep(&mut self, stamp: u32, text: &[u8])
+    pub fn keep(&mut self, timestamp: u32, text: &[u8])
         requires { length text.now < 1024 }
-        ensures { KeepsText self.old self.new stamp text.now }
+        ensures { KeepsText self.old self.new timestamp text.now }
     {
-        self.window.keep(stamp, text);
+        self.window.keep(timestamp, text);
         self.spoke = !text.is_empty();
     }
 }

@@ -1,30 +1,30 @@
 ghost use Rattle.std.specs.Prelude.{◌≤◌, ◌<◌, length};
-ghost use Rattle.aware_output.specs.Confs.{IsConf};
+ghost use Rattle.aware_output.specs.Settings.{AreSettings};
 
-use crate::{OutConf, Output};
-use rtt_base::{Bytes, OctetBuffer, Packet, Pts};
+use crate::{PacketizerSettings, Packetizer};
+use rtt_base::{Bytes, OctetBuffer, Packet, PayloadTypes};
 use std::alloc::Global;
 use std::process::Abort;
 use std::test::Fail;
 
 /// The stream of a mixer to a terminal that is sent so many generations.
-fn conf(gens: u8) -> OutConf
-    requires { gens ≤ 3 }
-    ensures { IsConf result }
+fn settings(generations: u8) -> PacketizerSettings
+    requires { generations ≤ 3 }
+    ensures { AreSettings result }
 {
-    OutConf {
+    PacketizerSettings {
         ssrc: 9000,
         seq: 100,
-        stamp: 5000,
-        pts: Pts { t140: 98, red: 100 },
-        gens,
+        timestamp: 5000,
+        payload_types: PayloadTypes { t140: 98, red: 100 },
+        generations,
     }
 }
 
 /// Sends this text of the source, counted from 0.
 fn send<O: OctetBuffer>(
     rt: &impl Abort,
-    output: &mut Output,
+    output: &mut Packetizer,
     source: usize,
     media: u64,
     text: &[u8],
@@ -36,7 +36,7 @@ fn send<O: OctetBuffer>(
 }
 
 /// The packet of this text of the first source has these octets.
-fn expect(rt: &impl Abort, output: &mut Output, media: u64, text: &[u8], octets: &[u8]) {
+fn expect(rt: &impl Abort, output: &mut Packetizer, media: u64, text: &[u8], octets: &[u8]) {
     let mut packet = Packet::new();
     send(rt, output, 0, media, text, &mut packet);
     assert!(rt; packet.as_slice() == octets);
@@ -46,13 +46,13 @@ fn expect(rt: &impl Abort, output: &mut Output, media: u64, text: &[u8], octets:
 fn expect_two(
     rt: &impl Abort,
     alloc: Global,
-    gens: u8,
+    generations: u8,
     first: &[u8],
     second: &[u8],
 ) -> Result<(), Fail>
-    requires { gens ≤ 3 }
+    requires { generations ≤ 3 }
 {
-    let mut output = Output::new(alloc, conf(gens), &[1001])?;
+    let mut output = Packetizer::new(alloc, settings(generations), &[1001])?;
     expect(rt, &mut output, 0, b"H", first);
     expect(rt, &mut output, 300, b"e", second);
     Ok(())
@@ -82,7 +82,7 @@ fn without_generations_a_packet_is_plain(rt: HostRuntime) -> Result<(), Fail> {
 
 #[test]
 fn three_generations_reach_back_to_the_first_letter(rt: HostRuntime) -> Result<(), Fail> {
-    let mut output = Output::new(rt.alloc(), conf(3), &[1001])?;
+    let mut output = Packetizer::new(rt.alloc(), settings(3), &[1001])?;
     let mut before = Bytes::new(rt.alloc());
     send(&rt, &mut output, 0, 0, b"H", &mut before);
     send(&rt, &mut output, 0, 300, b"e", &mut before);
@@ -99,7 +99,7 @@ fn three_generations_reach_back_to_the_first_letter(rt: HostRuntime) -> Result<(
 
 #[test]
 fn each_source_has_its_own_redundancy(rt: HostRuntime) -> Result<(), Fail> {
-    let mut output = Output::new(rt.alloc(), conf(1), &[1001, 9000])?;
+    let mut output = Packetizer::new(rt.alloc(), settings(1), &[1001, 9000])?;
     let mut out = Bytes::new(rt.alloc());
     send(&rt, &mut output, 0, 0, b"H", &mut out);
     send(&rt, &mut output, 1, 200, b"x", &mut out);

@@ -11,8 +11,8 @@ use Rattle.wire_spec.specs.declared.faults.DumpKind.TheVariants.{NotDump, BadLen
 use Rattle.rtpdump_io.specs.declared.items.DumpFault.{DumpFault}
 use Rattle.rtt_base.specs.declared.errors.NoMemory as memory
 use Rattle.rtpdump_io.specs.Reading.{is_of_source}
-use Rattle.file_spec.specs.declared.conf_lines.LegLine.{LegLine}
-use Rattle.file_spec.specs.Conf.{Conf}
+use Rattle.file_spec.specs.declared.conference_lines.LegLine.{LegLine}
+use Rattle.file_spec.specs.Conference.{Conference}
 use Rattle.mixer_spec.specs.Setups.{Setup, leg_at, setup, ssrc_of}
 use Rattle.mixer_spec.specs.Table.{Call, Table}
 use Rattle.mixer_spec.specs.Plain.{plain}
@@ -21,18 +21,18 @@ use Rattle.command_spec.specs.declared.faults.Refusal.TheVariants.{AtByte, After
 use Rattle.command_spec.specs.Work.{Made, Steps, Refuses, Makes}
 use Rattle.command_spec.specs.Mixing.{input_at, makes, mixes, out_of, outs, records_to, unless_one_broken, views}
 use Rattle.command_spec.specs.Sums.{sums}
-use Rattle.mix_loop.specs.declared.turns.Mixing.{Mixing}
-use Rattle.mix_loop.specs.declared.turns.Mixing.TheVariants as mixing
+use Rattle.mix_loop.specs.declared.turns.MixEnd.{MixEnd}
+use Rattle.mix_loop.specs.declared.turns.MixEnd.TheVariants as mixing
 use Rattle.sent_files.specs.Files.{recordings_of}
 use Rattle.bridge_run.specs.Logs.{LogOf, out_at}
 use Rattle.leg_items.specs.declared.inlets.LegInlet.{LegInlet}
-use Rattle.leg_items.specs.Answers.{AllAsked, AllWhole, AreChunks, AreOfConf, IsAnswer, IsReadWell, PlainMixed, SourceKept, source_in}
-use Rattle.leg_items.proofs.OfConfs.{asked_law}
-use Rattle.mixer_posts.specs.Streams.{pts_at, pts_of}
+use Rattle.leg_items.specs.Answers.{AllAsked, AllWhole, AreChunks, AreOfConference, IsAnswer, IsReadWell, PlainMixed, SourceKept, source_in}
+use Rattle.leg_items.proofs.OfConferences.{asked_law}
+use Rattle.mixer_posts.specs.Streams.{payload_types_at, payload_types_of}
 use Rattle.sent_log.specs.States.{State, recording_of}
-use Rattle.bridge_run.specs.declared.mixed.MixFault.{MixFault}
-use Rattle.bridge_run.specs.declared.mixed.MixFault.TheVariants.{Dump, NoMemory}
-use Rattle.bridge_run.specs.declared.mixed.Mixed.{Mixed}
+use Rattle.bridge_run.specs.declared.results.MixFault.{MixFault}
+use Rattle.bridge_run.specs.declared.results.MixFault.TheVariants.{Dump, NoMemory}
+use Rattle.bridge_run.specs.declared.results.Mixed.{Mixed}
 use Rattle.bridge_run.specs.Answered.{AreKept, IsKept, IsOfLegs, MixesTo, WasReadWell, asked_of}
 use Rattle.bridge_run.specs.Mixes.{counted, outputs_of}
 
@@ -59,7 +59,7 @@ broken_steps limit n (o ∷ os) steps (suc k) fault l w b =
     ∙ ap (λ i. Refuses i (AtByte fault.byte fault.kind)) there)
 
 -- ---- the outputs
-outs_from : (c : Conf) (table : Table) (n : ℕ) (legs : List LegLine) (logs : List (List ℕ)) → length logs ≡ length legs
+outs_from : (c : Conference) (table : Table) (n : ℕ) (legs : List LegLine) (logs : List (List ℕ)) → length logs ≡ length legs
     → ((i : ℕ) (leg : LegLine) → leg_at legs i ≡ Some leg → out_at logs i ≡ dump_written (records_to c table (i + n) leg))
     → outputs_of legs logs ≡ map (λ x. out_of c table x.0 x.1) (enumerate_from n legs)
 outs_from c table n [] logs same h = refl
@@ -80,23 +80,23 @@ leg_within (l ∷ legs) zero leg at = omega arith
 leg_within (l ∷ legs) (suc k) leg at = let below = leg_within legs k leg at in omega arith
 
 -- what was sent to the terminal of a leg
-pub sent_at : (c : Conf) (table : Table) (logs : List (List ℕ)) (i : ℕ) (leg : LegLine) → LogOf (pts_at c) (setup c) table logs → leg_at c.legs i ≡ Some leg
+pub sent_at : (c : Conference) (table : Table) (logs : List (List ℕ)) (i : ℕ) (leg : LegLine) → LogOf (payload_types_at c) (setup c) table logs → leg_at c.legs i ≡ Some leg
     → out_at logs i ≡ dump_written (records_to c table i leg)
 sent_at c table logs i leg log at =
-    let same : pts_at c i ≡ leg.pts = ap pts_of at in
-    log i (leg_within c.legs i leg at) ∙ ap (λ pts. dump_written (records_to c table i (record leg { pts = pts }))) same
+    let same : payload_types_at c i ≡ leg.payload_types = ap payload_types_of at in
+    log i (leg_within c.legs i leg at) ∙ ap (λ payload_types. dump_written (records_to c table i (record leg { payload_types = payload_types }))) same
 
-pub outs_are : (c : Conf) (table : Table) (logs : List (List ℕ)) → length logs ≡ length c.legs → LogOf (pts_at c) (setup c) table logs → outputs_of c.legs logs ≡ outs c table
+pub outs_are : (c : Conference) (table : Table) (logs : List (List ℕ)) → length logs ≡ length c.legs → LogOf (payload_types_at c) (setup c) table logs → outputs_of c.legs logs ≡ outs c table
 outs_are c table logs same log = outs_from c table 0 c.legs logs same (λ i leg at. (let none : i ≡ i + 0 = omega arith in
     sent_at c table logs i leg log at ∙ ap (λ j. dump_written (records_to c table j leg)) none))
 
 -- ---- the answers
-module _ (c : Conf) (inputs : List (List ℕ)) (legs : length inputs ≡ length c.legs) where
+module _ (c : Conference) (inputs : List (List ℕ)) (legs : length inputs ≡ length c.legs) where
   whole : AllWhole (length c.legs) (asked_of c inputs) → mixes c inputs ≡ makes c (plain (setup c) c.tick c.turns (leg_chunks c (input_at inputs)))
   whole w = whole_steps (input_limit c) 1 inputs (makes c (plain (setup c) c.tick c.turns (leg_chunks c (input_at inputs)))) (λ k l. w k (omega (arith, l, legs)))
 
   pub over_makes : (table : Table) (logs : List (List ℕ)) (seen : List ℕ) → length logs ≡ length c.legs
-      → IsAnswer {T = memory.NoMemory} mixing.Over (setup c) c.tick c.turns (asked_of c inputs) (leg_chunks c (input_at inputs)) table → LogOf (pts_at c) (setup c) table logs → seen ≡ views c table
+      → IsAnswer {T = memory.NoMemory} mixing.Over (setup c) c.tick c.turns (asked_of c inputs) (leg_chunks c (input_at inputs)) table → LogOf (payload_types_at c) (setup c) table logs → seen ≡ views c table
       → mixes c inputs ≡ Makes seen (outputs_of c.legs logs)
   over_makes table logs seen same answer log is =
       whole answer.1 ∙ (ap (makes c) answer.0 ∙ (ap (λ v. Makes v (outs c table)) (sym is) ∙ ap (Makes seen) (sym (outs_are c table logs same log))))
@@ -112,7 +112,7 @@ module _ (c : Conf) (inputs : List (List ℕ)) (legs : length inputs ≡ length 
       (omega (arith, answer.0, legs)) answer.2 (answer.1 none)
 
   pub over_mixes : (result : Result Mixed MixFault) (table : Table) (log : State) → length log ≡ length c.legs
-      → IsAnswer {T = memory.NoMemory} mixing.Over (setup c) c.tick c.turns (asked_of c inputs) (leg_chunks c (input_at inputs)) table → LogOf (pts_at c) (setup c) table (recordings_of log)
+      → IsAnswer {T = memory.NoMemory} mixing.Over (setup c) c.tick c.turns (asked_of c inputs) (leg_chunks c (input_at inputs)) table → LogOf (payload_types_at c) (setup c) table (recordings_of log)
       → IfOk result (λ mixed. concat mixed.views.items ≡ views c table) → IfOk result (λ mixed. counted mixed ≡ sums c table) → IfOk result (λ mixed. mixed.outs ≡ log) → IfErr result (λ fault. fault ≡ NoMemory)
       → MixesTo c inputs result
   over_mixes (Ok mixed) table log same answer logged is sum out fault = record {
@@ -124,16 +124,16 @@ module _ (c : Conf) (inputs : List (List ℕ)) (legs : length inputs ≡ length 
   over_mixes (Err f) table log same answer logged is sum out fault = subst (λ x. MixesTo c inputs (Err x)) (sym fault) tt
 
 -- what the legs of a conference are asked for
-pub are_of_conf : (c : Conf) (inputs : List (List ℕ)) → AreOfConf c (input_at inputs) (asked_of c inputs)
-are_of_conf c inputs = λ j l at.
+pub are_of_settings : (c : Conference) (inputs : List (List ℕ)) → AreOfConference c (input_at inputs) (asked_of c inputs)
+are_of_settings c inputs = λ j l at.
     ap (λ (o : Option LegLine). record {
-      conf = record { ssrc = ssrc_of o; pts = pts_of o; wait = c.wait };
+      settings = record { ssrc = ssrc_of o; payload_types = payload_types_of o; wait = c.wait };
       limit = input_limit c;
       octets = input_at inputs j;
     }) at
 
-are_chunks : (c : Conf) (inputs : List (List ℕ)) → AreChunks (setup c) (asked_of c inputs) (leg_chunks c (input_at inputs))
-are_chunks c inputs = asked_law c (input_at inputs) (asked_of c inputs) (are_of_conf c inputs)
+are_chunks : (c : Conference) (inputs : List (List ℕ)) → AreChunks (setup c) (asked_of c inputs) (leg_chunks c (input_at inputs))
+are_chunks c inputs = asked_law c (input_at inputs) (asked_of c inputs) (are_of_settings c inputs)
 
 -- ---- sources
 pub source_read : (kind : DumpKind) → is_of_source kind ≡ true → kind ≡ Read
@@ -145,7 +145,7 @@ source_read TooLarge e = absurd (cc e)
 source_read Read e = refl
 
 module _ {S : Type 0} where
-  pub kept : {T : Type 0} (faults : S → ℕ) (name : S → List ℕ) (answer : Mixing DumpFault T) (result : Result Mixed MixFault) (j : ℕ) (old new : S)
+  pub kept : {T : Type 0} (faults : S → ℕ) (name : S → List ℕ) (answer : MixEnd DumpFault T) (result : Result Mixed MixFault) (j : ℕ) (old new : S)
       → ((fault : DumpFault) → result ≡ Err (Dump j fault) → answer ≡ mixing.Faulted j fault) → (WasReadWell result j → IsReadWell answer j)
       → SourceKept faults name answer j old new → IsKept faults name result j old new
   kept faults name answer result j old new same well k = record {
@@ -157,14 +157,14 @@ module _ {S : Type 0} where
 
   -- The answer of plain mixing as that of the conference.
   module _ {M T : Type 0} (mixes_by : M → Setup → List Call → Type 0) (tells : Type 0) (left : S → List ℕ) (faults : S → ℕ) (name : S → List ℕ)
-      (c : Conf) (tick turns : ℕ) (answer : Mixing DumpFault T) (old new : List (LegInlet S)) (m : M)
+      (c : Conference) (tick turns : ℕ) (answer : MixEnd DumpFault T) (old new : List (LegInlet S)) (m : M)
       (x : PlainMixed mixes_by tells left faults name (setup c) tick turns answer old new m) (is_tick : tick ≡ c.tick) (is_turns : turns ≡ c.turns) where
-    pub is_answer : (said : Mixing DumpFault T) → answer ≡ said → tells → (inputs : List (List ℕ)) → AllAsked left (asked_of c inputs) old
+    pub is_answer : (said : MixEnd DumpFault T) → answer ≡ said → tells → (inputs : List (List ℕ)) → AllAsked left (asked_of c inputs) old
         → IsAnswer said (setup c) c.tick c.turns (asked_of c inputs) (leg_chunks c (input_at inputs)) x.table
     is_answer said is t inputs asks =
         subst (λ k. IsAnswer said (setup c) c.tick k (asked_of c inputs) (leg_chunks c (input_at inputs)) x.table) is_turns
         (subst (λ k. IsAnswer said (setup c) k turns (asked_of c inputs) (leg_chunks c (input_at inputs)) x.table) is_tick
-        (subst (λ (a : Mixing DumpFault T). IsAnswer a (setup c) tick turns (asked_of c inputs) (leg_chunks c (input_at inputs)) x.table) is
+        (subst (λ (a : MixEnd DumpFault T). IsAnswer a (setup c) tick turns (asked_of c inputs) (leg_chunks c (input_at inputs)) x.table) is
         (x.is t (asked_of c inputs) (leg_chunks c (input_at inputs)) asks (are_chunks c inputs))))
 
     pub all_kept : (result : Result Mixed MixFault) → ((j : ℕ) (fault : DumpFault) → result ≡ Err (Dump j fault) → answer ≡ mixing.Faulted j fault) → ((j : ℕ) → WasReadWell result j → IsReadWell answer j)

@@ -5,8 +5,8 @@ use Rattle.std.proofs.lemmas.List.{length-map}
 use Rattle.rtt_io.specs.Counts.{Rose}
 use Rattle.rtpdump_io.specs.declared.items.DumpFault.{DumpFault}
 use Rattle.rtpdump_io.specs.Reading.{is_of_source}
-use Rattle.file_spec.specs.declared.conf_lines.LegLine.{LegLine}
-use Rattle.file_spec.specs.Conf.{Conf}
+use Rattle.file_spec.specs.declared.conference_lines.LegLine.{LegLine}
+use Rattle.file_spec.specs.Conference.{Conference}
 use Rattle.mixer_spec.specs.Setups.{leg_at, ssrc_of}
 use Rattle.mixer_spec.specs.Bridged.{input_limit}
 use Rattle.command_spec.specs.Work.{Contents}
@@ -15,10 +15,10 @@ use Rattle.leg_core.specs.Gives.{Stands, LegPast, begins}
 use Rattle.mix_loop.proofs.Lists.{get_within, lt_or_ge}
 use Rattle.leg_items.specs.declared.inlets.LegInlet.{LegInlet}
 use Rattle.leg_items.specs.Answers.{AllAsked, AllNew, read_well, source_in}
-use Rattle.mixer_posts.specs.Streams.{pts_of}
-use Rattle.bridge_run.specs.declared.mixed.MixFault.{MixFault}
-use Rattle.bridge_run.specs.declared.mixed.MixFault.TheVariants.{Open, Dump, TooLong, NoMemory}
-use Rattle.bridge_run.specs.declared.mixed.Mixed.{Mixed}
+use Rattle.mixer_posts.specs.Streams.{payload_types_of}
+use Rattle.bridge_run.specs.declared.results.MixFault.{MixFault}
+use Rattle.bridge_run.specs.declared.results.MixFault.TheVariants.{Open, Dump, TooLong, NoMemory}
+use Rattle.bridge_run.specs.declared.results.Mixed.{Mixed}
 use Rattle.bridge_run.specs.Answered.{AreKept, IsOfLegs, MixesAsked, MixesTo, NoReadFailed, WasReadWell, asked_of}
 use Rattle.command_spec.specs.Inputs.{AllLie, inputs_under, octets_under}
 use Rattle.bridge_run.specs.Mixes.{IsFirst, IsMade, NoneFailed, RoseAt, Stops}
@@ -57,7 +57,7 @@ by_reading n P Well (Err TooLong) of well made long none dump = long (well (λ j
 by_reading n P Well (Err NoMemory) of well made long none dump = none
 
 -- ---- legs over inputs
-module _ {S : Type 0} (Told : Type 0) (left : S → List ℕ) (c : Conf) (inputs : List (List ℕ)) (inlets : List (LegInlet S))
+module _ {S : Type 0} (Told : Type 0) (left : S → List ℕ) (c : Conference) (inputs : List (List ℕ)) (inlets : List (LegInlet S))
     (over : AllOver Told left c.wait (input_limit c) c.legs inputs inlets) where
   pub new_over : AllNew inlets
   new_over = λ j i at. (over j i at).2.not_over
@@ -66,7 +66,7 @@ module _ {S : Type 0} (Told : Type 0) (left : S → List ℕ) (c : Conf) (inputs
   asked_over told = λ j p at.
       let o = over j p at in
       let past : Option LegLine → LegPast = λ leg. record {
-        conf = record { ssrc = ssrc_of leg; pts = pts_of leg; wait = c.wait };
+        settings = record { ssrc = ssrc_of leg; payload_types = payload_types_of leg; wait = c.wait };
         limit = input_limit c;
         octets = input_at inputs j;
         gave = [];
@@ -74,12 +74,12 @@ module _ {S : Type 0} (Told : Type 0) (left : S → List ℕ) (c : Conf) (inputs
       subst (λ leg. Stands left p.leg (past leg)) (sym o.1) (o.2.told told)
 
 -- the same, as these lines and this limit are those of the conference
-pub over_of : {S : Type 0} (Told : Type 0) (left : S → List ℕ) (c : Conf) (lines : List LegLine) (limit : ℕ) (inputs : List (List ℕ)) (inlets : List (LegInlet S)) → lines ≡ c.legs → limit ≡ input_limit c
+pub over_of : {S : Type 0} (Told : Type 0) (left : S → List ℕ) (c : Conference) (lines : List LegLine) (limit : ℕ) (inputs : List (List ℕ)) (inlets : List (LegInlet S)) → lines ≡ c.legs → limit ≡ input_limit c
     → AllOver Told left c.wait limit lines inputs inlets → AllOver Told left c.wait (input_limit c) c.legs inputs inlets
 over_of Told left c lines limit inputs inlets are fits over =
     subst (λ l. AllOver Told left c.wait l c.legs inputs inlets) fits (subst (λ (xs : List LegLine). AllOver Told left c.wait limit xs inputs inlets) are over)
 
-module _ {S : Type 0} (Told : Type 0) (left : S → List ℕ) (faults : S → ℕ) (name : S → List ℕ) (held : Contents) (c : Conf) (lines : List LegLine) (limit : ℕ) (inlets : List (LegInlet S))
+module _ {S : Type 0} (Told : Type 0) (left : S → List ℕ) (faults : S → ℕ) (name : S → List ℕ) (held : Contents) (c : Conference) (lines : List LegLine) (limit : ℕ) (inlets : List (LegInlet S))
     (are : lines ≡ c.legs) (fits : limit ≡ input_limit c) (count : length inlets ≡ length lines) (opened_of : AllOpened Told left faults name held c.wait limit lines inlets) where
   many : length inlets ≡ length c.legs
   many = count ∙ ap (λ (xs : List LegLine). length xs) are

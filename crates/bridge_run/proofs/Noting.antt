@@ -4,15 +4,15 @@ use Rattle.std.specs.Prelude.{Result, OnErr, OnOk, slice_get, slice_index, slice
 use Rattle.std.proofs.lemmas.Bool.{cases_eq, eq-eqb, ne_eqb}
 use Rattle.std.proofs.lemmas.List.{length-map}
 use Rattle.std.proofs.lemmas.Option.{same_Some}
-use Rattle.rtt_base.specs.declared.text_packets.Pts.{Pts}
+use Rattle.rtt_base.specs.declared.text_packets.PayloadTypes.{PayloadTypes}
 use Rattle.stream_spec.specs.Own.{Sent}
-use Rattle.file_spec.specs.Conf.{Conf}
+use Rattle.file_spec.specs.Conference.{Conference}
 use Rattle.mixer_spec.specs.Setups.{Setup, setup}
 use Rattle.aware_output.specs.Speakers.{text_of}
 use Rattle.mixer_turn.specs.declared.batches.Post.{Post}
 use Rattle.mixer_turn.specs.Making.{source_counts}
 use Rattle.mixer_posts.specs.Posts.{AreNext, sents_to}
-use Rattle.mixer_posts.specs.Streams.{pts_at}
+use Rattle.mixer_posts.specs.Streams.{payload_types_at}
 use Rattle.sent_log.specs.States.{HasSource, Sending, State, sent_to, with_sent}
 use Rattle.bridge_run.specs.Logs.{HasSent, IsNew, IsSentTo, sources_in}
 use Rattle.mixer_posts.proofs.Backward.{pushed}
@@ -56,8 +56,8 @@ sent_is log terminal at sent_of x e = rw e refl
 
 -- what the log has of each terminal, behind a post more
 noted : (old new : State) (now : ℕ) (p : Post) → p.terminal < length old → new ≡ sent_to p.terminal now (of_post p p.text) old
-    → (s : Setup) (pts : ℕ → Pts) (posts : List (ℕ × Post)) → HasSent s pts old posts → HasSent s pts new ((now, p) ∷ posts)
-noted old new now p low is s pts posts has j less x at =
+    → (s : Setup) (payload_types : ℕ → PayloadTypes) (posts : List (ℕ × Post)) → HasSent s payload_types old posts → HasSent s payload_types new ((now, p) ∷ posts)
+noted old new now p low is s payload_types posts has j less x at =
     let own = found_at old p.terminal low in
     let sent_of : List ℕ → Sent = of_post p p.text in
     let own_then : Sending = with_sent now (sent_of own.0.sources) own.0 in
@@ -68,18 +68,18 @@ noted old new now p low is s pts posts has j less x at =
           let before = has j less own.0 (subst (λ (k : ℕ). slice_get old k ≡ Some own.0) q own.1) in
           let more : (now, sent_of own.0.sources) ∷ own.0.sent ≡ sents_to own.0.sources j ((now, p) ∷ posts) =
           rw (eq-eqb p.terminal j q) (ap (λ (sent : List (ℕ × Sent)). (now, sent_of own.0.sources) ∷ sent) before.sent) in
-          subst (λ (y : Sending). IsSentTo s (pts j) j ((now, p) ∷ posts) y) (sym here) (record { conf = before.conf; sources = before.sources; sent = more })
+          subst (λ (y : Sending). IsSentTo s (payload_types j) j ((now, p) ∷ posts) y) (sym here) (record { settings = before.settings; sources = before.sources; sent = more })
       | inr n ↦
           let before = has j less x (sym (set_other old p.terminal j own_then n) ∙ there) in
-          record { conf = before.conf; sources = before.sources; sent = rw (ne_eqb p.terminal j n) before.sent }
+          record { settings = before.settings; sources = before.sources; sent = rw (ne_eqb p.terminal j n) before.sent }
     ]
 
 pub sent_ok : {E : Type 0} (r : Result (Unit {0}) E) (old new : State) (now : ℕ) (p : Post) (text : List ℕ) → p.terminal < length (sources_in old) → text ≡ p.text
     → OnOk r (new ≡ sent_to p.terminal now (of_post p text) old)
-    → OnOk r ((s : Setup) (pts : ℕ → Pts) (posts : List (ℕ × Post)) → AreNext s ((now, p) ∷ posts) → HasSent s pts old posts → HasSent s pts new ((now, p) ∷ posts))
+    → OnOk r ((s : Setup) (payload_types : ℕ → PayloadTypes) (posts : List (ℕ × Post)) → AreNext s ((now, p) ∷ posts) → HasSent s payload_types old posts → HasSent s payload_types new ((now, p) ∷ posts))
 sent_ok (Ok x) old new now p text low same is =
-    λ s pts posts next has.
-    noted old new now p (omega (arith, low, length-map old (λ (x : Sending). length x.sources))) (is ∙ ap (λ (octets : List ℕ). sent_to p.terminal now (of_post p octets) old) same) s pts posts has
+    λ s payload_types posts next has.
+    noted old new now p (omega (arith, low, length-map old (λ (x : Sending). length x.sources))) (is ∙ ap (λ (octets : List ℕ). sent_to p.terminal now (of_post p octets) old) same) s payload_types posts has
 sent_ok (Err x) old new now p text low same is = tt
 
 -- each terminal has the sources that it had
@@ -91,14 +91,14 @@ same_sources (Ok x) old new terminal at sent_of low ok err =
 same_sources (Err x) old new terminal at sent_of low ok err = ap (λ log. sources_in log) err
 
 -- ---- a log of terminals to which nothing was sent
-pub record IsNewAt (c : Conf) (j : ℕ) (x : Sending) : Type 0 where
-  pub silent : IsSentTo (setup c) (pts_at c j) j [] x
+pub record IsNewAt (c : Conference) (j : ℕ) (x : Sending) : Type 0 where
+  pub silent : IsSentTo (setup c) (payload_types_at c j) j [] x
   pub count : slice_get (source_counts c) j ≡ Some (length x.sources)
 
-abbrev pub AreNew : Conf → State → Type 0
+abbrev pub AreNew : Conference → State → Type 0
 AreNew c log = (j : ℕ) (x : Sending) → slice_get log j ≡ Some x → IsNewAt c j x
 
-pub new_more : (c : Conf) (old new : State) (j : ℕ) (x : Sending) → AreNew c old → length old ≡ j → IsNewAt c j x → new ≡ old ++ x ∷ [] → AreNew c new
+pub new_more : (c : Conference) (old new : State) (j : ℕ) (x : Sending) → AreNew c old → length old ≡ j → IsNewAt c j x → new ≡ old ++ x ∷ [] → AreNew c new
 new_more c old new j x all long here is = λ k y at. elim (pushed old x k y (subst (λ (log : State). slice_get log k ≡ Some y) is at)) [
   | inl before ↦ all k y before
   | inr q ↦
@@ -114,7 +114,7 @@ counts_are (x ∷ log) (n ∷ counts) many each =
     let here : n ≡ length x.sources = same_Some n (length x.sources) (each 0 x refl) in
     ap (λ (k : ℕ). k ∷ sources_in log) (sym here) ∙ ap (λ ns. n ∷ ns) (counts_are log counts (omega (arith, many)) (λ j y at. each (suc j) y at))
 
-pub is_new : (c : Conf) (log : State) → length log ≡ length c.legs → AreNew c log → IsNew c log
+pub is_new : (c : Conference) (log : State) → length log ≡ length c.legs → AreNew c log → IsNew c log
 is_new c log many all = record {
   terminals = many;
   sources = counts_are log (source_counts c) (omega (arith, many, length-map c.legs (λ leg. if leg.aware then length c.legs else 1))) (λ j x at. (all j x at).count);

@@ -3,16 +3,16 @@ use Rattle.std.proofs.Common.{◌≡◌, ◌≢◌, ℕ, zero, suc, ◌+◌, ◌
 use Rattle.std.specs.Prelude.{IsSome, slice_get}
 use Rattle.std.proofs.lemmas.Bool.{cases_lt}
 use Rattle.std.proofs.lemmas.Option.{slice_get_read}
-use Rattle.file_spec.specs.declared.conf_lines.LegLine.{LegLine}
+use Rattle.file_spec.specs.declared.conference_lines.LegLine.{LegLine}
 use Rattle.rtt_io.specs.Counts.{Rose, counted, last_count}
 use Rattle.leg_items.specs.declared.inlets.LegInlet.{LegInlet}
-use Rattle.bridge_run.specs.declared.mixed.MixFault.{MixFault}
-use Rattle.bridge_run.specs.declared.mixed.MixFault.TheVariants.{Open, Dump, TooLong, NoMemory}
+use Rattle.bridge_run.specs.declared.results.MixFault.{MixFault}
+use Rattle.bridge_run.specs.declared.results.MixFault.TheVariants.{Open, Dump, TooLong, NoMemory}
 use Rattle.mixer_spec.specs.Setups.{leg_at}
 use Rattle.mixer_posts.proofs.Backward.{pushed}
 use Rattle.command_spec.specs.Mixing.{input_at}
 use Rattle.bridge_run.specs.Mixes.{IsFirst}
-use Rattle.bridge_run.specs.Opened.{AllOpened, AllOver, IsNotOpened, IsOpened, IsOver, IsRefused, LeavesCount}
+use Rattle.bridge_run.specs.Opened.{AllOpened, AllOver, IsNotOpened, IsOpened, IsOver, OpeningIsRefused, LeavesCount}
 
 -- a count of faults that rose, behind others
 pub rose_behind : (before between after faults : ℕ) → before ≤ between → after ≡ counted between faults → Rose 0 faults → Rose before after
@@ -81,7 +81,7 @@ module _ {S : Type 0} where
   -- the leg behind these was refused
   pub not_opened : (tells : Type 0) (left : S → List ℕ) (faults : S → ℕ) (name_of : S → List ℕ) (contents : List ℕ → Option (List ℕ)) (wait limit j : ℕ) (legs : List LegLine) (leg : LegLine) (ps : List (LegInlet S))
       (before now after last : List ℕ → ℕ) (fault : MixFault) → AllOpened tells left faults name_of contents wait limit legs ps → length ps ≡ j → leg_at legs j ≡ Some leg → ((n : List ℕ) → now n ≡ before n) → ((n : List ℕ) → last n ≡ after n)
-      → IsRefused now after j leg fault → IsNotOpened tells contents before last legs fault
+      → OpeningIsRefused now after j leg fault → IsNotOpened tells contents before last legs fault
   not_opened tells left faults name_of contents wait limit j legs leg ps before now after last (Open k) h l g b a r = (
     leg,
     ap (λ (i : ℕ). leg_at legs i) r.0 ∙ g,
@@ -107,7 +107,7 @@ first_here tells contents contents_now legs k leg before now after last g same o
     a n ∙ (other t there n (λ e. differs (e ∙ ap (λ (l : LegLine). l.input) is)) ∙ b n)
 
 pub is_first : (tells : Type 0) (contents contents_now : List ℕ → Option (List ℕ)) (legs : List LegLine) (j : ℕ) (leg : LegLine) (before now after last : List ℕ → ℕ) (fault : MixFault)
-    → leg_at legs j ≡ Some leg → IsRefused now after j leg fault → (tells → (n : List ℕ) → contents_now n ≡ contents n)
+    → leg_at legs j ≡ Some leg → OpeningIsRefused now after j leg fault → (tells → (n : List ℕ) → contents_now n ≡ contents n)
     → (tells → IsSome (contents_now leg.input) → (n : List ℕ) → n ≢ leg.input → after n ≡ now n)
     → ((n : List ℕ) → now n ≡ before n) → ((n : List ℕ) → last n ≡ after n) → IsFirst tells contents legs before last fault
 is_first tells contents contents_now legs j leg before now after last (Open k) g r same other b a =

@@ -4,13 +4,13 @@ use Rattle.std.specs.Prelude.{All, slice_get, slice_index_or}
 use Rattle.std.proofs.lemmas.List.{length-map, map-append}
 use Rattle.std.proofs.lemmas.Option.{same_Some, slice_get-get_or}
 use Rattle.std.specs.List.{AllByRecursion}
-use Rattle.file_spec.specs.declared.conf_lines.LegLine.{LegLine}
-use Rattle.file_spec.specs.Conf.{Conf}
-use Rattle.rtt_base.specs.declared.text_packets.Pts.{Pts}
+use Rattle.file_spec.specs.declared.conference_lines.LegLine.{LegLine}
+use Rattle.file_spec.specs.Conference.{Conference}
+use Rattle.rtt_base.specs.declared.text_packets.PayloadTypes.{PayloadTypes}
 use Rattle.wire_spec.specs.Dump.{dump_written}
 use Rattle.stream_spec.specs.Own.{Sent}
-use Rattle.aware_output.specs.declared.outputs.OutConf.{OutConf}
-use Rattle.aware_output.specs.Confs.{stream_of}
+use Rattle.aware_output.specs.declared.outputs.PacketizerSettings.{PacketizerSettings}
+use Rattle.aware_output.specs.Settings.{stream_of}
 use Rattle.aware_output.specs.Sending.{octets_of}
 use Rattle.aware_output.specs.Speakers.{EachIsNext}
 use Rattle.mixer_spec.specs.Setups.{leg_at, setup, stream}
@@ -23,7 +23,7 @@ use Rattle.mixer_turn.proofs.Nexts.{each_is_next}
 use Rattle.mixer_turn.proofs.Recording.{AreRecords, IsShortRecord, mixer_records}
 use Rattle.mixer_posts.specs.States.{SendingState}
 use Rattle.mixer_posts.specs.Standing.{AreBefore}
-use Rattle.mixer_posts.specs.Streams.{conf_at, pts_at, pts_of}
+use Rattle.mixer_posts.specs.Streams.{settings_at, payload_types_at, payload_types_of}
 use Rattle.mixer_posts.proofs.Entering.{entered_law}
 use Rattle.rtpdump_io.specs.InMemory.{IsRecord}
 use Rattle.sent_log.specs.States.{Sending, State, recording_of, records_of, sents}
@@ -81,20 +81,20 @@ sents_entered : (past : List TurnEntry) → sents (entered past) ≡ tables.sent
 sents_entered [] = refl
 sents_entered (e ∷ past) = ap (λ (sent : List Sent). e.sent ∷ sent) (sents_entered past)
 
-records_entered : (conf : OutConf) (past : List TurnEntry) → records_of conf (entered past) ≡ records conf.pts (packets (stream_of conf) past)
-records_entered conf [] = refl
-records_entered conf (e ∷ past) =
-    let last : List Sent → List (ℕ × List ℕ) = λ sent. (e.at, octets_of conf sent e.sent) ∷ [] in
-    ap (λ (front : List (ℕ × List ℕ)). front ++ last (sents (entered past))) (records_entered conf past)
-    ∙ (ap (λ (sent : List Sent). records conf.pts (packets (stream_of conf) past) ++ last sent) (sents_entered past)
-    ∙ sym (map-append _ (packets (stream_of conf) past) _))
+records_entered : (settings : PacketizerSettings) (past : List TurnEntry) → records_of settings (entered past) ≡ records settings.payload_types (packets (stream_of settings) past)
+records_entered settings [] = refl
+records_entered settings (e ∷ past) =
+    let last : List Sent → List (ℕ × List ℕ) = λ sent. (e.at, octets_of settings sent e.sent) ∷ [] in
+    ap (λ (front : List (ℕ × List ℕ)). front ++ last (sents (entered past))) (records_entered settings past)
+    ∙ (ap (λ (sent : List Sent). records settings.payload_types (packets (stream_of settings) past) ++ last sent) (sents_entered past)
+    ∙ sym (map-append _ (packets (stream_of settings) past) _))
 
 -- ---- one terminal
 -- the mixer of a conference has come to this table, and what it sent is noted
-abbrev pub HasMixed : Conf → SendingState State → Table → Type 0
-HasMixed c m table = At (Of (λ (m : SendingState State) s pts calls. RecordsFor m s pts calls) (pts_at c)) m (setup c) table
+abbrev pub HasMixed : Conference → SendingState State → Table → Type 0
+HasMixed c m table = At (Of (λ (m : SendingState State) s payload_types calls. RecordsFor m s payload_types calls) (payload_types_at c)) m (setup c) table
 
-module _ (c : Conf) (m : SendingState State) (table : Table) (mixed : HasMixed c m table) where
+module _ (c : Conference) (m : SendingState State) (table : Table) (mixed : HasMixed c m table) where
   pub many : length m.outbound ≡ length c.legs
   many = sym (length-map m.outbound (λ (x : Sending). length x.sources)) ∙ mixed.made.all
 
@@ -102,24 +102,24 @@ module _ (c : Conf) (m : SendingState State) (table : Table) (mixed : HasMixed c
   past_at j = (table.terminals j).past
 
   module _ (j : ℕ) (x : Sending) (at : slice_get m.outbound j ≡ Some x) (low : j < length c.legs) where
-    noted : (x.conf ≡ conf_at (setup c) (pts_at c j) j) × (x.sent ≡ entered (past_at j))
+    noted : (x.settings ≡ settings_at (setup c) (payload_types_at c j) j) × (x.sent ≡ entered (past_at j))
     noted =
         let it = mixed.made.sent j low x at in
         let sent = it.sent ∙ entered_law (setup c) mixed.calls j x.sources low it.sources in
-        (it.conf, sent ∙ ap (λ (t : Table). entered (t.terminals j).past) mixed.leads)
+        (it.settings, sent ∙ ap (λ (t : Table). entered (t.terminals j).past) mixed.leads)
 
-    is_sent : records_of x.conf x.sent ≡ records_to (pts_at c) (setup c) table j
+    is_sent : records_of x.settings x.sent ≡ records_to (payload_types_at c) (setup c) table j
     is_sent =
-        ap (λ (conf : OutConf). records_of conf x.sent) noted.0
-        ∙ (ap (records_of (conf_at (setup c) (pts_at c j) j)) noted.1 ∙ records_entered (conf_at (setup c) (pts_at c j) j) (past_at j))
+        ap (λ (settings : PacketizerSettings). records_of settings x.sent) noted.0
+        ∙ (ap (records_of (settings_at (setup c) (payload_types_at c j) j)) noted.1 ∙ records_entered (settings_at (setup c) (payload_types_at c j) j) (past_at j))
 
-    short : AreRecords 5000000 (records_of x.conf x.sent)
+    short : AreRecords 5000000 (records_of x.settings x.sent)
     short =
         let h = mixed.made in
         let turns : m.mixer.turns ≤ 5000000 = omega (arith, h.stands.turns, h.few) in
-        let r = mixer_records (setup c) (pts_at c) m.mixer mixed.calls j h.stands turns (all_early mixed.calls h.early) low in
+        let r = mixer_records (setup c) (payload_types_at c) m.mixer mixed.calls j h.stands turns (all_early mixed.calls h.early) low in
         subst (λ (rs : List (ℕ × List ℕ)). AreRecords 5000000 rs) (sym is_sent)
-        (subst (λ (t : Table). AreRecords 5000000 (records_to (pts_at c) (setup c) t j)) mixed.leads r)
+        (subst (λ (t : Table). AreRecords 5000000 (records_to (payload_types_at c) (setup c) t j)) mixed.leads r)
 
     playable : IsPlayable x
     playable =
@@ -128,12 +128,12 @@ module _ (c : Conf) (m : SendingState State) (table : Table) (mixed : HasMixed c
         subst (λ (t : Table). EachIsNext (stream (setup c) j) (tables.sents (t.terminals j).past)) mixed.leads next in
         let sent : tables.sents (past_at j) ≡ sents x.sent = sym (sents_entered (past_at j)) ∙ ap sents (sym noted.1) in
         record {
-          lawful = subst (λ (conf : OutConf). EachIsNext (stream_of conf) (sents x.sent)) (sym noted.0) (subst (λ (past : List Sent). EachIsNext (stream (setup c) j) past) sent here);
-          written = record { is = refl; each = weaker (records_of x.conf x.sent) short.each; few = omega (arith, short.few) };
+          lawful = subst (λ (settings : PacketizerSettings). EachIsNext (stream_of settings) (sents x.sent)) (sym noted.0) (subst (λ (past : List Sent). EachIsNext (stream (setup c) j) past) sent here);
+          written = record { is = refl; each = weaker (records_of x.settings x.sent) short.each; few = omega (arith, short.few) };
         }
 
   -- ---- all terminals
-  pub logged : LogOf (pts_at c) (setup c) table (recordings_of m.outbound)
+  pub logged : LogOf (payload_types_at c) (setup c) table (recordings_of m.outbound)
   logged = λ j low. (let own = found_at m.outbound j (omega (arith, low, many)) in
       read_out m.outbound j own.0 own.1 ∙ ap dump_written (is_sent j own.0 own.1 low))
 
@@ -141,9 +141,9 @@ module _ (c : Conf) (m : SendingState State) (table : Table) (mixed : HasMixed c
   all_sent = λ j d low.
       let own = found_at m.outbound j (omega (arith, low, many)) in
       let leg = found_leg c.legs j low in
-      let same : pts_at c j ≡ leg.0.pts = ap pts_of leg.1 in
-      let is : records_of own.0.conf own.0.sent ≡ commands.records_to c table j leg.0 =
-      is_sent j own.0 own.1 low ∙ ap (λ (pts : Pts). records pts (packets (stream (setup c) j) (past_at j))) same in
+      let same : payload_types_at c j ≡ leg.0.payload_types = ap payload_types_of leg.1 in
+      let is : records_of own.0.settings own.0.sent ≡ commands.records_to c table j leg.0 =
+      is_sent j own.0 own.1 low ∙ ap (λ (payload_types : PayloadTypes). records payload_types (packets (stream (setup c) j) (past_at j))) same in
       subst (λ (octets : List ℕ). IsWrittenOf octets (commands.records_to c table j (slice_index_or c.legs j d))) (sym (read_recording m.outbound j own.0 own.1))
       (subst (λ (l : LegLine). IsWrittenOf (recording_of own.0) (commands.records_to c table j l)) (sym (read_leg c.legs j d leg.0 leg.1))
       (subst (λ (rs : List (ℕ × List ℕ)). IsWrittenOf (recording_of own.0) rs) is (playable j own.0 own.1 low).written))

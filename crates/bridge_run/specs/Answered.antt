@@ -4,7 +4,7 @@ use Rattle.std.specs.List.{concat}
 use Rattle.rtt_io.specs.Counts.{Rose}
 use Rattle.rtpdump_io.specs.declared.items.DumpFault.{DumpFault}
 use Rattle.rtpdump_io.specs.Reading.{is_of_source}
-use Rattle.file_spec.specs.Conf.{Conf}
+use Rattle.file_spec.specs.Conference.{Conference}
 use Rattle.mixer_spec.specs.Setups.{leg_at, ssrc_of}
 use Rattle.mixer_spec.specs.Bridged.{input_limit}
 use Rattle.command_spec.specs.declared.faults.Refusal.TheVariants.{AtByte, AfterTurns}
@@ -14,28 +14,28 @@ use Rattle.command_spec.specs.Sums.{sums_mixed}
 use Rattle.leg_items.specs.declared.inlets.LegInlet.{LegInlet}
 use Rattle.leg_items.specs.Feds.{Asked}
 use Rattle.leg_items.specs.Answers.{AllAsked, read_well, source_in}
-use Rattle.mixer_posts.specs.Streams.{pts_at}
-use Rattle.bridge_run.specs.declared.mixed.MixFault.{MixFault}
-use Rattle.bridge_run.specs.declared.mixed.MixFault.TheVariants.{Open, Dump, TooLong, NoMemory}
-use Rattle.bridge_run.specs.declared.mixed.Mixed.{Mixed}
+use Rattle.mixer_posts.specs.Streams.{payload_types_at}
+use Rattle.bridge_run.specs.declared.results.MixFault.{MixFault}
+use Rattle.bridge_run.specs.declared.results.MixFault.TheVariants.{Open, Dump, TooLong, NoMemory}
+use Rattle.bridge_run.specs.declared.results.Mixed.{Mixed}
 use Rattle.sent_files.specs.Files.{recordings_of}
 use Rattle.bridge_run.specs.Mixes.{WholeBelow, counted, outputs_of}
 
 -- what the leg j is asked for, where the inputs have these octets
-abbrev pub asked_of : Conf → List (List ℕ) → ℕ → Asked
+abbrev pub asked_of : Conference → List (List ℕ) → ℕ → Asked
 asked_of c inputs j = record {
-  conf = record { ssrc = ssrc_of (leg_at c.legs j); pts = pts_at c j; wait = c.wait };
+  settings = record { ssrc = ssrc_of (leg_at c.legs j); payload_types = payload_types_at c j; wait = c.wait };
   limit = input_limit c;
   octets = input_at inputs j;
 }
 
 -- These are the views, the outputs and the numbers of a conference whose inputs have these octets.
-pub record AreMixed (c : Conf) (inputs : List (List ℕ)) (mixed : Mixed) : Type 0 where
+pub record AreMixed (c : Conference) (inputs : List (List ℕ)) (mixed : Mixed) : Type 0 where
   pub makes : mixes c inputs ≡ Makes (concat mixed.views.items) (outputs_of c.legs (recordings_of mixed.outs))
   pub sums : sums_mixed c inputs ≡ Some (counted mixed)
 
 -- it is what a conference comes to whose inputs have these octets
-abbrev pub MixesTo : Conf → List (List ℕ) → Result Mixed MixFault → Type 0
+abbrev pub MixesTo : Conference → List (List ℕ) → Result Mixed MixFault → Type 0
 MixesTo c inputs (Ok mixed) = AreMixed c inputs mixed
 MixesTo c inputs (Err (Open leg)) = ⊥
 MixesTo c inputs (Err (Dump leg fault)) =
@@ -69,7 +69,7 @@ NoReadFailed result = (leg : ℕ) (fault : DumpFault) → result ≡ Err (Dump l
 
 module _ {S : Type 0} where
   -- it is what the conference comes to by the octets of its inputs, whatever they are, where these legs are asked for them
-  abbrev pub MixesAsked : (S → List ℕ) → Conf → List (LegInlet S) → Result Mixed MixFault → Type 0
+  abbrev pub MixesAsked : (S → List ℕ) → Conference → List (LegInlet S) → Result Mixed MixFault → Type 0
   MixesAsked left c legs result =
       (inputs : List (List ℕ)) → length inputs ≡ length c.legs → AllAsked left (asked_of c inputs) legs → MixesTo c inputs result
 

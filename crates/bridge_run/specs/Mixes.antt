@@ -5,8 +5,8 @@ use Rattle.wire_spec.specs.Dump.{dump}
 use Rattle.rtt_io.specs.Counts.{Rose}
 use Rattle.rtpdump_io.specs.declared.items.DumpFault.{DumpFault}
 use Rattle.rtpdump_io.specs.Reading.{is_of_source}
-use Rattle.file_spec.specs.declared.conf_lines.LegLine.{LegLine}
-use Rattle.file_spec.specs.Conf.{Conf}
+use Rattle.file_spec.specs.declared.conference_lines.LegLine.{LegLine}
+use Rattle.file_spec.specs.Conference.{Conference}
 use Rattle.mixer_spec.specs.Setups.{leg_at}
 use Rattle.mixer_spec.specs.Bridged.{input_limit}
 use Rattle.command_spec.specs.declared.faults.Refusal.TheVariants.{AtByte, AfterTurns}
@@ -15,14 +15,14 @@ use Rattle.command_spec.specs.Mixing.{input_at, mixes}
 use Rattle.command_spec.specs.Inputs.{AllLie, LieBelow, NoneFailedAtAll, NoneFailedBelow, inputs_under}
 use Rattle.command_spec.specs.Sums.{Sums, sums_mixed}
 use Rattle.leg_items.specs.Answers.{read_well}
-use Rattle.bridge_run.specs.declared.mixed.MixFault.{MixFault}
-use Rattle.bridge_run.specs.declared.mixed.MixFault.TheVariants.{Open, Dump, TooLong, NoMemory}
-use Rattle.bridge_run.specs.declared.mixed.Mixed.{Mixed}
+use Rattle.bridge_run.specs.declared.results.MixFault.{MixFault}
+use Rattle.bridge_run.specs.declared.results.MixFault.TheVariants.{Open, Dump, TooLong, NoMemory}
+use Rattle.bridge_run.specs.declared.results.Mixed.{Mixed}
 use Rattle.sent_files.specs.Files.{recordings_of}
 
 -- ---- what it comes to
 -- what is made of what lies there, or why nothing is
-abbrev pub steps_of : Contents → Conf → Steps
+abbrev pub steps_of : Contents → Conference → Steps
 steps_of held c = mixes c (inputs_under held c.legs)
 
 -- for each leg its output, with these octets
@@ -33,28 +33,28 @@ outputs_of (leg ∷ legs) (octets ∷ more) = record { name = leg.output; octets
 
 -- the sums over all terminals
 abbrev pub counted : Mixed → Sums
-counted mixed = record { packets = mixed.packets; used = mixed.used; marks = mixed.marks }
+counted mixed = record { packets = mixed.packets; used = mixed.used; markers = mixed.markers }
 
 -- the views, the outputs and the sums
-pub record IsMade (held : Contents) (c : Conf) (mixed : Mixed) : Type 0 where
+pub record IsMade (held : Contents) (c : Conference) (mixed : Mixed) : Type 0 where
   pub lie : AllLie held c.legs
   pub makes : steps_of held c ≡ Makes (concat mixed.views.items) (outputs_of c.legs (recordings_of mixed.outs))
   pub sums : sums_mixed c (inputs_under held c.legs) ≡ Some (counted mixed)
 
 -- the inputs of the first n legs are recordings without a fault
-abbrev pub WholeBelow : ℕ → Conf → List (List ℕ) → Type 0
+abbrev pub WholeBelow : ℕ → Conference → List (List ℕ) → Type 0
 WholeBelow n c inputs = (k : ℕ) → k < n → (dump (input_limit c) (input_at inputs k)).fault ≡ None
 
 -- The input of a leg is refused at the byte of this fault, or its source failed. Those of the legs before it can be read to
 -- their ends.
-pub record IsBroken (Told : Type 0) (Object : List ℕ → Type 0) (held : Contents) (c : Conf) (number : ℕ) (leg : LegLine) (fault : DumpFault) : Type 0 where
+pub record IsBroken (Told : Type 0) (Object : List ℕ → Type 0) (held : Contents) (c : Conference) (number : ℕ) (leg : LegLine) (fault : DumpFault) : Type 0 where
   pub lie : Told → AllLie held c.legs
   pub read : is_of_source fault.kind ≡ true → Object leg.input
   pub lowest : Told → WholeBelow number c (inputs_under held c.legs)
   pub refused : is_of_source fault.kind ≡ false → Told → steps_of held c ≡ Refuses (number + 1) (AtByte fault.offset fault.kind)
 
 -- Why nothing is made; `Call` and `Object` tell of which names a call or an object failed. Want of memory is free.
-abbrev pub Stops : (Told : Type 0) → (Call Object : List ℕ → Type 0) → Contents → Conf → MixFault → Type 0
+abbrev pub Stops : (Told : Type 0) → (Call Object : List ℕ → Type 0) → Contents → Conference → MixFault → Type 0
 Stops Told Call Object held c (Open number) =
     (leg : LegLine) × (leg_at c.legs number ≡ Some leg) × Call leg.input × (Told → LieBelow number held c.legs)
 Stops Told Call Object held c (Dump number fault) =
@@ -95,9 +95,9 @@ module _ {W : Type 0} where
   abbrev pub IsFirstIn : Type 0 → (W → Contents) → (W → List ℕ → ℕ) → W → W → List LegLine → MixFault → Type 0
   IsFirstIn Told contents own old new legs fault = IsFirst Told (contents old) legs (own old) (own new) fault
 
-  abbrev pub NoneFailedIn : Type 0 → (W → List ℕ → ℕ) → W → W → Conf → Result Mixed MixFault → Type 0
+  abbrev pub NoneFailedIn : Type 0 → (W → List ℕ → ℕ) → W → W → Conference → Result Mixed MixFault → Type 0
   NoneFailedIn Told objects old new c result = NoneFailed Told c.legs (objects old) (objects new) result
 
   -- why nothing is made, by what lay in a world before, and by the counts that rose in it
-  abbrev pub StopsIn : Type 0 → (W → Contents) → (W → List ℕ → ℕ) → (W → List ℕ → ℕ) → W → W → Conf → MixFault → Type 0
+  abbrev pub StopsIn : Type 0 → (W → Contents) → (W → List ℕ → ℕ) → (W → List ℕ → ℕ) → W → W → Conference → MixFault → Type 0
   StopsIn Told contents own objects old new c = Stops Told (RoseAt (own old) (own new)) (RoseAt (objects old) (objects new)) (contents old) c

@@ -1,24 +1,24 @@
 -- The inputs of a conference's legs, opened, of which nothing was read.
 use Rattle.std.specs.Prelude.{◌≡◌, ◌≢◌, ◌⊎◌, ℕ, false, IsSome, Option, Some, List, slice_get}
 use Rattle.std.specs.Global.{Vec}
-use Rattle.file_spec.specs.declared.conf_lines.LegLine.{LegLine}
+use Rattle.file_spec.specs.declared.conference_lines.LegLine.{LegLine}
 use Rattle.rtt_io.specs.Counts.{Rose}
 use Rattle.rtt_io.specs.Names.{Same}
 use Rattle.rtt_io.specs.declared.mem_sources.SteadySource.{SteadySource}
 use Rattle.rtt_io.specs.contracts.mem_sources.SteadySourceSource.TheImpl.{left-value, tells-value}
-use Rattle.ear.specs.declared.confs.EarConf.{EarConf}
+use Rattle.ear.specs.declared.settings.EarSettings.{EarSettings}
 use Rattle.leg_core.specs.Gives.{Stands, begins, is_over}
 use Rattle.leg_items.specs.declared.inlets.LegInlet.{LegInlet}
 use Rattle.leg_items.specs.Answers.{source_in}
 use Rattle.mixer_spec.specs.Setups.{leg_at}
 use Rattle.command_spec.specs.Mixing.{input_at}
 use Rattle.command_spec.specs.Inputs.{LieBelow}
-use Rattle.bridge_run.specs.declared.mixed.MixFault.{MixFault}
-use Rattle.bridge_run.specs.declared.mixed.MixFault.TheVariants.{Open, Dump, TooLong, NoMemory}
+use Rattle.bridge_run.specs.declared.results.MixFault.{MixFault}
+use Rattle.bridge_run.specs.declared.results.MixFault.TheVariants.{Open, Dump, TooLong, NoMemory}
 
 -- what is heard of a leg
-abbrev pub ear_of : ℕ → LegLine → EarConf
-ear_of wait leg = record { ssrc = leg.ssrc; pts = leg.pts; wait = wait }
+abbrev pub ear_of : ℕ → LegLine → EarSettings
+ear_of wait leg = record { ssrc = leg.ssrc; payload_types = leg.payload_types; wait = wait }
 
 module _ {S : Type 0} where
   -- this holds of each of these sources
@@ -65,11 +65,11 @@ abbrev pub AreHeld : ℕ → ℕ → List LegLine → List (List ℕ) → Vec (L
 AreHeld wait limit lines inputs legs = AllOver tells-value.it left-value.it wait limit lines inputs legs.items
 
 -- Why the leg j was not opened: the count of its name rose, or memory ran out.
-abbrev pub IsRefused : (List ℕ → ℕ) → (List ℕ → ℕ) → ℕ → LegLine → MixFault → Type 0
-IsRefused before after j leg (Open k) = (k ≡ j) × Rose (before leg.input) (after leg.input)
-IsRefused before after j leg (Dump k fault) = ⊥
-IsRefused before after j leg TooLong = ⊥
-IsRefused before after j leg NoMemory = Unit {0}
+abbrev pub OpeningIsRefused : (List ℕ → ℕ) → (List ℕ → ℕ) → ℕ → LegLine → MixFault → Type 0
+OpeningIsRefused before after j leg (Open k) = (k ≡ j) × Rose (before leg.input) (after leg.input)
+OpeningIsRefused before after j leg (Dump k fault) = ⊥
+OpeningIsRefused before after j leg TooLong = ⊥
+OpeningIsRefused before after j leg NoMemory = Unit {0}
 
 -- Why not all legs were opened: the count of a leg's name rose, and there is something under the names of those before it; or
 -- memory ran out.
@@ -84,7 +84,7 @@ IsNotOpened tells contents before after legs NoMemory = Unit {0}
 module _ {W : Type 0} where
   -- why the leg j was not opened in it
   abbrev pub RefusedIn : (W → List ℕ → ℕ) → W → W → ℕ → LegLine → MixFault → Type 0
-  RefusedIn own old new j leg fault = IsRefused (own old) (own new) j leg fault
+  RefusedIn own old new j leg fault = OpeningIsRefused (own old) (own new) j leg fault
 
   -- why not all legs were
   abbrev pub Unopened : Type 0 → (W → List ℕ → Option (List ℕ)) → (W → List ℕ → ℕ) → W → W → List LegLine → MixFault → Type 0

@@ -3,7 +3,7 @@ ghost use Rattle.std.specs.Prelude.{◌≡◌, ◌<◌, true, length, IsUtf8, If
 ghost use Rattle.bridge_run.specs.Shown.{lines_of};
 
 use crate::pieces::Piece;
-use conference::Conf;
+use conference::Conference;
 use rtt_base::{Bytes, NoMemory};
 use sent_log::SentLog;
 use std::alloc::Global;
@@ -81,10 +81,10 @@ fn keep_lines(alloc: Global, name: &[u8], text: &[u8]) -> Result<KnownLines, NoM
 }
 
 /// What was sent of the leg with this number, counted from 0, to the first terminal for which the log has it in one piece.
-fn said_of<'a>(conf: &Conf, log: &'a SentLog, leg: usize) -> Option<&'a [u8]>
-    requires { leg < length conf.now.legs }
+fn said_of<'a>(conference: &Conference, log: &'a SentLog, leg: usize) -> Option<&'a [u8]>
+    requires { leg < length conference.now.legs }
 {
-    let ssrc = conf.legs.as_slice()[leg].ssrc;
+    let ssrc = conference.legs.as_slice()[leg].ssrc;
     let near = leg.saturating_sub(1);
     for terminal in 0..log.terminals() {
         let said = log.said(terminal, near, ssrc);
@@ -98,19 +98,19 @@ fn said_of<'a>(conf: &Conf, log: &'a SentLog, leg: usize) -> Option<&'a [u8]>
 /// The lines of the leg with this number, counted from 0, if the log has what was sent of it in one piece.
 fn lines_of_leg(
     alloc: Global,
-    conf: &Conf,
+    conference: &Conference,
     log: &SentLog,
     leg: usize,
 ) -> Result<Option<KnownLines>, NoMemory>
-    requires { leg < length conf.now.legs }
+    requires { leg < length conference.now.legs }
 {
-    let Some(text) = said_of(conf, log, leg) else {
+    let Some(text) = said_of(conference, log, leg) else {
         return Ok(None);
     };
     let Ok(_) = str::from_utf8(text) else {
         return Ok(None);
     };
-    let name = conf.legs.as_slice()[leg].name.as_slice();
+    let name = conference.legs.as_slice()[leg].name.as_slice();
     let lines = keep_lines(alloc, name, text)?;
     Ok(Some(lines))
 }
@@ -119,19 +119,19 @@ fn lines_of_leg(
 pub(crate) fn lines_on_threads<R: Threads + Sync>(
     rt: &R,
     alloc: Global,
-    conf: &Conf,
+    conference: &Conference,
     log: &SentLog,
 ) -> Result<Vec<KnownLines>, NoMemory> {
     let mut known = Vec::new(alloc);
     if log.terminals() < WORTH_KEEPING {
         return Ok(known);
     }
-    let legs = conf.legs.len();
+    let legs = conference.legs.len();
     let Ok(made) = thread::map_indices(
         rt,
         alloc,
         legs,
-        &|leg| { lines_of_leg(alloc, conf, log, leg) },
+        &|leg| { lines_of_leg(alloc, conference, log, leg) },
     ) else {
         return Err(NoMemory);
     };

@@ -9,7 +9,7 @@ ghost use Rattle.wire_spec.specs.declared.limits.TheConstants.{MOST_RECORDING_OC
 ghost use Rattle.file_spec.specs.declared.limits.TheConstants.{MOST_LEGS};
 
 use crate::MixFault;
-use ear::EarConf;
+use ear::EarSettings;
 use file_spec::LegLine;
 use leg_core::{Leg, LegLost};
 use leg_items::LegInlet;
@@ -31,12 +31,12 @@ pub fn leg_over<S: Source>(
     ensures source { IfOk result (λ inlet. source_in inlet ≡ source) }
     ensures lost { IfErr result (λ lost. lost.source ≡ source) }
 {
-    let conf = EarConf {
+    let settings = EarSettings {
         ssrc: leg.ssrc,
-        pts: leg.pts,
+        payload_types: leg.payload_types,
         wait: u64::from(wait),
     };
-    match Leg::with_limit(alloc, source, conf, limit) {
+    match Leg::with_limit(alloc, source, settings, limit) {
         Ok(leg) => Ok(LegInlet { leg }),
         Err(lost) => Err(lost),
     }

@@ -5,18 +5,18 @@ mod known_lines;
 mod legs;
 mod loggers;
 mod logs;
-mod mixed;
-mod mixing;
+mod results;
+mod mixes;
 mod parts;
 mod pieces;
 mod showing;
 mod views;
 
 pub use legs::leg_over;
-pub use mixed::{MixFault, Mixed};
-pub use mixing::{Answered, input_limit, mix, mix_held, mix_opened};
+pub use results::{MixFault, Mixed};
+pub use mixes::{InputReturn, input_limit, mix, mix_held, mix_opened};
 pub use pieces::Piece;
-pub use views::{Seen, views_of};
+pub use views::{Views, views_of};
 
 #[cfg(test)]
 mod tests;

@@ -1,11 +1,11 @@
 //! What was sent, as it will be heard and written.
 ghost use Rattle.std.specs.Prelude.{◌≡◌, IfOk};
-ghost use Rattle.conference.specs.Conferences.{conf_of};
+ghost use Rattle.conference.specs.Conferences.{meaning_of};
 ghost use Rattle.bridge_run.specs.Logs.{IsNew};
 
-use conference::Conf;
+use conference::Conference;
 use link_io::Beat;
-use mixer_posts::{Outbound, sources_to, stream_to};
+use mixer_posts::{PostSink, sources_to, stream_to};
 use mixer_turn::Post;
 use rtt_base::NoMemory;
 use sent_log::SentLog;
@@ -28,13 +28,13 @@ impl Model for Log {
 
 impl Log {
     /// A log of this conference's terminals, to which nothing was sent.
-    pub(crate) fn new(alloc: Global, conf: &Conf) -> Result<Log, NoMemory>
-        ensures { IfOk result (IsNew (conf_of conf.now)) }
+    pub(crate) fn new(alloc: Global, conference: &Conference) -> Result<Log, NoMemory>
+        ensures { IfOk result (IsNew (meaning_of conference.now)) }
     {
-        let mut sent = SentLog::new(alloc, conf.legs.len())?;
-        for own in 0..conf.legs.len() {
-            let stream = stream_to(conf, own);
-            let sources = sources_to(alloc, conf, own)?;
+        let mut sent = SentLog::new(alloc, conference.legs.len())?;
+        for own in 0..conference.legs.len() {
+            let stream = stream_to(conference, own);
+            let sources = sources_to(alloc, conference, own)?;
             sent.add(alloc, stream, sources)?;
         }
         Ok(Log { sent })
@@ -49,7 +49,7 @@ impl Log {
     }
 }
 
-impl Outbound for Log {
+impl PostSink for Log {
     ghost use Rattle.std.proofs.Common.{rules};
     ghost use Rattle.std.specs.Prelude.{◌^◌, []};
     ghost use Rattle.bridge_run.specs.Logs.{HasSent, sources_in};
@@ -58,9 +58,9 @@ impl Outbound for Log {
 
     type Clock = ();
 
-    ghost took = { λ log s pts posts. HasSent s pts log posts };
+    ghost took = { λ log s payload_types posts. HasSent s payload_types log posts };
 
-    ghost halted = { λ log s pts posts now post. Unit {0} };
+    ghost halted = { λ log s payload_types posts now post. Unit {0} };
 
     ghost sources = { λ log. sources_in log };
 

@@ -1,6 +1,6 @@
 //! What is seen at the terminals of a conference, heard on several threads: each hears a part of the terminals.
 ghost use Rattle.std.specs.Prelude.{◌≡◌, ℕ, ◌+◌, ◌*◌, ◌/◌, ◌≤◌, ◌<◌, ◌++◌, min, length, vec_len, All, IfOk, OnOk};
-ghost use Rattle.conference.specs.Conferences.{conf_of};
+ghost use Rattle.conference.specs.Conferences.{meaning_of};
 ghost use Rattle.played.specs.Written.{IsPlayable};
 ghost use Rattle.sent_files.specs.Files.{recordings_of};
 ghost use Rattle.bridge_run.specs.Viewed.{AddsSeen, ArePartsOf, AreOf, AreSumsOf, AreViewsOf, IsPartOf, joined, summed};
@@ -9,8 +9,8 @@ ghost use Rattle.file_spec.specs.declared.limits.TheConstants.{MOST_LEGS};
 
 use crate::known_lines::{KnownLines, lines_on_threads};
 use crate::pieces::Piece;
-use crate::views::{Seen, nothing_seen, views_between, views_of};
-use conference::Conf;
+use crate::views::{Views, nothing_seen, views_between, views_of};
+use conference::Conference;
 use rtt_base::NoMemory;
 use sent_log::SentLog;
 use std::alloc::Global;
@@ -54,43 +54,44 @@ fn begin_of(number: usize, size: usize, terminals: usize) -> usize
 /// What is seen at the terminals of the part with this number.
 fn part_of(
     alloc: Global,
-    conf: &Conf,
+    conference: &Conference,
     log: &SentLog,
     known: &[KnownLines],
     size: usize,
     number: usize,
-) -> Result<Seen, NoMemory>
-    requires each { length log.now ≡ length conf.now.legs }
+) -> Result<Views, NoMemory>
+    requires each { length log.now ≡ length conference.now.legs }
     requires sent { All IsPlayable log.now }
     requires size { size ≤ MOST_LEGS }
     requires number { number < MOST_PARTS }
-    ensures { IfOk result (IsPartOf (conf_of conf.now) (recordings_of log.now) size number) }
+    ensures { IfOk result (IsPartOf (meaning_of conference.now) (recordings_of log.now) size number) }
 {
     let from = begin_of(number, size, log.terminals());
     let to = begin_of(number + 1, size, log.terminals());
-    views_between(alloc, conf, log, known, from, to)
+    views_between(alloc, conference, log, known, from, to)
 }
 
 /// What is seen at the terminals of each part.
 fn parts_of<R: Threads + Sync>(
     rt: &R,
     alloc: Global,
-    conf: &Conf,
+    conference: &Conference,
     log: &SentLog,
     known: &[KnownLines],
     size: usize,
-) -> Result<Vec<Result<Seen, NoMemory>>, NoMemory>
-    requires each { length log.now ≡ length conf.now.legs }
+) -> Result<Vec<Result<Views, NoMemory>>, NoMemory>
+    requires each { length log.now ≡ length conference.now.legs }
     requires sent { All IsPlayable log.now }
     requires size { size ≤ MOST_LEGS }
     ensures count { IfOk result (λ parts. vec_len parts ≡ MOST_PARTS) }
-    ensures parts { IfOk result (λ parts. ArePartsOf (conf_of conf.now) (recordings_of log.now) size parts.items) }
+    ensures parts { IfOk result (λ parts. ArePartsOf (meaning_of conference.now) (recordings_of log.now) size
+        parts.items) }
 {
     match thread::map_indices(
         rt,
         alloc,
         MOST_PARTS,
-        &|number| { part_of(alloc, conf, log, known, size, number) },
+        &|number| { part_of(alloc, conference, log, known, size, number) },
     ) {
         Ok(parts) => Ok(parts),
         Err(_) => Err(NoMemory),
@@ -108,22 +109,22 @@ fn add_pieces(pieces: Vec<Piece>, all: &mut Vec<Piece>) -> Result<(), NoMemory>
 }
 
 /// Adds what is seen at more terminals.
-fn add_part(part: Seen, all: &mut Seen) -> Result<(), NoMemory>
+fn add_part(part: Views, all: &mut Views) -> Result<(), NoMemory>
     requires part { AreOf MOST_LEGS part }
     requires before { (n : ℕ) × (n < MOST_PARTS) × AreOf (MOST_LEGS * n) all.old }
     ensures adds { OnOk result (AddsSeen part all.old all.new) }
     ensures with_it { OnOk result ((n : ℕ) → AreOf (MOST_LEGS * n) all.old → AreOf (MOST_LEGS * (n + 1)) all.new) }
 {
-    let Seen {
+    let Views {
         views,
         packets,
         used,
-        marks,
+        markers,
     } = part;
     add_pieces(views, &mut all.views)?;
     all.packets += packets;
     all.used += used;
-    all.marks += marks;
+    all.markers += markers;
     Ok(())
 }
 
@@ -131,20 +132,20 @@ fn add_part(part: Seen, all: &mut Seen) -> Result<(), NoMemory>
 pub(crate) fn views_on_threads<R: Threads + Sync>(
     rt: &R,
     alloc: Global,
-    conf: &Conf,
+    conference: &Conference,
     log: &SentLog,
-) -> Result<Seen, NoMemory>
-    requires each { length log.now ≡ length conf.now.legs }
+) -> Result<Views, NoMemory>
+    requires each { length log.now ≡ length conference.now.legs }
     requires sent { All IsPlayable log.now }
-    ensures views { IfOk result (λ seen. AreViewsOf (conf_of conf.now) (recordings_of log.now) (joined seen)) }
-    ensures sums { IfOk result (λ seen. AreSumsOf (conf_of conf.now) (recordings_of log.now) (summed seen)) }
+    ensures views { IfOk result (λ seen. AreViewsOf (meaning_of conference.now) (recordings_of log.now) (joined seen)) }
+    ensures sums { IfOk result (λ seen. AreSumsOf (meaning_of conference.now) (recordings_of log.now) (summed seen)) }
 {
     if packets_in(log) < WORTH_THREADS {
-        return views_of(alloc, conf, log);
+        return views_of(alloc, conference, log);
     }
     let size = part_size(log.terminals());
-    let known = lines_on_threads(rt, alloc, conf, log)?;
-    let parts = parts_of(rt, alloc, conf, log, &known, size)?;
+    let known = lines_on_threads(rt, alloc, conference, log)?;
+    let parts = parts_of(rt, alloc, conference, log, &known, size)?;
     let mut total = nothing_seen(alloc);
     for part in parts {
         let seen = part?;

@@ -1,6 +1,6 @@
 use crate::{Mixed, Piece, mix};
 use conf_text::read_conf;
-use conference::Conf;
+use conference::Conference;
 use file_spec::Form;
 use rtpdump_io::{write_opening, write_record};
 use rtt_base::{Bytes, NoMemory};
@@ -58,13 +58,13 @@ fn comes(word: &AtomicBool) -> bool {
 
 // Holds each of two legs at its first item until the other leg has come to its first.
 #[derive(Drop)]
-struct Meeting {
+struct MeetingGate {
     first: AtomicBool,
     second: AtomicBool,
     missed: AtomicBool,
 }
 
-impl Gate for Meeting {
+impl Gate for MeetingGate {
     fn pass(&self, leg: u32) {
         let (mine, other) = if leg == 0 {
             (&self.first, &self.second)
@@ -145,9 +145,9 @@ fn recording(alloc: Global, ssrc: u32, count: u16, gap: u32) -> Result<Bytes, No
     Ok(recording)
 }
 
-fn conf_of(alloc: Global, text: &[u8]) -> Result<Conf, NoMemory> {
+fn conference_of(alloc: Global, text: &[u8]) -> Result<Conference, NoMemory> {
     match read_conf(alloc, text, Form::Files) {
-        Ok(conf) => Ok(conf),
+        Ok(conference) => Ok(conference),
         Err(_) => Err(NoMemory),
     }
 }
@@ -181,11 +181,11 @@ fn add_typing(
 fn mixed<R: Threads + Wait + Sync, G: Gate + Sync>(
     rt: &R,
     alloc: Global,
-    conf: &Conf,
+    conference: &Conference,
     world: &mut MemWorld,
     gate: &G,
 ) -> Result<Mixed, NoMemory> {
-    match mix(rt, alloc, conf, world, gate) {
+    match mix(rt, alloc, conference, world, gate) {
         Ok(mixed) => Ok(mixed),
         Err(_) => Err(NoMemory),
     }
@@ -227,40 +227,40 @@ fn is_same(alloc: Global, one: &Mixed, other: &Mixed) -> Result<bool, NoMemory> 
 
 // Whether this gate missed nothing and the bytes are those without it.
 fn meets<R: Threads + Wait + Sync>(rt: &R, alloc: Global) -> Result<bool, NoMemory> {
-    let conf = conf_of(alloc, CALL)?;
+    let conference = conference_of(alloc, CALL)?;
     let mut world = call_world(alloc, 3)?;
-    let gate = Meeting {
+    let gate = MeetingGate {
         first: AtomicBool::new(false),
         second: AtomicBool::new(false),
         missed: AtomicBool::new(false),
     };
-    let plain = mixed(rt, alloc, &conf, &mut world, &StillGate)?;
-    let held = mixed(rt, alloc, &conf, &mut world, &gate)?;
+    let plain = mixed(rt, alloc, &conference, &mut world, &StillGate)?;
+    let held = mixed(rt, alloc, &conference, &mut world, &gate)?;
     let same = is_same(alloc, &plain, &held)?;
     Ok(same && !gate.missed.load(Ordering::SeqCst))
 }
 
 fn goes_through<R: Threads + Wait + Sync>(rt: &R, alloc: Global) -> Result<bool, NoMemory> {
-    let conf = conf_of(alloc, CALL)?;
+    let conference = conference_of(alloc, CALL)?;
     let mut world = call_world(alloc, 80)?;
     let gate = Seventieth {
         passed: AtomicU64::new(0),
         popped: AtomicBool::new(false),
         missed: AtomicBool::new(false),
     };
-    let plain = mixed(rt, alloc, &conf, &mut world, &StillGate)?;
-    let held = mixed(rt, alloc, &conf, &mut world, &gate)?;
+    let plain = mixed(rt, alloc, &conference, &mut world, &StillGate)?;
+    let held = mixed(rt, alloc, &conference, &mut world, &gate)?;
     let all = gate.passed.load(Ordering::SeqCst) == 81;
     let same = is_same(alloc, &plain, &held)?;
     Ok(same && all && !gate.missed.load(Ordering::SeqCst))
 }
 
 fn types_the_same<R: Threads + Wait + Sync>(rt: &R, alloc: Global) -> Result<bool, NoMemory> {
-    let conf = conf_of(alloc, SIXTEEN)?;
+    let conference = conference_of(alloc, SIXTEEN)?;
     let mut world = MemWorld::new(alloc);
     add_typing(&mut world, alloc, &NAMES, 1001)?;
-    let quick = mixed(rt, alloc, &conf, &mut world, &StillGate)?;
-    let slow = mixed(rt, alloc, &conf, &mut world, &Slow)?;
+    let quick = mixed(rt, alloc, &conference, &mut world, &StillGate)?;
+    let slow = mixed(rt, alloc, &conference, &mut world, &Slow)?;
     Ok(is_same(alloc, &quick, &slow)? && quick.packets > 4000)
 }
 

@@ -5,11 +5,11 @@ use Rattle.std.proofs.Math.Seq.{take-append-add}
 use Rattle.rtt_io.specs.declared.sinks.Sink as sinks
 use Rattle.record_spec.specs.Recorded.{Entry, Parts, noted, nothing_noted, has_room, head_written, part_written, record_in, entry_written, with_entry, begun_with}
 use Rattle.record_spec.proofs.Growing.{written_more, noted_by}
-use Rattle.call_recorder.specs.declared.places.Place.{Place}
+use Rattle.call_recorder.specs.declared.places.FilePosition.{FilePosition}
 use Rattle.call_recorder.specs.Names.{numbered}
 use Rattle.call_recorder.specs.Places.{IsPlaceOf, IsAfter, IsBegun, TellsRoom, entry}
 use Rattle.call_recorder.specs.Files.{AreUnder, files_written}
-use Rattle.call_recorder.specs.Standing.{Keeping, IsWriting, StandsFor, StillHolds, by_file, with_more, with_next}
+use Rattle.call_recorder.specs.Standing.{Keeping, IsWriting, RecorderStandsFor, StillHolds, by_file, with_more, with_next}
 use Rattle.call_recorder.proofs.Under.{apart, kept, kept_both, more}
 use Rattle.call_recorder.proofs.Fronts.{longer, whole}
 
@@ -78,7 +78,7 @@ holds_all stem start contents missing ps behind under =
 -- ---- what it stands for
 
 module _ {F : Type 0} (g : sinks.Ghosts F) where
-  pub is_writing : (contents : List ℕ → Option (List ℕ)) (k : Keeping F) (file : F) (ps : Parts) → k.file ≡ Some file → StandsFor g contents k ps → IsWriting g contents k file ps
+  pub is_writing : (contents : List ℕ → Option (List ℕ)) (k : Keeping F) (file : F) (ps : Parts) → k.file ≡ Some file → RecorderStandsFor g contents k ps → IsWriting g contents k file ps
   is_writing contents k file ps is s = subst (λ (o : Option F). by_file g contents k o ps) is s
 
   -- nothing is pending
@@ -182,7 +182,7 @@ module _ {F : Type 0} (g : sinks.Ghosts F) where
       subst (λ all. AreUnder k.stem after all) (sym (files_are k.start ps)) (more k.stem after k.number 1 (over_written k.start ps) (part_written k.start ps.last) (omega (arith, few, w.number)) over_kept there)
 
   -- and it was begun
-  pub goes_on : (before after : List ℕ → Option (List ℕ)) (old new : Keeping F) (file next : F) (ps : Parts) (at : ℕ) (octets : List ℕ) (place : Place)
+  pub goes_on : (before after : List ℕ → Option (List ℕ)) (old new : Keeping F) (file next : F) (ps : Parts) (at : ℕ) (octets : List ℕ) (place : FilePosition)
       → new.stem ≡ old.stem → new.start ≡ old.start → new.number ≡ old.number + 1 → IsBegun at place → IsAfter place octets new.place
       → new.number < 2 ^ 64 → old.pending ≡ [] → g.name file ≡ numbered old.stem old.number
       → (IsSome (before (g.name file)) → g.name file ≢ numbered old.stem new.number → after (g.name file) ≡ Some (g.took file))
@@ -208,9 +208,9 @@ module _ {F : Type 0} (g : sinks.Ghosts F) where
       → new.stem ≡ old.stem → new.start ≡ old.start → new.number ≡ old.number → IsAfter old.place octets new.place
       → moment ≡ at - old.place.begins
       → (g.tells → g.took grown ++ new.pending ≡ g.took file ++ old.pending ++ entry_written moment octets)
-      → (ps : Parts) → StandsFor g before now ps → IsWriting g after new grown (noted now.start ps (entry at octets))
+      → (ps : Parts) → RecorderStandsFor g before now ps → IsWriting g after new grown (noted now.start ps (entry at octets))
   noted_more before after now old new file grown told at moment octets view is tells room same stem start number behind when took ps stands =
-      let w = is_writing g before old file ps is (subst (λ (k : Keeping F). StandsFor g before k ps) (sym view) stands) in
+      let w = is_writing g before old file ps is (subst (λ (k : Keeping F). RecorderStandsFor g before k ps) (sym view) stands) in
       let fits : has_room old.start ps.last (entry at octets) ≡ true = sym (tells old.start ps.last w.place) ∙ room in
       let is_more : noted now.start ps (entry at octets) ≡ with_more ps (entry at octets) =
       ap (λ (k : Keeping F). noted k.start ps (entry at octets)) (sym view) ∙ ap (λ b. noted_by b ps (entry at octets)) fits in
@@ -218,7 +218,7 @@ module _ {F : Type 0} (g : sinks.Ghosts F) where
       (subst (λ c. IsWriting g c new grown (with_more ps (entry at octets))) (sym same) (added before old new file grown ps at moment octets stem start number behind when took w))
 
   -- in the next one, behind a file in which all that was pending was written
-  pub noted_next : (before mid after : List ℕ → Option (List ℕ)) (now old new : Keeping F) (file written next : F) (told : Bool) (at : ℕ) (octets : List ℕ) (place : Place)
+  pub noted_next : (before mid after : List ℕ → Option (List ℕ)) (now old new : Keeping F) (file written next : F) (told : Bool) (at : ℕ) (octets : List ℕ) (place : FilePosition)
       → old ≡ now → old.file ≡ Some file → TellsRoom old.place at octets told → told ≡ false → mid ≡ before
       → (g.tells → g.took written ≡ g.took file ++ old.pending)
       → new.stem ≡ old.stem → new.start ≡ old.start → new.number ≡ old.number + 1 → IsBegun at place → IsAfter place octets new.place
@@ -227,9 +227,9 @@ module _ {F : Type 0} (g : sinks.Ghosts F) where
       → ((n : List ℕ) → n ≢ g.name written → n ≢ numbered old.stem new.number → after n ≡ mid n)
       → g.took next ≡ head_written (old.start + at) → new.pending ≡ entry_written 0 octets
       → IsSome (after (numbered old.stem new.number))
-      → (ps : Parts) → StandsFor g before now ps → IsWriting g after new next (noted now.start ps (entry at octets))
+      → (ps : Parts) → RecorderStandsFor g before now ps → IsWriting g after new next (noted now.start ps (entry at octets))
   noted_next before mid after now old new file written next told at octets place view is tells room same wrote stem start number begins behind small named stored others took pending there ps stands =
-      let w = is_writing g before old file ps is (subst (λ (k : Keeping F). StandsFor g before k ps) (sym view) stands) in
+      let w = is_writing g before old file ps is (subst (λ (k : Keeping F). RecorderStandsFor g before k ps) (sym view) stands) in
       let full : has_room old.start ps.last (entry at octets) ≡ false = sym (tells old.start ps.last w.place) ∙ room in
       let is_next : noted now.start ps (entry at octets) ≡ with_next ps (entry at octets) =
       ap (λ (k : Keeping F). noted k.start ps (entry at octets)) (sym view) ∙ ap (λ b. noted_by b ps (entry at octets)) full in
@@ -241,12 +241,12 @@ module _ {F : Type 0} (g : sinks.Ghosts F) where
   pub stays_all : (before after : List ℕ → Option (List ℕ)) (now old new : Keeping F) (file written : F)
       → old ≡ now → old.file ≡ Some file → after ≡ before → new ≡ record { stem = old.stem; start = old.start; number = old.number; place = old.place; file = Some written; pending = [] }
       → (g.tells → g.took written ≡ g.took file ++ old.pending)
-      → (ps : Parts) → StandsFor g before now ps → StandsFor g after new ps
+      → (ps : Parts) → RecorderStandsFor g before now ps → RecorderStandsFor g after new ps
   stays_all before after now old new file written view is same so wrote ps stands =
-      let w = is_writing g before old file ps is (subst (λ (k : Keeping F). StandsFor g before k ps) (sym view) stands) in
+      let w = is_writing g before old file ps is (subst (λ (k : Keeping F). RecorderStandsFor g before k ps) (sym view) stands) in
       let v = flushed g before old file written ps wrote w in
-      subst (λ (k : Keeping F). StandsFor g after k ps) (sym so)
-      (subst (λ c. StandsFor g c (record { stem = old.stem; start = old.start; number = old.number; place = old.place; file = Some written; pending = [] }) ps) (sym same)
+      subst (λ (k : Keeping F). RecorderStandsFor g after k ps) (sym so)
+      (subst (λ c. RecorderStandsFor g c (record { stem = old.stem; start = old.start; number = old.number; place = old.place; file = Some written; pending = [] }) ps) (sym same)
       (record { tells = v.tells; number = v.number; place = v.place; over = v.over; took = v.took; there = v.there }))
 
   -- ---- where it ended
@@ -257,9 +257,9 @@ module _ {F : Type 0} (g : sinks.Ghosts F) where
       → moment ≡ at - old.place.begins
       → (g.tells → IsSome (before (g.name file)) → (n : ℕ) × (after (g.name file) ≡ Some (g.took file ++ take n (old.pending ++ entry_written moment octets))))
       → ((n : List ℕ) → n ≢ g.name file → after n ≡ before n)
-      → (ps : Parts) → StandsFor g before now ps → StillHolds now.stem now.start after (length now.pending) ps (record_in ps.last.begins (entry at octets))
+      → (ps : Parts) → RecorderStandsFor g before now ps → StillHolds now.stem now.start after (length now.pending) ps (record_in ps.last.begins (entry at octets))
   left_more before after now old file at moment octets view is small named when left others ps stands =
-      let w = is_writing g before old file ps is (subst (λ (k : Keeping F). StandsFor g before k ps) (sym view) stands) in
+      let w = is_writing g before old file ps is (subst (λ (k : Keeping F). RecorderStandsFor g before k ps) (sym view) stands) in
       let begins : moment ≡ at - ps.last.begins = when ∙ ap (λ b. at - b) w.place.begins in
       subst (λ (k : Keeping F). StillHolds k.stem k.start after (length k.pending) ps (record_in ps.last.begins (entry at octets))) view
       (subst (λ m. StillHolds old.stem old.start after (length old.pending) ps (entry_written m octets)) begins
@@ -270,9 +270,9 @@ module _ {F : Type 0} (g : sinks.Ghosts F) where
       → old ≡ now → old.file ≡ Some file → old.number < 2 ^ 64 → g.name file ≡ numbered old.stem old.number
       → (g.tells → IsSome (before (g.name file)) → (n : ℕ) × (after (g.name file) ≡ Some (g.took file ++ take n old.pending)))
       → ((n : List ℕ) → n ≢ g.name file → after n ≡ before n)
-      → (ps : Parts) → StandsFor g before now ps → StillHolds now.stem now.start after (length now.pending) ps (behind ps)
+      → (ps : Parts) → RecorderStandsFor g before now ps → StillHolds now.stem now.start after (length now.pending) ps (behind ps)
   left_pending before after now old file behind view is small named left others ps stands =
-      let w = is_writing g before old file ps is (subst (λ (k : Keeping F). StandsFor g before k ps) (sym view) stands) in
+      let w = is_writing g before old file ps is (subst (λ (k : Keeping F). RecorderStandsFor g before k ps) (sym view) stands) in
       subst (λ (k : Keeping F). StillHolds k.stem k.start after (length k.pending) ps (behind ps)) view
       (broke_off before after old file ps (behind ps) small named
       (λ there. let l = left w.tells there in
@@ -285,9 +285,9 @@ module _ {F : Type 0} (g : sinks.Ghosts F) where
       → (g.tells → g.took written ≡ g.took file ++ old.pending) → g.name written ≡ numbered old.stem old.number
       → (IsSome (mid (g.name written)) → after (g.name written) ≡ Some (g.took written))
       → ((n : List ℕ) → n ≢ g.name written → after n ≡ mid n)
-      → (ps : Parts) → StandsFor g before now ps → StillHolds now.stem now.start after (length now.pending) ps (behind ps)
+      → (ps : Parts) → RecorderStandsFor g before now ps → StillHolds now.stem now.start after (length now.pending) ps (behind ps)
   left_done before mid after now old file written behind view is small same wrote named stored others ps stands =
-      let w = is_writing g before old file ps is (subst (λ (k : Keeping F). StandsFor g before k ps) (sym view) stands) in
+      let w = is_writing g before old file ps is (subst (λ (k : Keeping F). RecorderStandsFor g before k ps) (sym view) stands) in
       let v : IsWriting g mid (emptied g old) written ps = subst (λ c. IsWriting g c (emptied g old) written ps) (sym same) (flushed g before old file written ps wrote w) in
       subst (λ (k : Keeping F). StillHolds k.stem k.start after (length k.pending) ps (behind ps)) view
       (holds_all old.stem old.start after (length old.pending) ps (behind ps) (handed_back mid after (emptied g old) written ps small refl named stored others v))
@@ -298,9 +298,9 @@ module _ {F : Type 0} (g : sinks.Ghosts F) where
       → (g.tells → g.took written ≡ g.took file ++ old.pending) → g.name written ≡ numbered old.stem old.number
       → (IsSome (mid (g.name written)) → after (g.name written) ≡ Some (g.took written))
       → ((n : List ℕ) → n ≢ g.name written → after n ≡ mid n)
-      → (ps : Parts) → StandsFor g before now ps → AreUnder now.stem after (files_written now.start ps)
+      → (ps : Parts) → RecorderStandsFor g before now ps → AreUnder now.stem after (files_written now.start ps)
   all_lies before mid after now old file written view is small same wrote named stored others ps stands =
-      let w = is_writing g before old file ps is (subst (λ (k : Keeping F). StandsFor g before k ps) (sym view) stands) in
+      let w = is_writing g before old file ps is (subst (λ (k : Keeping F). RecorderStandsFor g before k ps) (sym view) stands) in
       let v : IsWriting g mid (emptied g old) written ps = subst (λ c. IsWriting g c (emptied g old) written ps) (sym same) (flushed g before old file written ps wrote w) in
       subst (λ (k : Keeping F). AreUnder k.stem after (files_written k.start ps)) view
       (handed_back mid after (emptied g old) written ps small refl named stored others v)
@@ -311,9 +311,9 @@ module _ {F : Type 0} (g : sinks.Ghosts F) where
       → (g.tells → g.took written ≡ g.took file ++ old.pending) → g.name written ≡ numbered old.stem old.number
       → (IsSome (mid (g.name written)) → g.name written ≢ numbered old.stem number → after (g.name written) ≡ Some (g.took written))
       → ((n : List ℕ) → n ≢ g.name written → n ≢ numbered old.stem number → after n ≡ mid n)
-      → (ps : Parts) → StandsFor g before now ps → StillHolds now.stem now.start after (length now.pending) ps (behind ps)
+      → (ps : Parts) → RecorderStandsFor g before now ps → StillHolds now.stem now.start after (length now.pending) ps (behind ps)
   left_next before mid after now old file written number behind view is next small same wrote named stored others ps stands =
-      let w = is_writing g before old file ps is (subst (λ (k : Keeping F). StandsFor g before k ps) (sym view) stands) in
+      let w = is_writing g before old file ps is (subst (λ (k : Keeping F). RecorderStandsFor g before k ps) (sym view) stands) in
       let v : IsWriting g mid (emptied g old) written ps = subst (λ c. IsWriting g c (emptied g old) written ps) (sym same) (flushed g before old file written ps wrote w) in
       subst (λ (k : Keeping F). StillHolds k.stem k.start after (length k.pending) ps (behind ps)) view
       (holds_all old.stem old.start after (length old.pending) ps (behind ps) (next_under mid after (emptied g old) written ps number next small refl named stored others v))

@@ -2,7 +2,7 @@
 use Rattle.std.specs.Prelude.{◌≡◌, ℕ, ◌+◌, ◌≤◌, Option, None, Some, IsSome, List, [], ◌∷◌, ◌++◌, length, map, take}
 use Rattle.rtt_io.specs.declared.sinks.Sink as sinks
 use Rattle.record_spec.specs.Recorded.{Entry, Parts, noted, part_written, record_in, with_entry, begun_with}
-use Rattle.call_recorder.specs.declared.places.Place.{Place}
+use Rattle.call_recorder.specs.declared.places.FilePosition.{FilePosition}
 use Rattle.call_recorder.specs.Names.{numbered}
 use Rattle.call_recorder.specs.Places.{IsPlaceOf}
 use Rattle.call_recorder.specs.Files.{AreUnder, files_written}
@@ -12,7 +12,7 @@ pub record Keeping (F : Type 0) : Type 0 where
   pub stem : List ℕ
   pub start : ℕ
   pub number : ℕ
-  pub place : Place
+  pub place : FilePosition
   pub file : Option F
   -- whole records that are not in the file yet
   pub pending : List ℕ
@@ -51,25 +51,25 @@ module _ {F : Type 0} (g : sinks.Ghosts F) where
   by_file contents k (Some file) ps = IsWriting contents k file ps
 
   -- these are its files
-  abbrev pub StandsFor : (List ℕ → Option (List ℕ)) → Keeping F → Parts → Type 0
-  StandsFor contents k ps = by_file contents k k.file ps
+  abbrev pub RecorderStandsFor : (List ℕ → Option (List ℕ)) → Keeping F → Parts → Type 0
+  RecorderStandsFor contents k ps = by_file contents k k.file ps
 
   -- whatever were its files, an entry more was noted
   abbrev pub NotesMore : (before after : List ℕ → Option (List ℕ)) → (old new : Keeping F) → Entry → Type 0
-  NotesMore before after old new e = (ps : Parts) → StandsFor before old ps → StandsFor after new (noted old.start ps e)
+  NotesMore before after old new e = (ps : Parts) → RecorderStandsFor before old ps → RecorderStandsFor after new (noted old.start ps e)
 
   -- whatever are its files, they stay that
   abbrev pub StaysAll : (before after : List ℕ → Option (List ℕ)) → (old new : Keeping F) → Type 0
-  StaysAll before after old new = (ps : Parts) → StandsFor before old ps → StandsFor after new ps
+  StaysAll before after old new = (ps : Parts) → RecorderStandsFor before old ps → RecorderStandsFor after new ps
 
   -- whatever are its files, all that stands in them lies under their names
   abbrev pub LiesThere : (before after : List ℕ → Option (List ℕ)) → Keeping F → Type 0
-  LiesThere before after k = (ps : Parts) → StandsFor before k ps → AreUnder k.stem after (files_written k.start ps)
+  LiesThere before after k = (ps : Parts) → RecorderStandsFor before k ps → AreUnder k.stem after (files_written k.start ps)
 
   -- whatever were its files, all that was not pending lies there, and a front of what was
   abbrev pub KeepsWritten : (before after : List ℕ → Option (List ℕ)) → Keeping F → Type 0
-  KeepsWritten before after k = (ps : Parts) → StandsFor before k ps → StillHolds k.stem k.start after (length k.pending) ps []
+  KeepsWritten before after k = (ps : Parts) → RecorderStandsFor before k ps → StillHolds k.stem k.start after (length k.pending) ps []
 
   -- the same, where this entry was to be noted: where all that was pending lies there, so may a front of its record
   abbrev pub KeepsNoted : (before after : List ℕ → Option (List ℕ)) → Keeping F → Entry → Type 0
-  KeepsNoted before after k e = (ps : Parts) → StandsFor before k ps → StillHolds k.stem k.start after (length k.pending) ps (record_in ps.last.begins e)
+  KeepsNoted before after k e = (ps : Parts) → RecorderStandsFor before k ps → StillHolds k.stem k.start after (length k.pending) ps (record_in ps.last.begins e)

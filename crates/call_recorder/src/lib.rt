@@ -4,7 +4,7 @@
 mod names;
 mod octets;
 mod places;
-mod placing;
+mod positions;
 mod recorders;
 
 pub use names::{Way, file_name, stem_of};

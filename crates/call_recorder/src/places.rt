@@ -4,7 +4,7 @@ ghost use Rattle.wire_spec.specs.declared.limits.TheConstants.{MOST_RECORDING_OC
 
 /// How far the last file of a recording is: the moment at which it begins (milliseconds), and how many octets it has.
 #[derive(Clone, Copy, Debug)]
-pub(crate) struct Place {
+pub(crate) struct FilePosition {
     pub(crate) begins: u64,
     pub(crate) size: u32,
     ghost small: { size ≤ MOST_RECORDING_OCTETS },

@@ -6,12 +6,12 @@ ghost use Rattle.record_spec.specs.Recorded.{entry_written, head_written, nothin
 ghost use Rattle.call_recorder.specs.declared.places.TheConstants.{MOST_PENDING_OCTETS};
 ghost use Rattle.call_recorder.specs.Places.{entry};
 ghost use Rattle.call_recorder.specs.Names.{numbered};
-ghost use Rattle.call_recorder.specs.Standing.{KeepsNoted, KeepsWritten, LiesThere, NotesMore, StandsFor, StaysAll};
+ghost use Rattle.call_recorder.specs.Standing.{KeepsNoted, KeepsWritten, LiesThere, NotesMore, RecorderStandsFor, StaysAll};
 ghost use Rattle.call_recorder.specs.Writing.{IsCalm, IsCaused, IsFurther, LeavesFront, SameButBoth};
 
 use crate::names::file_name;
 use crate::octets::{append_record, head_piece};
-use crate::places::{MOST_PENDING_OCTETS, Place};
+use crate::places::{MOST_PENDING_OCTETS, FilePosition};
 use journal_io::Journals;
 use rtt_base::{Bytes, Failed, NoMemory};
 use rtt_io::Sink;
@@ -39,7 +39,7 @@ pub struct Recorder<J: Journals> {
     /// The number of the last file.
     number: u64,
     /// That behind what is pending.
-    place: Place,
+    place: FilePosition,
     /// The last file; none where the recording ended.
     file: Option<J::File>,
     /// Whole records that are not in the last file yet.
@@ -261,7 +261,8 @@ impl<J: Journals> Recorder<J> {
     ) -> Result<Recorder<J>, RecordFault>
         requires { start < 2 ^ 63 }
         ensures named { IfOk result (λ r. (r.stem ≡ string_bytes stem) × (r.start ≡ start)) }
-        ensures stands { J.tells → IfOk result (λ r. StandsFor J.File.Sink (J.contents journals.new) r nothing_noted) }
+        ensures stands { J.tells → IfOk result (λ r. RecorderStandsFor J.File.Sink (J.contents journals.new) r
+            nothing_noted) }
         ensures calm { result ≢ Err RecordFault.Failed → IsCalm J.own_faults J.object_faults journals.old journals.new }
         ensures caused { result ≡ Err RecordFault.Failed → IsCaused J.own_faults J.object_faults journals.old journals.new (numbered (string_bytes stem) 1) }
     {
@@ -274,7 +275,7 @@ impl<J: Journals> Recorder<J> {
                 stem,
                 start,
                 number: 1,
-                place: Place::at(0),
+                place: FilePosition::at(0),
                 file: Some(file),
                 pending: Bytes::new(alloc),
             }),
@@ -326,7 +327,7 @@ impl<J: Journals> Recorder<J> {
             t,
             octets,
         )?;
-        self.place = Place::at(at).after(octets);
+        self.place = FilePosition::at(at).after(octets);
         self.file = Some(file);
         Ok(())
     }

@@ -1,28 +1,28 @@
 -- A divider that is told of the records of a recording, one after another.
 use Rattle.std.proofs.Common.{◌≡◌, ℕ, ◌≤◌, List, [], ◌∷◌, ◌++◌, length, refl, sym, subst}
-use Rattle.rtt_base.specs.declared.text_packets.Pts.{Pts}
+use Rattle.rtt_base.specs.declared.text_packets.PayloadTypes.{PayloadTypes}
 use Rattle.wire_spec.specs.Packets.{Arrival}
 use Rattle.wire_spec.specs.Dump.{Item, arrivals_after, arrivals_with}
 use Rattle.gap_tracker.specs.States.{arrival_count}
 use Rattle.rtpdump_io.specs.declared.readers.DumpReader.{DumpReader}
 use Rattle.rtpdump_io.proofs.Records.{ReadSome}
-use Rattle.cascade.specs.declared.dividers.Divider.{Divider}
+use Rattle.cascade.specs.declared.dividers.Demux.{Demux}
 use Rattle.cascade.specs.Dividers.{IsListening, Listens}
 use Rattle.cascade.specs.Splits.{TakesItem, TakesItems}
 
-after_more : (ssrc : ℕ) (pts : Pts) (past : List Arrival) (items : List Item) (item : Item) → arrivals_after ssrc pts past (items ++ item ∷ []) ≡ arrivals_with ssrc pts item (arrivals_after ssrc pts past items)
-after_more ssrc pts past [] item = refl
-after_more ssrc pts past (i ∷ items) item = after_more ssrc pts (arrivals_with ssrc pts i past) items item
+after_more : (ssrc : ℕ) (payload_types : PayloadTypes) (past : List Arrival) (items : List Item) (item : Item) → arrivals_after ssrc payload_types past (items ++ item ∷ []) ≡ arrivals_with ssrc payload_types item (arrivals_after ssrc payload_types past items)
+after_more ssrc payload_types past [] item = refl
+after_more ssrc payload_types past (i ∷ items) item = after_more ssrc payload_types (arrivals_with ssrc payload_types i past) items item
 
 -- one record more
-pub takes_more : (l m n : Divider) (items : List Item) (item : Item) → TakesItems l m items → TakesItem m n item → TakesItems l n (items ++ item ∷ [])
+pub takes_more : (l m n : Demux) (items : List Item) (item : Item) → TakesItems l m items → TakesItem m n item → TakesItems l n (items ++ item ∷ [])
 takes_more l m n items item h one t sources past is =
-    subst (Listens n t sources) (sym (after_more t.ssrc t.pts past items item)) (one t sources (arrivals_after t.ssrc t.pts past items) (h t sources past is))
+    subst (Listens n t sources) (sym (after_more t.ssrc t.payload_types past items item)) (one t sources (arrivals_after t.ssrc t.payload_types past items) (h t sources past is))
 
 -- what holds of the reader and the divider between two records
-pub record Going {S : Type 0} (tells : Type 0) (left : S → List ℕ) (faults : S → ℕ) (name : S → List ℕ) (before : DumpReader S) (l : Divider) (now : DumpReader S) (m : Divider) : Type 0 where
+pub record Going {S : Type 0} (tells : Type 0) (left : S → List ℕ) (faults : S → ℕ) (name : S → List ℕ) (before : DumpReader S) (l : Demux) (now : DumpReader S) (m : Demux) : Type 0 where
   pub items : List Item
   pub read : ReadSome tells left faults name before now items
   pub listens : IsListening m
-  pub few : arrival_count m.tracker ≤ length items
+  pub few : arrival_count m.buffer ≤ length items
   pub hears : TakesItems l m items

@@ -3,12 +3,12 @@
 #![tactic(auto)]
 
 mod dividers;
-mod dividing;
+mod routes;
 mod splits;
 mod splitters;
 mod trunk_sources;
 
-pub use splits::{Splits, TrunkConf, split};
+pub use splits::{Splits, DemuxSettings, split};
 pub use trunk_sources::{SplitSource, TrunkSource};
 
 #[cfg(test)]

@@ -3,23 +3,23 @@ ghost use Rattle.std.specs.Prelude.{◌≡◌, ◌≤◌, ◌<◌, ◌^◌, [], 
 ghost use Rattle.wire_spec.specs.SentPackets.{packet_written};
 ghost use Rattle.stream_spec.specs.Ready.{chunk};
 ghost use Rattle.cascade_spec.specs.Splitting.{packet_of};
-ghost use Rattle.cascade.specs.Splitters.{Splits, Adds, Joins, Parts, Writes, Closes};
+ghost use Rattle.cascade.specs.Splitters.{Splits, AddsChunk, Joins, Parts, Writes, Closes};
 ghost use Rattle.rtt_base.specs.declared.limits.TheConstants.{MOST_TEXT_OCTETS};
 ghost use Rattle.wire_spec.specs.declared.limits.TheConstants.{LAST_RECORD_MOMENT};
 
 use rtp_header::{RtpHead, write_rtp};
 use rtpdump_io::{write_opening, write_record};
-use rtt_base::{Bytes, NoMemory, Packet, Pts, Text};
+use rtt_base::{Bytes, NoMemory, Packet, PayloadTypes, Text};
 use std::alloc::Global;
 use wire_spec::limits::LAST_RECORD_MOMENT;
 
 /// The texts of one source, written as a recording. Neighbours that are ready at one moment go into one packet, as many as
 /// fit.
 #[derive(Drop)]
-pub struct Splitter {
+pub struct SourceRecording {
     /// The packets bear it as their SSRC.
     pub(crate) source: u32,
-    pts: Pts,
+    payload_types: PayloadTypes,
     /// What is written of the recording.
     octets: Bytes,
     /// The sequence number of the next packet.
@@ -41,16 +41,16 @@ fn moment_of(ready: u64) -> u32
 }
 
 /// Puts a packet of the source in plain form in place of what is in `out`.
-fn write_plain(source: u32, pts: Pts, seq: u16, stamp: u32, text: &[u8], out: &mut Packet)
-    requires t140 { pts.t140 < 2 ^ 7 }
+fn write_plain(source: u32, payload_types: PayloadTypes, seq: u16, timestamp: u32, text: &[u8], out: &mut Packet)
+    requires t140 { payload_types.t140 < 2 ^ 7 }
     requires few { length text.now ≤ MOST_TEXT_OCTETS }
-    ensures packet { out.new ≡ packet_written pts (packet_of source seq stamp text.now) }
+    ensures packet { out.new ≡ packet_written payload_types (packet_of source seq timestamp text.now) }
 {
     let head = RtpHead {
-        mark: false,
-        pt: pts.t140,
+        marker_bit: false,
+        pt: payload_types.t140,
         seq,
-        stamp,
+        timestamp,
         ssrc: source,
         csrc: None,
     };
@@ -58,16 +58,16 @@ fn write_plain(source: u32, pts: Pts, seq: u16, stamp: u32, text: &[u8], out: &m
     let _ = write_rtp(&head, text, out);
 }
 
-impl Splitter {
+impl SourceRecording {
     /// A recording without packets.
-    pub fn new(alloc: Global, source: u32, pts: Pts) -> Result<Splitter, NoMemory>
-        ensures splits { IfOk result (λ splitter. Splits splitter pts source []) }
+    pub fn new(alloc: Global, source: u32, payload_types: PayloadTypes) -> Result<SourceRecording, NoMemory>
+        ensures splits { IfOk result (λ splitter. Splits splitter payload_types source []) }
     {
         let mut octets = Bytes::new(alloc);
         write_opening(&mut octets)?;
-        Ok(Splitter {
+        Ok(SourceRecording {
             source,
-            pts,
+            payload_types,
             octets,
             seq: 0,
             least: 0,
@@ -79,17 +79,17 @@ impl Splitter {
 
     /// Writes the group in hand, by way of `out`.
     fn write(&mut self, out: &mut Packet) -> Result<(), NoMemory>
-        requires t140 { self.old.pts.t140 < 2 ^ 7 }
+        requires t140 { self.old.payload_types.t140 < 2 ^ 7 }
         ensures writes { OnOk result (Writes self.old self.new) }
-        ensures pts { self.new.pts ≡ self.old.pts }
+        ensures payload_types { self.new.payload_types ≡ self.old.payload_types }
     {
         let moment = moment_of(self.ready);
-        let stamp = moment.max(self.least);
+        let timestamp = moment.max(self.least);
         let text = self.text.as_slice();
-        write_plain(self.source, self.pts, self.seq, stamp, text, out);
+        write_plain(self.source, self.payload_types, self.seq, timestamp, text, out);
         write_record(moment, out.as_slice(), &mut self.octets)?;
         self.seq = self.seq.wrapping_add(1);
-        self.least = stamp.wrapping_add(1);
+        self.least = timestamp.wrapping_add(1);
         Ok(())
     }
 
@@ -117,10 +117,10 @@ impl Splitter {
 
     /// Adds a text of at most 1023 octets that is ready at this moment. After `NoMemory` the recording is of no use.
     pub fn add(&mut self, ready: u64, text: &[u8], out: &mut Packet) -> Result<(), NoMemory>
-        requires t140 { self.old.pts.t140 < 2 ^ 7 }
+        requires t140 { self.old.payload_types.t140 < 2 ^ 7 }
         requires few { length text.now ≤ MOST_TEXT_OCTETS }
-        ensures adds { OnOk result (Adds self.old self.new (chunk 0 ready text.now)) }
-        ensures pts { self.new.pts ≡ self.old.pts }
+        ensures adds { OnOk result (AddsChunk self.old self.new (chunk 0 ready text.now)) }
+        ensures payload_types { self.new.payload_types ≡ self.old.payload_types }
     {
         if self.holds {
             if self.join(ready, text) {
@@ -134,9 +134,9 @@ impl Splitter {
 
     /// Writes what is in hand: all texts were added. After `NoMemory` the recording is of no use.
     pub fn close(&mut self, out: &mut Packet) -> Result<(), NoMemory>
-        requires t140 { self.old.pts.t140 < 2 ^ 7 }
+        requires t140 { self.old.payload_types.t140 < 2 ^ 7 }
         ensures closes { OnOk result (Closes self.old self.new) }
-        ensures pts { self.new.pts ≡ self.old.pts }
+        ensures payload_types { self.new.payload_types ≡ self.old.payload_types }
     {
         if self.holds {
             self.write(out)?;

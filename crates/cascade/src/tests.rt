@@ -1,14 +1,14 @@
-use crate::{TrunkConf, split};
+use crate::{DemuxSettings, split};
 use rtpdump_io::RecordingFault;
-use rtt_base::{Bytes, NoMemory, Pts};
+use rtt_base::{Bytes, NoMemory, PayloadTypes};
 use rtt_io::SteadySource;
 use std::alloc::Global;
 use std::process::Abort;
 use std::test::Fail;
 use wire_spec::DumpKind;
 
-const CONF: TrunkConf = TrunkConf {
-    pts: Pts { t140: 98, red: 100 },
+const SETTINGS: DemuxSettings = DemuxSettings {
+    payload_types: PayloadTypes { t140: 98, red: 100 },
     wait: 1000,
     limit: 2_097_152,
 };
@@ -55,7 +55,7 @@ fn recording(alloc: Global, records: &[&[u8]]) -> Result<Bytes, NoMemory> {
 // Expects that a recording is split into this one for 1001, and into an empty one for 2001.
 fn expect_split(rt: &impl Abort, alloc: Global, sent: Bytes, first: Bytes) -> Result<(), Fail> {
     let source = SteadySource::new(sent);
-    let (_, splits) = split(alloc, source, 9000, &[1001, 2001], CONF);
+    let (_, splits) = split(alloc, source, 9000, &[1001, 2001], SETTINGS);
     let Ok(splits) = splits else {
         panic!(rt; "the recording is not split");
     };
@@ -82,7 +82,7 @@ fn texts_that_are_ready_together_go_into_one_packet(rt: HostRuntime) -> Result<(
 #[test]
 fn a_recording_that_breaks_off_is_not_split(rt: HostRuntime) -> Result<(), Fail> {
     let source = SteadySource::new(recording(rt.alloc(), &[&FIRST, b"\0\x23\0"])?);
-    let (_, splits) = split(rt.alloc(), source, 9000, &[1001], CONF);
+    let (_, splits) = split(rt.alloc(), source, 9000, &[1001], SETTINGS);
     let Err(RecordingFault::Dump(fault)) = splits else {
         panic!(rt; "a part of the recording is split");
     };

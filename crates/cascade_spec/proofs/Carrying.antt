@@ -5,7 +5,7 @@ use Rattle.std.specs.List.{AllByRecursion, concat}
 use Rattle.std.proofs.lemmas.Bool.{and_parts, eq-eqb, leb-true}
 use Rattle.std.proofs.lemmas.List.Folds.{concat-append}
 use Rattle.std.proofs.lemmas.Str.{IsUtf8-append}
-use Rattle.rtt_base.specs.declared.text_packets.Pts.{Pts}
+use Rattle.rtt_base.specs.declared.text_packets.PayloadTypes.{PayloadTypes}
 use Rattle.wire_spec.specs.Packets.{Arrival, has_text}
 use Rattle.wire_spec.specs.Text.{text_of}
 use Rattle.wire_spec.specs.SentPackets.{packet_written}
@@ -14,7 +14,7 @@ use Rattle.wire_spec.proofs.SentBack.{sent_back}
 use Rattle.wire_spec.proofs.Recordings.{read_back}
 use Rattle.stream_spec.specs.Carries.{Groups}
 use Rattle.stream_spec.specs.Ready.{Chunk}
-use Rattle.cascade_spec.specs.Splitting.{Group, alone, groups, groups_from, joined, joins, moment_of, packet_of, packets_from, record_of, stamp_of}
+use Rattle.cascade_spec.specs.Splitting.{Group, alone, groups, groups_from, joined, joins, moment_of, packet_of, packets_from, record_of, timestamp_of}
 use Rattle.cascade_spec.specs.Laws.{AreSendable, IsSendable, IsStream}
 use Rattle.rtt_base.specs.declared.limits.TheConstants.{MOST_TEXT_OCTETS}
 
@@ -74,49 +74,49 @@ groups_sendable [] q = tt
 groups_sendable (c ∷ cs) q = from_sendable (alone c) cs q.0 q.1
 
 -- ---- packets
-plain_size : (pts : Pts) (s seq stamp : ℕ) (text : List ℕ) → length (packet_written pts (packet_of s seq stamp text)) ≡ 12 + length text
-plain_size pts s seq stamp text = rw (eq-eqb s s refl) (omega arith)
+plain_size : (payload_types : PayloadTypes) (s seq timestamp : ℕ) (text : List ℕ) → length (packet_written payload_types (packet_of s seq timestamp text)) ≡ 12 + length text
+plain_size payload_types s seq timestamp text = rw (eq-eqb s s refl) (omega arith)
 
-pub record IsBack (pts : Pts) (s : ℕ) (a : Arrival) : Type 0 where
-  pub text_is : text_of (packet_written pts a.packet) (Some s) pts ≡ Ok a.packet
-  pub record_fits : FitsRecord (record_of pts a)
+pub record IsBack (payload_types : PayloadTypes) (s : ℕ) (a : Arrival) : Type 0 where
+  pub text_is : text_of (packet_written payload_types a.packet) (Some s) payload_types ≡ Ok a.packet
+  pub record_fits : FitsRecord (record_of payload_types a)
 
-one_back : (pts : Pts) (s seq stamp : ℕ) (g : Group) → IsStream pts s → seq < 2 ^ 16 → stamp < 2 ^ 32 → IsSendable g.text → IsBack pts s (record { time = moment_of g; packet = packet_of s seq stamp g.text })
-one_back pts s seq stamp g is n m p =
-    let size = plain_size pts s seq stamp g.text in
+one_back : (payload_types : PayloadTypes) (s seq timestamp : ℕ) (g : Group) → IsStream payload_types s → seq < 2 ^ 16 → timestamp < 2 ^ 32 → IsSendable g.text → IsBack payload_types s (record { time = moment_of g; packet = packet_of s seq timestamp g.text })
+one_back payload_types s seq timestamp g is n m p =
+    let size = plain_size payload_types s seq timestamp g.text in
     record {
-      text_is = sent_back pts (packet_of s seq stamp g.text) (Some s)
-          (record { seq = n; stamp = m; ssrc = is.ssrc; source = is.ssrc; few = omega arith; older = tt; primary = (omega (arith, p.few), p.utf8); t140 = is.t140; red = is.red; differ = is.differ })
+      text_is = sent_back payload_types (packet_of s seq timestamp g.text) (Some s)
+          (record { seq = n; timestamp = m; ssrc = is.ssrc; source = is.ssrc; few = omega arith; older = tt; primary = (omega (arith, p.few), p.utf8); t140 = is.t140; red = is.red; differ = is.differ })
           (eq-eqb s s refl) (omega (arith, size, p.few));
       record_fits = record { time = omega arith; some = omega (arith, size); few = omega (arith, size, p.few) };
     }
 
-pub all_back : (pts : Pts) (s seq least : ℕ) (gs : List Group) → IsStream pts s → seq < 2 ^ 16 → least < 2 ^ 32 → AllSendable gs → AllByRecursion (IsBack pts s) (packets_from s seq least gs)
-all_back pts s seq least [] is n m q = tt
-all_back pts s seq least (g ∷ gs) is n m q = (
-  one_back pts s seq (stamp_of least g) g is n (omega (arith, m)) q.0,
-  all_back pts s ((seq + 1) % 2 ^ 16) ((stamp_of least g + 1) % 2 ^ 32) gs is (omega arith) (omega arith) q.1,
+pub all_back : (payload_types : PayloadTypes) (s seq least : ℕ) (gs : List Group) → IsStream payload_types s → seq < 2 ^ 16 → least < 2 ^ 32 → AllSendable gs → AllByRecursion (IsBack payload_types s) (packets_from s seq least gs)
+all_back payload_types s seq least [] is n m q = tt
+all_back payload_types s seq least (g ∷ gs) is n m q = (
+  one_back payload_types s seq (timestamp_of least g) g is n (omega (arith, m)) q.0,
+  all_back payload_types s ((seq + 1) % 2 ^ 16) ((timestamp_of least g + 1) % 2 ^ 32) gs is (omega arith) (omega arith) q.1,
 )
 
 -- ---- the recording is read back
-abbrev pub rows : Pts → List Arrival → List (ℕ × List ℕ)
-rows pts ps = map (record_of pts) ps
+abbrev pub rows : PayloadTypes → List Arrival → List (ℕ × List ℕ)
+rows payload_types ps = map (record_of payload_types) ps
 
-all_fit : (pts : Pts) (s : ℕ) (ps : List Arrival) → AllByRecursion (IsBack pts s) ps → AllByRecursion FitsRecord (rows pts ps)
-all_fit pts s [] b = tt
-all_fit pts s (a ∷ ps) b = (b.0.record_fits, all_fit pts s ps b.1)
+all_fit : (payload_types : PayloadTypes) (s : ℕ) (ps : List Arrival) → AllByRecursion (IsBack payload_types s) ps → AllByRecursion FitsRecord (rows payload_types ps)
+all_fit payload_types s [] b = tt
+all_fit payload_types s (a ∷ ps) b = (b.0.record_fits, all_fit payload_types s ps b.1)
 
-pub reads : (pts : Pts) (s limit : ℕ) (ps : List Arrival) → AllByRecursion (IsBack pts s) ps → length (dump_written (rows pts ps)) ≤ limit
-    → dump limit (dump_written (rows pts ps)) ≡ record { items = map sent_item (rows pts ps); fault = None }
-reads pts s limit ps b n = read_back limit (rows pts ps) (all_fit pts s ps b) n
+pub reads : (payload_types : PayloadTypes) (s limit : ℕ) (ps : List Arrival) → AllByRecursion (IsBack payload_types s) ps → length (dump_written (rows payload_types ps)) ≤ limit
+    → dump limit (dump_written (rows payload_types ps)) ≡ record { items = map sent_item (rows payload_types ps); fault = None }
+reads payload_types s limit ps b n = read_back limit (rows payload_types ps) (all_fit payload_types s ps b) n
 
 -- what comes of these packets, after others, newest first
 abbrev pub came_after : List Arrival → List Arrival → List Arrival
 came_after past [] = past
 came_after past (a ∷ ps) = came_after (record { time = max a.time (latest past); packet = a.packet } ∷ past) ps
 
-pub arrives : (pts : Pts) (s : ℕ) (past ps : List Arrival) → AllByRecursion (IsBack pts s) ps → arrivals_after s pts past (map sent_item (rows pts ps)) ≡ came_after past ps
-arrives pts s past [] b = refl
-arrives pts s past (a ∷ ps) b =
-    ap (λ r. arrivals_after s pts (arrived a.time r past) (map sent_item (rows pts ps))) b.0.text_is
-    ∙ arrives pts s (record { time = max a.time (latest past); packet = a.packet } ∷ past) ps b.1
+pub arrives : (payload_types : PayloadTypes) (s : ℕ) (past ps : List Arrival) → AllByRecursion (IsBack payload_types s) ps → arrivals_after s payload_types past (map sent_item (rows payload_types ps)) ≡ came_after past ps
+arrives payload_types s past [] b = refl
+arrives payload_types s past (a ∷ ps) b =
+    ap (λ r. arrivals_after s payload_types (arrived a.time r past) (map sent_item (rows payload_types ps))) b.0.text_is
+    ∙ arrives payload_types s (record { time = max a.time (latest past); packet = a.packet } ∷ past) ps b.1

@@ -1,7 +1,7 @@
 -- Splits that were worked out by hand: Ann types `H`, `e`, and `y` with a line break, and a mixer sends Bob three packets of
 -- her text and two that repeat it, 300 ms apart, under its own SSRC.
 use Rattle.std.proofs.Common.{◌≡◌, ℕ, List, [], ◌∷◌, refl}
-use Rattle.rtt_base.specs.declared.text_packets.Pts.{Pts}
+use Rattle.rtt_base.specs.declared.text_packets.PayloadTypes.{PayloadTypes}
 use Rattle.std.specs.Str.{is_utf8, chars}
 use Rattle.std.specs.Char.{encode_utf8}
 use Rattle.wire_spec.specs.Rtp.{rtp, rtp_of_header}
@@ -22,11 +22,11 @@ others =
     (900, 0x81 ∷ 0x64 ∷ 0x00 ∷ 0x67 ∷ 0x00 ∷ 0x00 ∷ 0x17 ∷ 0x0C ∷ 0x00 ∷ 0x00 ∷ 0x23 ∷ 0x28 ∷ 0x00 ∷ 0x00 ∷ 0x03 ∷ 0xE9 ∷ 0xE2 ∷ 0x09 ∷ 0x60 ∷ 0x01 ∷ 0xE2 ∷ 0x04 ∷ 0xB0 ∷ 0x04 ∷ 0x62 ∷ 0x65 ∷ 0x79 ∷ 0xE2 ∷ 0x80 ∷ 0xA8 ∷ []) ∷
     (1200, 0x81 ∷ 0x64 ∷ 0x00 ∷ 0x68 ∷ 0x00 ∷ 0x00 ∷ 0x18 ∷ 0x38 ∷ 0x00 ∷ 0x00 ∷ 0x23 ∷ 0x28 ∷ 0x00 ∷ 0x00 ∷ 0x03 ∷ 0xE9 ∷ 0xE2 ∷ 0x09 ∷ 0x60 ∷ 0x04 ∷ 0xE2 ∷ 0x04 ∷ 0xB0 ∷ 0x00 ∷ 0x62 ∷ 0x79 ∷ 0xE2 ∷ 0x80 ∷ 0xA8 ∷ []) ∷ []
 
-abbrev types : Pts
+abbrev types : PayloadTypes
 types = record { t140 = 98; red = 100 }
 
 abbrev trunk : Trunk
-trunk = record { ssrc = 9000; pts = types; wait = 1000; limit = 2097152 }
+trunk = record { ssrc = 9000; payload_types = types; wait = 1000; limit = 2097152 }
 
 -- Each text at its own moment, in a packet without redundancy, and nothing of a source that was not heard.
 whole : splits trunk (1001 ∷ 2001 ∷ []) (dump_written (first ∷ second ∷ others))

@@ -116,5 +116,5 @@ recordings_mixed t octets s is limit wait few =
     let cs = chunks_of t.wait past s in
     let sendable = heard_sendable t octets s in
     let lively = subst (λ (xs : List Chunk). AreLively (map (λ (c : Chunk). c.text) xs)) (sym (chunks_still t.wait 0 past s)) (filtered (chunks t.wait 0 past s)) in
-    let same = same_heard wait s (arrivals_after s t.pts [] (dump limit (recording_of t.pts s cs)).items) (texts_in (groups cs)) (split_texts t.pts s cs is sendable limit wait few) (groups_lively cs sendable lively) in
+    let same = same_heard wait s (arrivals_after s t.payload_types [] (dump limit (recording_of t.payload_types s cs)).items) (texts_in (groups cs)) (split_texts t.payload_types s cs is sendable limit wait few) (groups_lively cs sendable lively) in
     subst (λ ts. Groups ts (map (λ (c : Chunk). c.text) cs) []) (sym same) (recordings_heard t octets s is limit wait few)

@@ -25,14 +25,14 @@ some_sendable p cs a = filter_keeps AreSendable tt (λ c rest h. h.1) (λ c rest
 pub heard_sendable : HeardAreSendable
 heard_sendable t octets s =
     let past = came_of t octets in
-    let law = recordings_law (dump t.limit octets).items t.ssrc t.pts in
+    let law = recordings_law (dump t.limit octets).items t.ssrc t.payload_types in
     subst AreSendable (sym (chunks_still t.wait 0 past s))
     (some_sendable is_lively_chunk (chunks t.wait 0 past s) (all_sendable (chunks t.wait 0 past s) (chunks_law t.wait 0 past s law.0) (short_law t.wait 0 s past law.1)))
 
 pub recordings_read : RecordingsAreRead
 unfolding split
-recordings_read t octets s is limit few = splits_read t.pts s (chunks_of t.wait (came_of t octets) s) is (heard_sendable t octets s) limit few
+recordings_read t octets s is limit few = splits_read t.payload_types s (chunks_of t.wait (came_of t octets) s) is (heard_sendable t octets s) limit few
 
 pub recordings_heard : RecordingsAreHeard
 unfolding split
-recordings_heard t octets s is limit wait few = splits_heard t.pts s (chunks_of t.wait (came_of t octets) s) is (heard_sendable t octets s) limit wait few
+recordings_heard t octets s is limit wait few = splits_heard t.payload_types s (chunks_of t.wait (came_of t octets) s) is (heard_sendable t octets s) limit wait few

@@ -10,9 +10,9 @@ use Rattle.stream_spec.specs.Lists.{In}
 use Rattle.stream_spec.specs.Numbering.{Numbered, by_number, distinct_from, first_number, greatest, has_number, in_time, is_given_up, nearest, number_after, numbered, used}
 use Rattle.stream_spec.specs.Hearing.{first_number_of, heard, heard_by, is_marked, is_new, is_packet_of, last_of, marker, missing, missing_before, missing_between, new_texts}
 use Rattle.stream_spec.specs.ChunksBy.{texts_added}
-use Rattle.stream_spec.proofs.Stamps.{nearest_high, nearest_low, nearest_mod}
+use Rattle.stream_spec.proofs.Timestamps.{nearest_high, nearest_low, nearest_mod}
 use Rattle.stream_spec.proofs.Taking.{heard_by_more, heard_used}
-use Rattle.cascade_spec.specs.Splitting.{Group, moment_of, packet_of, packets_from, stamp_of}
+use Rattle.cascade_spec.specs.Splitting.{Group, moment_of, packet_of, packets_from, timestamp_of}
 use Rattle.cascade_spec.proofs.Carrying.{AllSendable, came_after}
 
 -- ---- lists whose numbers are all below n
@@ -80,32 +80,32 @@ below_more n (u ∷ us) vs f g = λ v i. elim i [ inl e ↦ subst (λ (x : Numbe
 
 -- ---- what a packet in plain form adds, before which nothing is missing
 abbrev sent_at : ℕ → ℕ → ℕ → ℕ → ℕ → List ℕ → Numbered
-sent_at time number s seq stamp text = record { time = time; number = number; packet = packet_of s seq stamp text }
+sent_at time number s seq timestamp text = record { time = time; number = number; packet = packet_of s seq timestamp text }
 
-plain_piece : (present : ℕ → Bool) (first : ℕ) (prev : Option Numbered) (time number s seq stamp : ℕ) (text : List ℕ) → has_text text ≡ true
-    → missing_before present first prev (sent_at time number s seq stamp text) ≡ 0
-    → (if is_marked present first prev (sent_at time number s seq stamp text) then marker ∷ [] else []) ++ new_texts prev (sent_at time number s seq stamp text) ≡ text ∷ []
-plain_piece present first prev time number s seq stamp text h z =
-    let none : is_marked present first prev (sent_at time number s seq stamp text) ≡ false = ap (λ n. nat_lt 0 n && is_new prev (back stamp 0)) z in
-    ap (λ (b : Bool). (if b then marker ∷ [] else []) ++ new_texts prev (sent_at time number s seq stamp text)) none
+plain_piece : (present : ℕ → Bool) (first : ℕ) (prev : Option Numbered) (time number s seq timestamp : ℕ) (text : List ℕ) → has_text text ≡ true
+    → missing_before present first prev (sent_at time number s seq timestamp text) ≡ 0
+    → (if is_marked present first prev (sent_at time number s seq timestamp text) then marker ∷ [] else []) ++ new_texts prev (sent_at time number s seq timestamp text) ≡ text ∷ []
+plain_piece present first prev time number s seq timestamp text h z =
+    let none : is_marked present first prev (sent_at time number s seq timestamp text) ≡ false = ap (λ n. nat_lt 0 n && is_new prev (back timestamp 0)) z in
+    ap (λ (b : Bool). (if b then marker ∷ [] else []) ++ new_texts prev (sent_at time number s seq timestamp text)) none
     ∙ ap (λ (b : Bool). if b then text ∷ [] else []) h
 
-adds_plain : (us : List Numbered) (time number s seq stamp : ℕ) (text : List ℕ) → has_text text ≡ true
-    → missing_before (has_number us) (first_number_of us (sent_at time number s seq stamp text)) (last_of None (filter (is_packet_of s) us)) (sent_at time number s seq stamp text) ≡ 0
-    → texts_added us (sent_at time number s seq stamp text) s ≡ text ∷ []
-adds_plain us time number s seq stamp text h z =
-    let e : Numbered = sent_at time number s seq stamp text in
+adds_plain : (us : List Numbered) (time number s seq timestamp : ℕ) (text : List ℕ) → has_text text ≡ true
+    → missing_before (has_number us) (first_number_of us (sent_at time number s seq timestamp text)) (last_of None (filter (is_packet_of s) us)) (sent_at time number s seq timestamp text) ≡ 0
+    → texts_added us (sent_at time number s seq timestamp text) s ≡ text ∷ []
+adds_plain us time number s seq timestamp text h z =
+    let e : Numbered = sent_at time number s seq timestamp text in
     let prev : Option Numbered = last_of None (filter (is_packet_of s) us) in
     ap (λ (b : Bool). if b then (if is_marked (has_number us) (first_number_of us e) prev e then marker ∷ [] else []) ++ new_texts prev e else []) (eq-eqb s s refl)
-    ∙ plain_piece (has_number us) (first_number_of us e) prev time number s seq stamp text h z
+    ∙ plain_piece (has_number us) (first_number_of us e) prev time number s seq timestamp text h z
 
 none_between : (present : ℕ → Bool) (low high : ℕ) → high ≤ suc low → missing_between present low high ≡ 0
 none_between present low high l = let z : high - (low + 1) ≡ 0 = omega (arith, l) in ap (λ d. missing present (low + 1) d) z
 
 -- ---- one more
-pub order_more : (wait s m stamp : ℕ) (past : List Arrival) (time seq : ℕ) (text : List ℕ) (texts : List (List ℕ)) → InOrder wait s past m texts → seq ≡ (m + 1) % 2 ^ 16 → has_text text ≡ true
-    → InOrder wait s (record { time = time; packet = packet_of s seq stamp text } ∷ past) (suc m) (texts ++ text ∷ [])
-order_more wait s m stamp past time seq text texts o q h = record {
+pub order_more : (wait s m timestamp : ℕ) (past : List Arrival) (time seq : ℕ) (text : List ℕ) (texts : List (List ℕ)) → InOrder wait s past m texts → seq ≡ (m + 1) % 2 ^ 16 → has_text text ≡ true
+    → InOrder wait s (record { time = time; packet = packet_of s seq timestamp text } ∷ past) (suc m) (texts ++ text ∷ [])
+order_more wait s m timestamp past time seq text texts o q h = record {
   high = omega (arith, o.high);
   top = omega (arith, o.top, number);
   some = e;
@@ -123,7 +123,7 @@ order_more wait s m stamp past time seq text texts o q h = record {
   heard_is = ap (λ (vs : List Numbered). heard_by vs s) used_is
       ∙ (heard_by_more (used wait us) e s (λ v i. let l = o.below_used v i in omega (arith, l, number))
       ∙ (ap (λ ts. ts ++ texts_added (used wait us) e s) o.heard_is
-      ∙ ap (λ ts. texts ++ ts) (adds_plain (used wait us) time (number_after us seq) s seq stamp text h missing_none)));
+      ∙ ap (λ ts. texts ++ ts) (adds_plain (used wait us) time (number_after us seq) s seq timestamp text h missing_none)));
 }
   where
     us : List Numbered
@@ -133,7 +133,7 @@ order_more wait s m stamp past time seq text texts o q h = record {
     number = after_some us o.some o.others seq o.not_first ∙ (ap (λ t. nearest t seq) o.top ∙ next_number m seq o.high q)
 
     e : Numbered
-    e = sent_at time (number_after us seq) s seq stamp text
+    e = sent_at time (number_after us seq) s seq timestamp text
 
     used_is : used wait (e ∷ us) ≡ used wait us ++ e ∷ []
     used_is =
@@ -149,8 +149,8 @@ order_more wait s m stamp past time seq text texts o q h = record {
         ∙ none_between (has_number (used wait us)) o.last.number e.number (omega (arith, number, o.last_number))
 
 -- the first
-pub order_first : (wait s stamp time : ℕ) (text : List ℕ) → has_text text ≡ true → InOrder wait s (record { time = time; packet = packet_of s 0 stamp text } ∷ []) 65536 (text ∷ [])
-order_first wait s stamp time text h = record {
+pub order_first : (wait s timestamp time : ℕ) (text : List ℕ) → has_text text ≡ true → InOrder wait s (record { time = time; packet = packet_of s 0 timestamp text } ∷ []) 65536 (text ∷ [])
+order_first wait s timestamp time text h = record {
   high = omega arith;
   top = refl;
   some = e;
@@ -162,11 +162,11 @@ order_first wait s stamp time text h = record {
   last_is = ap (λ (vs : List Numbered). last_of None (filter (is_packet_of s) vs)) used_is ∙ ap (last_of None) (ap (λ (b : Bool). if b then e ∷ [] else []) (eq-eqb s s refl));
   last_number = refl;
   heard_is = ap (λ (vs : List Numbered). heard_by vs s) used_is
-      ∙ (heard_by_more [] e s (λ v i. absurd i) ∙ adds_plain [] time 65536 s 0 stamp text h (none_between (has_number []) 65536 65536 (omega arith)));
+      ∙ (heard_by_more [] e s (λ v i. absurd i) ∙ adds_plain [] time 65536 s 0 timestamp text h (none_between (has_number []) 65536 65536 (omega arith)));
 }
   where
     e : Numbered
-    e = sent_at time 65536 s 0 stamp text
+    e = sent_at time 65536 s 0 timestamp text
 
     used_is : used wait (e ∷ []) ≡ e ∷ []
     used_is = ap (λ (b : Bool). if b then e ∷ [] else []) (in_order wait e [] (λ v i. absurd i))
@@ -176,14 +176,14 @@ rows_heard : (wait s m seq least : ℕ) (past : List Arrival) (texts : List (Lis
     → heard wait (came_after past (packets_from s seq least gs)) s ≡ texts ++ map (λ g. g.text) gs
 rows_heard wait s m seq least past texts [] o q a = heard_used wait past s ∙ (o.heard_is ∙ sym (append-nil texts))
 rows_heard wait s m seq least past texts (g ∷ gs) o q a =
-    rows_heard wait s (suc m) ((seq + 1) % 2 ^ 16) ((stamp_of least g + 1) % 2 ^ 32)
-    (record { time = max (moment_of g) (latest past); packet = packet_of s seq (stamp_of least g) g.text } ∷ past) (texts ++ g.text ∷ []) gs
-    (order_more wait s m (stamp_of least g) past (max (moment_of g) (latest past)) seq g.text texts o q a.0.some) (omega (arith, q)) a.1
+    rows_heard wait s (suc m) ((seq + 1) % 2 ^ 16) ((timestamp_of least g + 1) % 2 ^ 32)
+    (record { time = max (moment_of g) (latest past); packet = packet_of s seq (timestamp_of least g) g.text } ∷ past) (texts ++ g.text ∷ []) gs
+    (order_more wait s m (timestamp_of least g) past (max (moment_of g) (latest past)) seq g.text texts o q a.0.some) (omega (arith, q)) a.1
     ∙ append_assoc texts (g.text ∷ []) (map (λ g. g.text) gs)
 
 pub all_heard : (wait s : ℕ) (gs : List Group) → AllSendable gs → heard wait (came_after [] (packets_from s 0 0 gs)) s ≡ map (λ g. g.text) gs
 all_heard wait s [] a = refl
 all_heard wait s (g ∷ gs) a =
-    rows_heard wait s 65536 1 ((stamp_of 0 g + 1) % 2 ^ 32)
-    (record { time = max (moment_of g) 0; packet = packet_of s 0 (stamp_of 0 g) g.text } ∷ []) (g.text ∷ []) gs
-    (order_first wait s (stamp_of 0 g) (max (moment_of g) 0) g.text a.0.some) refl a.1
+    rows_heard wait s 65536 1 ((timestamp_of 0 g + 1) % 2 ^ 32)
+    (record { time = max (moment_of g) 0; packet = packet_of s 0 (timestamp_of 0 g) g.text } ∷ []) (g.text ∷ []) gs
+    (order_first wait s (timestamp_of 0 g) (max (moment_of g) 0) g.text a.0.some) refl a.1

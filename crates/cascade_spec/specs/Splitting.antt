@@ -1,7 +1,7 @@
 -- What a recording of a mixer's packets is split into: for each of its sources a recording of that source's own packets, so
 -- that another mixer may hear it as the recording of a leg (profile). To a mixer keep-alives are no text.
 use Rattle.std.specs.Prelude.{ℕ, ◌+◌, ◌^◌, ◌%◌, ◌==◌, ◌&&◌, Bool, false, List, [], ◌∷◌, ◌++◌, length, map, max, min, nat_le, if◌then◌else◌}
-use Rattle.rtt_base.specs.declared.text_packets.Pts.{Pts}
+use Rattle.rtt_base.specs.declared.text_packets.PayloadTypes.{PayloadTypes}
 use Rattle.wire_spec.specs.Packets.{Packet, Arrival}
 use Rattle.wire_spec.specs.SentPackets.{packet_written}
 use Rattle.wire_spec.specs.Dump.{arrivals_after, dump, dump_written}
@@ -45,20 +45,20 @@ moment_of g = min g.ready LAST_RECORD_MOMENT
 
 -- the packet of a group: the source's own, in plain form
 abbrev pub packet_of : ℕ → ℕ → ℕ → List ℕ → Packet
-packet_of s seq stamp text =
-    record { mark = false; seq = seq; stamp = stamp; ssrc = s; source = s; older = []; primary = text }
+packet_of s seq timestamp text =
+    record { marker_bit = false; seq = seq; timestamp = timestamp; ssrc = s; source = s; older = []; primary = text }
 
--- its stamp: the moment of its record, or `least`, where that is later
-abbrev pub stamp_of : ℕ → Group → ℕ
-stamp_of least g = max (moment_of g) least
+-- its timestamp: the moment of its record, or `least`, where that is later
+abbrev pub timestamp_of : ℕ → Group → ℕ
+timestamp_of least g = max (moment_of g) least
 
 -- The packets from this sequence number on, of which the first is stamped with `least` or later. Each next has the next number,
--- and is stamped later than the one before; numbers and stamps go round.
+-- and is stamped later than the one before; numbers and timestamps go round.
 abbrev pub packets_from : ℕ → ℕ → ℕ → List Group → List Arrival
 packets_from s seq least [] = []
 packets_from s seq least (g ∷ gs) =
-    record { time = moment_of g; packet = packet_of s seq (stamp_of least g) g.text }
-    ∷ packets_from s ((seq + 1) % 2 ^ 16) ((stamp_of least g + 1) % 2 ^ 32) gs
+    record { time = moment_of g; packet = packet_of s seq (timestamp_of least g) g.text }
+    ∷ packets_from s ((seq + 1) % 2 ^ 16) ((timestamp_of least g + 1) % 2 ^ 32) gs
 
 abbrev pub packets_in : ℕ → List Group → List Arrival
 packets_in s gs = packets_from s 0 0 gs
@@ -72,16 +72,16 @@ chunks_of wait past s = chunks wait 0 (still past) s
 abbrev pub split_packets : ℕ → List Arrival → ℕ → List Arrival
 split_packets wait past s = packets_in s (groups (chunks_of wait past s))
 
-abbrev pub record_of : Pts → Arrival → ℕ × List ℕ
-record_of pts a = (a.time, packet_written pts a.packet)
+abbrev pub record_of : PayloadTypes → Arrival → ℕ × List ℕ
+record_of payload_types a = (a.time, packet_written payload_types a.packet)
 
 -- the records of these packets, as a recording has them
-abbrev pub recorded : Pts → List Arrival → List ℕ
-recorded pts packets = dump_written (map (record_of pts) packets)
+abbrev pub recorded : PayloadTypes → List Arrival → List ℕ
+recorded payload_types packets = dump_written (map (record_of payload_types) packets)
 
 -- the recording of the source s out of these arrivals, newest first
-unfoldable pub split : Pts → ℕ → List Arrival → ℕ → List ℕ
-split pts wait past s = recorded pts (split_packets wait past s)
+unfoldable pub split : PayloadTypes → ℕ → List Arrival → ℕ → List ℕ
+split payload_types wait past s = recorded payload_types (split_packets wait past s)
 
 -- ---- of a recording
 
@@ -89,14 +89,14 @@ split pts wait past s = recorded pts (split_packets wait past s)
 -- waited for, in milliseconds, and how many octets it may have
 pub record Trunk : Type 0 where
   pub ssrc : ℕ
-  pub pts : Pts
+  pub payload_types : PayloadTypes
   pub wait : ℕ
   pub limit : ℕ
 
 -- what comes of the recording, newest first
 abbrev pub came_of : Trunk → List ℕ → List Arrival
-came_of t octets = arrivals_after t.ssrc t.pts [] (dump t.limit octets).items
+came_of t octets = arrivals_after t.ssrc t.payload_types [] (dump t.limit octets).items
 
 -- the splits of these sources, in their order
 abbrev pub splits : Trunk → List ℕ → List ℕ → List (List ℕ)
-splits t sources octets = map (split t.pts t.wait (came_of t octets)) sources
+splits t sources octets = map (split t.payload_types t.wait (came_of t octets)) sources

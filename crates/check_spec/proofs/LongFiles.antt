@@ -8,10 +8,10 @@ use Rattle.check_spec.specs.declared.limits.TheConstants.{MOST_CHECKED_OCTETS}
 use Rattle.check_spec.specs.Forms.{foreign, form_of}
 use Rattle.std.specs.Str.Lines.{lines}
 use Rattle.wire_spec.specs.Dump.{dump}
-use Rattle.file_spec.specs.declared.conf_lines.LegLine.{LegLine}
+use Rattle.file_spec.specs.declared.conference_lines.LegLine.{LegLine}
 use Rattle.check_spec.specs.Checking.{Report, line_at, report, report_as, report_of, untaken}
 use Rattle.check_spec.specs.Inputs.{input_form, leg_told, most_of_input, recording_told}
-use Rattle.file_spec.specs.Conf.{Conf}
+use Rattle.file_spec.specs.Conference.{Conference}
 use Rattle.check_spec.specs.Looks.{Look, Tells, legs_as, legs_by, legs_in, links_as, links_by, links_in, look_in, look_over, looks_at}
 
 -- four octets tell whether a file is of a foreign form
@@ -66,7 +66,7 @@ long_untried octets l = no_ports (foreign octets) octets l
 
 only_tells : (name octets : List ℕ) → MOST_CHECKED_OCTETS < length octets → look_in name octets ≡ Tells (report name octets)
 only_tells name octets l =
-    ap (λ (c : Option Conf). look_over c octets (report name octets)) (long_untried octets l)
+    ap (λ (c : Option Conference). look_over c octets (report name octets)) (long_untried octets l)
     ∙ ap (λ (legs : List LegLine). looks_at (most_of_input legs) octets legs (report name octets)) (long_legs octets l)
 
 pub front_looks : (name octets rest : List ℕ) → MOST_CHECKED_OCTETS < length octets → look_in name (octets ++ rest) ≡ look_in name octets
@@ -75,13 +75,13 @@ front_looks name octets rest l =
     only_tells name (octets ++ rest) longer ∙ (ap Tells (front_told name octets rest l) ∙ sym (only_tells name octets l))
 
 -- ---- an IN
-input_too_large : (limit : ℕ) (conf : List ℕ) (leg : LegLine) (octets : List ℕ) → MOST_CHECKED_OCTETS < length octets
-    → leg_told limit conf leg octets ≡ Some (input_form TooLarge leg (line_at leg.line (lines conf)))
-input_too_large limit conf leg octets l =
+input_too_large : (limit : ℕ) (conference : List ℕ) (leg : LegLine) (octets : List ℕ) → MOST_CHECKED_OCTETS < length octets
+    → leg_told limit conference leg octets ≡ Some (input_form TooLarge leg (line_at leg.line (lines conference)))
+input_too_large limit conference leg octets l =
     let over : nat_lt MOST_CHECKED_OCTETS (length octets) ≡ true = grind (arith, nat_tests) in
-    let line = line_at leg.line (lines conf) in
+    let line = line_at leg.line (lines conference) in
     ap (λ b. cond b (Some (input_form TooLarge leg line)) (recording_told leg line octets (dump limit octets))) over
 
-pub long_inputs_alike : (limit : ℕ) (conf : List ℕ) (leg : LegLine) (a b : List ℕ) → MOST_CHECKED_OCTETS < length a → MOST_CHECKED_OCTETS < length b
-    → leg_told limit conf leg a ≡ leg_told limit conf leg b
-long_inputs_alike limit conf leg a b l m = input_too_large limit conf leg a l ∙ sym (input_too_large limit conf leg b m)
+pub long_inputs_alike : (limit : ℕ) (conference : List ℕ) (leg : LegLine) (a b : List ℕ) → MOST_CHECKED_OCTETS < length a → MOST_CHECKED_OCTETS < length b
+    → leg_told limit conference leg a ≡ leg_told limit conference leg b
+long_inputs_alike limit conference leg a b l m = input_too_large limit conference leg a l ∙ sym (input_too_large limit conference leg b m)

@@ -5,14 +5,14 @@ use Rattle.std.specs.List.{list_any}
 use Rattle.std.specs.Str.Lines.{lines}
 use Rattle.wire_spec.specs.Dump.{Item, What, Whole, Rtcp, Cut, Large, dump, usual_limit}
 use Rattle.wire_spec.specs.Dump as dumps
-use Rattle.file_spec.specs.declared.conf_lines.Form.{Form}
-use Rattle.file_spec.specs.declared.conf_lines.Form.TheVariants as of
-use Rattle.file_spec.specs.declared.conf_lines.LegLine.{LegLine}
+use Rattle.file_spec.specs.declared.conference_lines.Form.{Form}
+use Rattle.file_spec.specs.declared.conference_lines.Form.TheVariants as of
+use Rattle.file_spec.specs.declared.conference_lines.LegLine.{LegLine}
 use Rattle.file_spec.specs.declared.kinds.ConfKind.TheVariants.{Full}
 use Rattle.file_spec.specs.Lines as file
-use Rattle.file_spec.specs.Conf.{Conf, conf}
+use Rattle.file_spec.specs.Conference.{Conference, conference_from}
 use Rattle.file_spec.specs.Script.{ScriptLine, script}
-use Rattle.frame_spec.specs.declared.frames.FrameFault.{FrameFault}
+use Rattle.frame_spec.specs.declared.frames.FrameRefusal.{FrameRefusal}
 use Rattle.command_spec.specs.declared.faults.Refusal.{Refusal}
 use Rattle.command_spec.specs.declared.faults.Refusal.TheVariants.{AtByte, AtFrame, AtLine, AtTrunk}
 use Rattle.command_spec.specs.Cascading.{is_on_trunk, odd_line}
@@ -25,7 +25,7 @@ use Rattle.check_spec.specs.declared.forms.LineWord.{LineWord}
 use Rattle.check_spec.specs.declared.forms.LineWord.TheVariants.{Other}
 use Rattle.check_spec.specs.declared.limits.TheConstants.{MOST_CHECKED_OCTETS, MOST_SHOWN_AT_BYTE, MOST_SHOWN_OCTETS}
 use Rattle.check_spec.specs.Forms.{foreign, form_of, has_mark, said, word_of}
-use Rattle.check_spec.specs.Sentences.{cascade_name, conf_sentence, dump_sentence, form_name, form_sentence, frame_sentence, mark_sentence, script_sentence, trunk_sentence}
+use Rattle.check_spec.specs.Sentences.{cascade_name, conference_sentence, dump_sentence, form_name, form_sentence, frame_sentence, mark_sentence, script_sentence, trunk_sentence}
 use Rattle.check_spec.specs.Told.{told_name}
 
 -- what is told, and whether the program takes the file
@@ -162,22 +162,22 @@ abbrev pub unless_odd : List ℕ → List ℕ → List LegLine → Option ℕ �
 unless_odd name octets legs None = whole_as (recordings_name legs) (length legs) (codes " legs")
 unless_odd name octets legs (Some line) = refused Recordings name (AtTrunk line) (shown (line_at line (lines octets))) trunk_sentence
 
-abbrev pub conf_whole : Form → List ℕ → List ℕ → List LegLine → Report
-conf_whole of.Files name octets legs = unless_odd name octets legs (odd_line legs)
-conf_whole of.Links name octets legs = whole Links (length legs) (codes " legs")
+abbrev pub conference_whole : Form → List ℕ → List ℕ → List LegLine → Report
+conference_whole of.Files name octets legs = unless_odd name octets legs (odd_line legs)
+conference_whole of.Links name octets legs = whole Links (length legs) (codes " legs")
 
-abbrev pub conf_read : Form → List ℕ → List ℕ → Result Conf file.Refusal → Report
-conf_read form name octets (Ok c) = conf_whole form name octets c.legs
-conf_read form name octets (Err r) =
+abbrev pub conference_read : Form → List ℕ → List ℕ → Result Conference file.Refusal → Report
+conference_read form name octets (Ok c) = conference_whole form name octets c.legs
+conference_read form name octets (Err r) =
     refused (form_in form) name (AtLine r.line r.kind) (shown (line_at r.line (lines octets)))
-    (unless_mark octets (conf_sentence form (word_in (line_at r.line (lines octets))) r.kind))
+    (unless_mark octets (conference_sentence form (word_in (line_at r.line (lines octets))) r.kind))
 
-abbrev pub conf_report : Form → List ℕ → List ℕ → Report
-conf_report form name octets = conf_read form name octets (conf form octets)
+abbrev pub conference_report : Form → List ℕ → List ℕ → Report
+conference_report form name octets = conference_read form name octets (conference_from form octets)
 
 -- ---- frames
 
-abbrev pub frames_read : List ℕ → List ℕ → Result (List ℕ) FrameFault → Report
+abbrev pub frames_read : List ℕ → List ℕ → Result (List ℕ) FrameRefusal → Report
 frames_read name octets (Ok sent) = whole Frames (length octets) (codes " octets")
 frames_read name octets (Err fault) = refused Frames name (AtFrame fault.offset fault.kind) (shown_at octets fault.offset) (frame_sentence fault.kind)
 
@@ -190,8 +190,8 @@ abbrev pub report_as : FileForm → List ℕ → List ℕ → Report
 report_as Recording name octets = recording_report name octets
 report_as Frames name octets = frames_report name octets
 report_as Script name octets = script_report name octets
-report_as Recordings name octets = conf_report of.Files name octets
-report_as Links name octets = conf_report of.Links name octets
+report_as Recordings name octets = conference_report of.Files name octets
+report_as Links name octets = conference_report of.Links name octets
 report_as Gzip name octets = untaken Gzip
 report_as Pcap name octets = untaken Pcap
 report_as PcapNg name octets = untaken PcapNg

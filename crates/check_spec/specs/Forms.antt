@@ -6,9 +6,9 @@ use Rattle.std.specs.Char.{is_ascii_digit}
 use Rattle.std.specs.Option.{option_map_or}
 use Rattle.std.specs.Str.{byte, is_utf8}
 use Rattle.std.specs.Str.Lines.{lines}
-use Rattle.file_spec.specs.declared.conf_lines.Form.{Form}
-use Rattle.file_spec.specs.declared.conf_lines.Form.TheVariants as of
-use Rattle.file_spec.specs.Conf.{Conf, conf, is_blank}
+use Rattle.file_spec.specs.declared.conference_lines.Form.{Form}
+use Rattle.file_spec.specs.declared.conference_lines.Form.TheVariants as of
+use Rattle.file_spec.specs.Conference.{Conference, conference_from, is_blank}
 use Rattle.file_spec.specs.Lines as file
 use Rattle.file_spec.specs.Lines.{words}
 use Rattle.file_spec.specs.Numbers.{is_number}
@@ -103,7 +103,7 @@ abbrev pub line_word : List ℕ → LineWord
 line_word w =
     if bytes_eq w (codes "leg") then word.Leg
     else (if bytes_eq w (codes "mixer") then word.Mixer
-    else (if bytes_eq w (codes "gens") then word.Gens
+    else (if bytes_eq w (codes "gens") then word.Generations
     else (if bytes_eq w (codes "stay") then word.Stay else time_word w)))
 
 -- what a line tells, by its first word
@@ -119,12 +119,12 @@ first_said [] = None
 first_said (l ∷ more) = if is_blank l then first_said more else Some l
 
 -- the line of the first fault of a conference, where it has one
-abbrev pub line_refused : Result Conf file.Refusal → Option ℕ
+abbrev pub line_refused : Result Conference file.Refusal → Option ℕ
 line_refused (Ok c) = None
 line_refused (Err r) = Some r.line
 
 abbrev pub fault_line : Form → List ℕ → Option ℕ
-fault_line form text = line_refused (conf form text)
+fault_line form text = line_refused (conference_from form text)
 
 -- there is no fault in the lines up to this one
 abbrev pub is_right_to : ℕ → Option ℕ → Bool

@@ -7,7 +7,7 @@ use Rattle.wire_spec.specs.declared.faults.RtpFault.{RtpFault}
 use Rattle.wire_spec.specs.Dump.{Item, What, Whole, Rtcp, Cut, Large, dump, usual_limit}
 use Rattle.wire_spec.specs.Dump as dumps
 use Rattle.wire_spec.specs.Rtp.{Reading, rtp}
-use Rattle.file_spec.specs.declared.conf_lines.LegLine.{LegLine}
+use Rattle.file_spec.specs.declared.conference_lines.LegLine.{LegLine}
 use Rattle.mixer_spec.specs.declared.limits.TheConstants.{MOST_INPUT_OF_MANY, PLACES}
 use Rattle.command_spec.specs.declared.faults.Refusal.TheVariants.{AtByte}
 use Rattle.check_spec.specs.declared.forms.FileForm.{FileForm}
@@ -38,7 +38,7 @@ stream_of Large = None
 
 -- it is that of the leg: it has its SSRC, and one of its payload types
 abbrev pub is_stream_of : LegLine → Stream → Bool
-is_stream_of leg s = s.ssrc == leg.ssrc && (s.pt == leg.pts.t140 || s.pt == leg.pts.red)
+is_stream_of leg s = s.ssrc == leg.ssrc && (s.pt == leg.payload_types.t140 || s.pt == leg.payload_types.red)
 
 abbrev pub is_of_leg : LegLine → Item → Bool
 is_of_leg leg item = option_map_or (is_stream_of leg) (stream_of item.what) false
@@ -115,4 +115,4 @@ input_told limit leg line octets =
 
 -- the same of a leg of the conference that has these octets
 abbrev pub leg_told : ℕ → List ℕ → LegLine → List ℕ → Option Report
-leg_told limit conf leg octets = input_told limit leg (line_at leg.line (lines conf)) octets
+leg_told limit conference leg octets = input_told limit leg (line_at leg.line (lines conference)) octets

@@ -1,9 +1,9 @@
 -- What `check` looks at, and what it tells then (profile): a file, and of a conference of recordings the IN of each leg, of one of links the
 -- port of each, in leg order, up to the first of which there is something to tell.
 use Rattle.std.specs.Prelude.{ℕ, nat_lt, if◌then◌else◌, List, [], ◌∷◌, length, Option, None, Some, Result, Ok, Err}
-use Rattle.file_spec.specs.declared.conf_lines.Form.TheVariants as of
-use Rattle.file_spec.specs.declared.conf_lines.LegLine.{LegLine}
-use Rattle.file_spec.specs.Conf.{Conf, conf}
+use Rattle.file_spec.specs.declared.conference_lines.Form.TheVariants as of
+use Rattle.file_spec.specs.declared.conference_lines.LegLine.{LegLine}
+use Rattle.file_spec.specs.Conference.{Conference, conference_from}
 use Rattle.file_spec.specs.Lines as file
 use Rattle.command_spec.specs.Cascading.{is_on_trunk, odd_line}
 use Rattle.command_spec.specs.Work.{Contents, Makes, Reads, Serves, Steps}
@@ -20,7 +20,7 @@ use Rattle.check_spec.specs.Ports.{Answers, ports_told}
 pub data Look : Type 0 where
   Tells : Report → Look
   Opens : (name : List ℕ) → (List ℕ → Look) → Look
-  Tries : (conference : Conf) → (Answers → Report) → Look
+  Tries : (conference : Conference) → (Answers → Report) → Look
 
 -- the steps of it: what is told is printed. Where ports are tried that is decided outside, as it is in a live call.
 abbrev pub steps_of : Look → Steps
@@ -47,12 +47,12 @@ abbrev pub legs_unless : Option ℕ → List LegLine → List LegLine
 legs_unless None legs = legs
 legs_unless (Some line) legs = []
 
-abbrev pub legs_read : Result Conf file.Refusal → List LegLine
+abbrev pub legs_read : Result Conference file.Refusal → List LegLine
 legs_read (Ok c) = legs_unless (odd_line c.legs) c.legs
 legs_read (Err refusal) = []
 
 abbrev pub legs_as : FileForm → List ℕ → List LegLine
-legs_as Recordings octets = legs_read (conf of.Files octets)
+legs_as Recordings octets = legs_read (conference_from of.Files octets)
 legs_as _ octets = []
 
 abbrev pub legs_by : Option FileForm → List ℕ → List LegLine
@@ -65,20 +65,20 @@ legs_in octets = legs_by (foreign octets) octets
 
 -- ---- the conference whose ports are tried
 
-abbrev pub links_read : Result Conf file.Refusal → Option Conf
+abbrev pub links_read : Result Conference file.Refusal → Option Conference
 links_read (Ok c) = Some c
 links_read (Err refusal) = None
 
-abbrev pub links_as : FileForm → List ℕ → Option Conf
-links_as Links octets = links_read (conf of.Links octets)
+abbrev pub links_as : FileForm → List ℕ → Option Conference
+links_as Links octets = links_read (conference_from of.Links octets)
 links_as _ octets = None
 
-abbrev pub links_by : Option FileForm → List ℕ → Option Conf
+abbrev pub links_by : Option FileForm → List ℕ → Option Conference
 links_by (Some form) octets = None
 links_by None octets = if nat_lt MOST_CHECKED_OCTETS (length octets) then None else links_as (form_of octets) octets
 
 -- that of links that has these octets
-abbrev pub links_in : List ℕ → Option Conf
+abbrev pub links_in : List ℕ → Option Conference
 links_in octets = links_by (foreign octets) octets
 
 -- ---- the look
@@ -95,7 +95,7 @@ looks_at limit octets (leg ∷ legs) told =
     else Opens leg.input (λ input. unless_told (leg_told limit octets leg input) (looks_at limit octets legs told))
 
 -- a conference of links, or what else has these octets
-abbrev pub look_over : Option Conf → List ℕ → Report → Look
+abbrev pub look_over : Option Conference → List ℕ → Report → Look
 look_over None octets told = looks_at (most_of_input (legs_in octets)) octets (legs_in octets) told
 look_over (Some c) octets told = Tries c (λ answers. ports_told answers octets c told)
 

@@ -1,9 +1,9 @@
 -- What `check` tells of the ports of a conference of links: that one can't be had, or that an OUT is no address of this machine (profile).
 use Rattle.std.specs.Prelude.{ℕ, List, [], ◌∷◌, ◌++◌, Option, None, Some, codes, decimal}
 use Rattle.std.specs.Str.Lines.{lines}
-use Rattle.file_spec.specs.declared.conf_lines.LegLine.{LegLine}
+use Rattle.file_spec.specs.declared.conference_lines.LegLine.{LegLine}
 use Rattle.file_spec.specs.declared.services.OperatorLine.{OperatorLine}
-use Rattle.file_spec.specs.Conf.{Conf, port}
+use Rattle.file_spec.specs.Conference.{Conference, port}
 use Rattle.check_spec.specs.declared.forms.FileForm.TheVariants.{Links}
 use Rattle.check_spec.specs.declared.ports.PortFault.{PortFault}
 use Rattle.check_spec.specs.declared.ports.PortFault.TheVariants.{Taken, NoRight, NoAddress, ManyFiles, Other}
@@ -50,7 +50,7 @@ had_by Other leg = codes "port " ++ told_name leg.input
 
 -- of a leg of the conference that has these octets
 abbrev pub link_told : List ℕ → LegLine → PortFault → Report
-link_told conf leg fault = refused_behind (form_name Links ++ codes "\n" ++ had_by fault leg) fault (line_at leg.line (lines conf))
+link_told conference leg fault = refused_behind (form_name Links ++ codes "\n" ++ had_by fault leg) fault (line_at leg.line (lines conference))
 
 -- of the operator's port
 abbrev pub operator_refused : OperatorLine → PortFault → Report
@@ -70,9 +70,9 @@ operator_told answers (Some operator) whole = unless_refused (answers operator.p
 
 -- of the first of these legs whose port can't be had, or else this
 abbrev pub links_told : Answers → List ℕ → List LegLine → Report → Report
-links_told answers conf [] rest = rest
-links_told answers conf (leg ∷ legs) rest = unless_refused (answer_to answers leg) (link_told conf leg) (links_told answers conf legs rest)
+links_told answers conference [] rest = rest
+links_told answers conference (leg ∷ legs) rest = unless_refused (answer_to answers leg) (link_told conference leg) (links_told answers conference legs rest)
 
 -- of a conference of links that has these octets, of which this is told where all its ports can be had
-abbrev pub ports_told : Answers → List ℕ → Conf → Report → Report
+abbrev pub ports_told : Answers → List ℕ → Conference → Report → Report
 ports_told answers octets c whole = links_told answers octets c.legs (operator_told answers c.service.operator whole)

@@ -4,8 +4,8 @@ use Rattle.wire_spec.specs.declared.faults.DumpKind.{DumpKind}
 use Rattle.wire_spec.specs.declared.faults.DumpKind.TheVariants as dump
 use Rattle.file_spec.specs.declared.kinds.ConfKind.{ConfKind}
 use Rattle.file_spec.specs.declared.kinds.ConfKind.TheVariants as kind
-use Rattle.file_spec.specs.declared.conf_lines.Form.{Form}
-use Rattle.file_spec.specs.declared.conf_lines.Form.TheVariants as of
+use Rattle.file_spec.specs.declared.conference_lines.Form.{Form}
+use Rattle.file_spec.specs.declared.conference_lines.Form.TheVariants as of
 use Rattle.frame_spec.specs.declared.kinds.FrameKind.{FrameKind}
 use Rattle.frame_spec.specs.declared.kinds.FrameKind.TheVariants as frame
 use Rattle.check_spec.specs.declared.forms.FileForm.{FileForm}
@@ -91,7 +91,7 @@ script_sentence kind.Full = codes "more than 16384 octets wait to be sent by the
 abbrev pub word_sentence : Form → LineWord → List ℕ
 word_sentence of.Files word.Leg = codes "behind the name of a leg stands aware or unaware, in small letters"
 word_sentence of.Files word.Mixer = codes "a line begins with mixer, leg, gens, stay, tick, spacing, wait, turns, relabel, counts, lose, delay or twice, in small letters, or with # as its first octet: correct the word, and part words by spaces, not by tabs"
-word_sentence of.Files word.Gens = codes "a line begins with mixer, leg, gens, stay, tick, spacing, wait, turns, relabel, counts, lose, delay or twice, in small letters, or with # as its first octet: correct the word, and part words by spaces, not by tabs"
+word_sentence of.Files word.Generations = codes "a line begins with mixer, leg, gens, stay, tick, spacing, wait, turns, relabel, counts, lose, delay or twice, in small letters, or with # as its first octet: correct the word, and part words by spaces, not by tabs"
 word_sentence of.Files word.Stay = codes "a line begins with mixer, leg, gens, stay, tick, spacing, wait, turns, relabel, counts, lose, delay or twice, in small letters, or with # as its first octet: correct the word, and part words by spaces, not by tabs"
 word_sentence of.Files word.Tick = codes "a line begins with mixer, leg, gens, stay, tick, spacing, wait, turns, relabel, counts, lose, delay or twice, in small letters, or with # as its first octet: correct the word, and part words by spaces, not by tabs"
 word_sentence of.Files word.Spacing = codes "a line begins with mixer, leg, gens, stay, tick, spacing, wait, turns, relabel, counts, lose, delay or twice, in small letters, or with # as its first octet: correct the word, and part words by spaces, not by tabs"
@@ -109,7 +109,7 @@ word_sentence of.Files word.Twice = codes "a line begins with mixer, leg, gens, 
 word_sentence of.Files word.Other = codes "a line begins with mixer, leg, gens, stay, tick, spacing, wait, turns, relabel, counts, lose, delay or twice, in small letters, or with # as its first octet: correct the word, and part words by spaces, not by tabs"
 word_sentence of.Links word.Leg = codes "behind the name of a leg stands aware or unaware, in small letters"
 word_sentence of.Links word.Mixer = codes "a line begins with mixer, leg, gens, tick, spacing, wait, turns, relabel, counts, gone, operator, record or follow, in small letters, or with # as its first octet: correct the word, and part words by spaces, not by tabs"
-word_sentence of.Links word.Gens = codes "a line begins with mixer, leg, gens, tick, spacing, wait, turns, relabel, counts, gone, operator, record or follow, in small letters, or with # as its first octet: correct the word, and part words by spaces, not by tabs"
+word_sentence of.Links word.Generations = codes "a line begins with mixer, leg, gens, tick, spacing, wait, turns, relabel, counts, gone, operator, record or follow, in small letters, or with # as its first octet: correct the word, and part words by spaces, not by tabs"
 word_sentence of.Links word.Stay = codes "a conference of links has no lines stay, lose, delay and twice: leave the line out"
 word_sentence of.Links word.Tick = codes "a line begins with mixer, leg, gens, tick, spacing, wait, turns, relabel, counts, gone, operator, record or follow, in small letters, or with # as its first octet: correct the word, and part words by spaces, not by tabs"
 word_sentence of.Links word.Spacing = codes "a line begins with mixer, leg, gens, tick, spacing, wait, turns, relabel, counts, gone, operator, record or follow, in small letters, or with # as its first octet: correct the word, and part words by spaces, not by tabs"
@@ -130,7 +130,7 @@ word_sentence of.Links word.Other = codes "a line begins with mixer, leg, gens, 
 abbrev pub count_sentence : LineWord → List ℕ
 count_sentence word.Leg = codes "a leg has the words NAME MODE SSRC IN OUT, and two payload types behind them or none: no name has a space, and a comment needs a line of its own"
 count_sentence word.Mixer = codes "a mixer has the words SSRC SEQ STAMP, and no other: a comment needs a line of its own"
-count_sentence word.Gens = codes "gens has the words NAME N, and no other"
+count_sentence word.Generations = codes "gens has the words NAME N, and no other"
 count_sentence word.Stay = codes "stay has the words NAME FROM UNTIL, and no other"
 count_sentence word.Tick = codes "one number stands behind the word, and nothing else: a comment needs a line of its own"
 count_sentence word.Spacing = codes "one number stands behind the word, and nothing else: a comment needs a line of its own"
@@ -151,7 +151,7 @@ count_sentence word.Other = codes "one number stands behind the word, and nothin
 abbrev pub name_sentence : LineWord → List ℕ
 name_sentence word.Leg = codes "the name of a leg has 1 to 32 letters A to Z and a to z, digits, ., _ and -, and those of files have 1 to 255 octets"
 name_sentence word.Mixer = codes "no leg above has this name: correct it, or move the line below that of the leg"
-name_sentence word.Gens = codes "no leg above has this name: correct it, or move the line below that of the leg"
+name_sentence word.Generations = codes "no leg above has this name: correct it, or move the line below that of the leg"
 name_sentence word.Stay = codes "no leg above has this name: correct it, or move the line below that of the leg"
 name_sentence word.Tick = codes "no leg above has this name: correct it, or move the line below that of the leg"
 name_sentence word.Spacing = codes "no leg above has this name: correct it, or move the line below that of the leg"
@@ -172,7 +172,7 @@ name_sentence word.Other = codes "no leg above has this name: correct it, or mov
 abbrev pub number_sentence : Form → LineWord → List ℕ
 number_sentence of.Files word.Leg = codes "SSRC is a number up to 4294967295, in decimal digits, and T140 and RED are numbers from 96 to 127"
 number_sentence of.Files word.Mixer = codes "SSRC and STAMP are numbers up to 4294967295, and SEQ is one up to 65535, in decimal digits"
-number_sentence of.Files word.Gens = codes "gens is a number from 0 to 3"
+number_sentence of.Files word.Generations = codes "gens is a number from 0 to 3"
 number_sentence of.Files word.Stay = codes "FROM and UNTIL are numbers of milliseconds up to 14400000, and UNTIL is the greater one"
 number_sentence of.Files word.Tick = codes "tick is a number of milliseconds from 20 to 200"
 number_sentence of.Files word.Spacing = codes "spacing is a number of milliseconds from 100 to 500"
@@ -190,7 +190,7 @@ number_sentence of.Files word.Twice = codes "the number of a packet is one from 
 number_sentence of.Files word.Other = codes "the number of a packet is one from 0 to 4294967295"
 number_sentence of.Links word.Leg = codes "SSRC is a number up to 4294967295, in decimal digits, IN is a port from 1 to 65535, and T140 and RED are numbers from 96 to 127"
 number_sentence of.Links word.Mixer = codes "SSRC and STAMP are numbers up to 4294967295, and SEQ is one up to 65535, in decimal digits"
-number_sentence of.Links word.Gens = codes "gens is a number from 0 to 3"
+number_sentence of.Links word.Generations = codes "gens is a number from 0 to 3"
 number_sentence of.Links word.Stay = codes "FROM and UNTIL are numbers of milliseconds up to 14400000, and UNTIL is the greater one"
 number_sentence of.Links word.Tick = codes "tick is a number of milliseconds from 20 to 200"
 number_sentence of.Links word.Spacing = codes "spacing is a number of milliseconds from 100 to 500"
@@ -211,7 +211,7 @@ number_sentence of.Links word.Other = codes "the number of a packet is one from 
 abbrev pub twice_sentence : LineWord → List ℕ
 twice_sentence word.Leg = codes "a leg above has this name: give each its own"
 twice_sentence word.Mixer = codes "a line above says it: leave one of them out"
-twice_sentence word.Gens = codes "a line above says it of this leg: leave one of them out"
+twice_sentence word.Generations = codes "a line above says it of this leg: leave one of them out"
 twice_sentence word.Stay = codes "a line above says it of this leg: leave one of them out"
 twice_sentence word.Tick = codes "a line above says it: leave one of them out"
 twice_sentence word.Spacing = codes "a line above says it: leave one of them out"
@@ -232,7 +232,7 @@ twice_sentence word.Other = codes "a line above says it: leave one of them out"
 abbrev pub clash_sentence : Form → LineWord → List ℕ
 clash_sentence of.Files word.Leg = codes "the SSRC is that of a leg or the mixer above, the OUT is that of a leg above, an OUT is an IN, or the two payload types are the same: give each its own"
 clash_sentence of.Files word.Mixer = codes "a leg above has this SSRC: give the mixer its own"
-clash_sentence of.Files word.Gens = codes "a leg above has this SSRC: give the mixer its own"
+clash_sentence of.Files word.Generations = codes "a leg above has this SSRC: give the mixer its own"
 clash_sentence of.Files word.Stay = codes "a leg above has this SSRC: give the mixer its own"
 clash_sentence of.Files word.Tick = codes "a leg above has this SSRC: give the mixer its own"
 clash_sentence of.Files word.Spacing = codes "a leg above has this SSRC: give the mixer its own"
@@ -250,7 +250,7 @@ clash_sentence of.Files word.Twice = codes "a leg above has this SSRC: give the 
 clash_sentence of.Files word.Other = codes "a leg above has this SSRC: give the mixer its own"
 clash_sentence of.Links word.Leg = codes "the SSRC is that of a leg or the mixer above, the IN is that of a leg or the operator above, the OUT is that of a leg above, or the two payload types are the same: give each its own"
 clash_sentence of.Links word.Mixer = codes "a leg above has this SSRC: give the mixer its own"
-clash_sentence of.Links word.Gens = codes "a leg above has this SSRC: give the mixer its own"
+clash_sentence of.Links word.Generations = codes "a leg above has this SSRC: give the mixer its own"
 clash_sentence of.Links word.Stay = codes "a leg above has this SSRC: give the mixer its own"
 clash_sentence of.Links word.Tick = codes "a leg above has this SSRC: give the mixer its own"
 clash_sentence of.Links word.Spacing = codes "a leg above has this SSRC: give the mixer its own"
@@ -273,23 +273,23 @@ many_sentence of.Files = codes "a conference of recordings has at most 64 legs"
 many_sentence of.Links = codes "a conference of links has at most 16 legs"
 
 -- what is wrong with a line of a conference of this form that begins with this word
-abbrev pub conf_sentence : Form → LineWord → ConfKind → List ℕ
-conf_sentence f w kind.NotText = codes "the line is not UTF-8: save the file as UTF-8"
-conf_sentence f w kind.Word = word_sentence f w
-conf_sentence f w kind.Count = count_sentence w
-conf_sentence f w kind.Name = name_sentence w
-conf_sentence f w kind.Number = number_sentence f w
-conf_sentence f w kind.Many = many_sentence f
-conf_sentence f w kind.PlanMany = codes "a conference has at most 4096 lines lose, delay and twice"
-conf_sentence f w kind.Twice = twice_sentence w
-conf_sentence f w kind.Clash = clash_sentence f w
-conf_sentence f w kind.Few = codes "the line mixer or a leg is missing: a conference has one mixer, and two legs at least"
-conf_sentence f w kind.Crowd = codes "at some moment more than 16 legs stay: give legs stays, so that one goes before another comes"
-conf_sentence f w kind.Large = codes "a conference has at most 262144 octets: leave out comments, or lines lose, delay and twice"
-conf_sentence f w kind.Order = []
-conf_sentence f w kind.Escape = []
-conf_sentence f w kind.Long = []
-conf_sentence f w kind.Full = []
+abbrev pub conference_sentence : Form → LineWord → ConfKind → List ℕ
+conference_sentence f w kind.NotText = codes "the line is not UTF-8: save the file as UTF-8"
+conference_sentence f w kind.Word = word_sentence f w
+conference_sentence f w kind.Count = count_sentence w
+conference_sentence f w kind.Name = name_sentence w
+conference_sentence f w kind.Number = number_sentence f w
+conference_sentence f w kind.Many = many_sentence f
+conference_sentence f w kind.PlanMany = codes "a conference has at most 4096 lines lose, delay and twice"
+conference_sentence f w kind.Twice = twice_sentence w
+conference_sentence f w kind.Clash = clash_sentence f w
+conference_sentence f w kind.Few = codes "the line mixer or a leg is missing: a conference has one mixer, and two legs at least"
+conference_sentence f w kind.Crowd = codes "at some moment more than 16 legs stay: give legs stays, so that one goes before another comes"
+conference_sentence f w kind.Large = codes "a conference has at most 262144 octets: leave out comments, or lines lose, delay and twice"
+conference_sentence f w kind.Order = []
+conference_sentence f w kind.Escape = []
+conference_sentence f w kind.Long = []
+conference_sentence f w kind.Full = []
 
 -- where the file begins with a byte order mark
 abbrev pub mark_sentence : List ℕ

@@ -34,7 +34,7 @@ pub enum FileForm {
 pub enum LineWord {
     Leg,
     Mixer,
-    Gens,
+    Generations,
     Stay,
     Tick,
     Spacing,

@@ -12,7 +12,7 @@ use Rattle.wire_spec.specs.Text.{text_of_short, text_of}
 use Rattle.wire_spec.specs.Dump.{opening, dump_opening, dump_step, records_within, records, record_written, dump, dump_written}
 use Rattle.stream_spec.specs.History.{placed}
 use Rattle.stream_spec.specs.Own.{Stream, Sent, sent_history, own_packet}
-use Rattle.file_spec.specs.Conf.{entry, leg_of, mixer_of, plan_of, stay_or_plan, time_or_other}
+use Rattle.file_spec.specs.Conference.{entry, leg_of, mixer_of, plan_of, stay_or_plan, time_or_other}
 use Rattle.text_spec.specs.Characters.{class_of}
 use Rattle.text_spec.specs.Shown.{shown}
 use Rattle.view_spec.specs.Views.{aware_view}

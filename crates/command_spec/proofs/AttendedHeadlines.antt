@@ -3,8 +3,8 @@ use Rattle.std.proofs.Common.{◌≡◌, ℕ, ◌<◌, ◌^◌, Option, Some, No
 use Rattle.std.specs.Prelude.{All}
 use Rattle.std.specs.List.{AllZip}
 use Rattle.wire_spec.specs.Dump.{dump}
-use Rattle.file_spec.specs.declared.conf_lines.Form.TheVariants.{Files}
-use Rattle.file_spec.specs.Conf.{Conf, conf}
+use Rattle.file_spec.specs.declared.conference_lines.Form.TheVariants.{Files}
+use Rattle.file_spec.specs.Conference.{Conference, conference_from}
 use Rattle.file_spec.specs.Kept.{IsConference}
 use Rattle.file_spec.specs.Lines as lines
 use Rattle.mixer_spec.specs.Setups.{setup}
@@ -24,15 +24,15 @@ use Rattle.command_spec.proofs.Naming.{named_conference, ssrcs_told}
 use Rattle.command_spec.proofs.Reached.{counted_done, done_parts, found, inputs_found, none_broken}
 use Rattle.command_spec.proofs.Ssrcs.{HasSsrcs, ssrcs_fit}
 
-named_fits : (says : ℕ → Said) (c : Conf) → HasSsrcs c → HasSsrcs (named_by says c)
+named_fits : (says : ℕ → Said) (c : Conference) → HasSsrcs c → HasSsrcs (named_by says c)
 named_fits says c fits = record { legs = ssrcs_told (λ ssrc. ssrc < 2 ^ 32) c.wait says (length c.legs) c.legs fits.legs; mixer = fits.mixer }
 
 pub attended : AttendedAreBridged
 attended held after file printed files e stored =
-    let f = found 0 held file (λ octets. attends_read (conf Files octets)) printed files e in go f.0 f.1 (conf Files f.0) refl f.2
+    let f = found 0 held file (λ octets. attends_read (conference_from Files octets)) printed files e in go f.0 f.1 (conference_from Files f.0) refl f.2
   where
-    over : (octets : List ℕ) → held file ≡ Some octets → (c : Conf) → conf Files octets ≡ Ok c → (inputs : List (List ℕ)) → AllZip (λ leg octets. held leg.input ≡ Some octets) c.legs inputs
-        → (n : Conf) → n ≡ named c inputs → All (λ octets. (dump (input_limit n) octets).fault ≡ None) inputs → (m : ℕ) (o : Option Table) → plain (setup n) n.tick n.turns (leg_chunks n (input_at inputs)) ≡ o
+    over : (octets : List ℕ) → held file ≡ Some octets → (c : Conference) → conference_from Files octets ≡ Ok c → (inputs : List (List ℕ)) → AllZip (λ leg octets. held leg.input ≡ Some octets) c.legs inputs
+        → (n : Conference) → n ≡ named c inputs → All (λ octets. (dump (input_limit n) octets).fault ≡ None) inputs → (m : ℕ) (o : Option Table) → plain (setup n) n.tick n.turns (leg_chunks n (input_at inputs)) ≡ o
         → (front : List ℕ) → outcome_from m held (makes n o) ≡ Done front files → printed ≡ front ++ counted n inputs → IsAttended held after file printed
     over octets h c r inputs lie n is whole m None p front e behind = absurd (cc e)
     over octets h c r inputs lie n is whole m (Some table) p front e behind =
@@ -50,7 +50,7 @@ attended held after file printed files e stored =
           views = behind ∙ ap (λ (v : List ℕ). v ++ counted n inputs) (sym d.0 ∙ s.views);
         }
 
-    go : (octets : List ℕ) → held file ≡ Some octets → (r : Result Conf lines.Refusal) → conf Files octets ≡ r → outcome_from 1 held (attends_read r) ≡ Done printed files → IsAttended held after file printed
+    go : (octets : List ℕ) → held file ≡ Some octets → (r : Result Conference lines.Refusal) → conference_from Files octets ≡ r → outcome_from 1 held (attends_read r) ≡ Done printed files → IsAttended held after file printed
     go octets h (Err refusal) r e = absurd (cc e)
     go octets h (Ok c) r e =
         let a = inputs_found held 1 c.legs (attends c) printed files e in

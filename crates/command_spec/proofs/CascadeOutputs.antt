@@ -4,9 +4,9 @@ use Rattle.std.specs.Prelude.{nat_lt}
 use Rattle.wire_spec.specs.Dump.{arrivals_after, dump, dump_written}
 use Rattle.wire_spec.specs.Dump as dumps
 use Rattle.wire_spec.proofs.Recordings.{read_back}
-use Rattle.file_spec.specs.declared.conf_lines.Form.TheVariants.{Files}
-use Rattle.file_spec.specs.declared.conf_lines.LegLine.{LegLine}
-use Rattle.file_spec.specs.Conf.{Conf, conf}
+use Rattle.file_spec.specs.declared.conference_lines.Form.TheVariants.{Files}
+use Rattle.file_spec.specs.declared.conference_lines.LegLine.{LegLine}
+use Rattle.file_spec.specs.Conference.{Conference, conference_from}
 use Rattle.mixer_spec.specs.Setups.{leg_at, setup}
 use Rattle.mixer_spec.specs.Table.{Table}
 use Rattle.mixer_spec.specs.Plain.{plain}
@@ -34,27 +34,27 @@ done_output Told held m (Makes shown made) printed files n name e nth = subst (�
 done_output Told held m (Serves c) printed files n name e nth = absurd (cc e)
 
 -- ---- what is made are the outputs of a mixing, whatever is read
-abbrev pub AllOuts : Conf → Steps → Type 0
+abbrev pub AllOuts : Conference → Steps → Type 0
 AllOuts c (Reads name next) = (octets : List ℕ) → AllOuts c (next octets)
 AllOuts c (Refuses input refusal) = Unit {0}
 AllOuts c (Makes printed files) = (t : Table) × (files ≡ outs c t)
 AllOuts c (Serves other) = ⊥
 
-outs_done : (held : Contents) (m : ℕ) (c : Conf) (steps : Steps) (printed : List ℕ) (files : List Made) → AllOuts c steps → outcome_from m held steps ≡ Done printed files → (t : Table) × (files ≡ outs c t)
+outs_done : (held : Contents) (m : ℕ) (c : Conference) (steps : Steps) (printed : List ℕ) (files : List Made) → AllOuts c steps → outcome_from m held steps ≡ Done printed files → (t : Table) × (files ≡ outs c t)
 outs_done held m c (Reads file next) printed files a e = let f = found m held file next printed files e in outs_done held (m + 1) c (next f.0) printed files (a f.0) f.2
 outs_done held m c (Refuses input refusal) printed files a e = absurd (cc e)
 outs_done held m c (Makes shown made) printed files a e = (a.0, sym (done_parts shown printed made files e).1 ∙ a.1)
 outs_done held m c (Serves other) printed files a e = absurd a
 
-outs_made : (c : Conf) (o : Option Table) → AllOuts c (makes c o)
+outs_made : (c : Conference) (o : Option Table) → AllOuts c (makes c o)
 outs_made c None = tt
 outs_made c (Some t) = (t, refl)
 
-outs_unless : (c : Conf) (n : ℕ) (o : Option dumps.Fault) (steps : Steps) → AllOuts c steps → AllOuts c (unless_faulty n o steps)
+outs_unless : (c : Conference) (n : ℕ) (o : Option dumps.Fault) (steps : Steps) → AllOuts c steps → AllOuts c (unless_faulty n o steps)
 outs_unless c n None steps a = a
 outs_unless c n (Some fault) steps a = tt
 
-outs_legs : (c : Conf) (limit n : ℕ) (legs : List LegLine) (inputs : List (List ℕ)) (steps : Steps) → AllOuts c steps → AllOuts c (unless_leg_faulty limit n legs inputs steps)
+outs_legs : (c : Conference) (limit n : ℕ) (legs : List LegLine) (inputs : List (List ℕ)) (steps : Steps) → AllOuts c steps → AllOuts c (unless_leg_faulty limit n legs inputs steps)
 outs_legs c limit n [] inputs steps a = a
 outs_legs c limit n (leg ∷ legs) [] steps a = a
 outs_legs c limit n (leg ∷ legs) (octets ∷ more) steps a =
@@ -62,38 +62,38 @@ outs_legs c limit n (leg ∷ legs) (octets ∷ more) steps a =
     (λ t. outs_unless c 1 (dump limit octets).fault (unless_leg_faulty limit n legs more steps) (outs_legs c limit n legs more steps a))
     (λ f. outs_unless c n (dump limit octets).fault (unless_leg_faulty limit (suc n) legs more steps) (outs_legs c limit (suc n) legs more steps a))
 
-outs_read : (c : Conf) (split : ℕ → List ℕ) (legs : List LegLine) (next : List (List ℕ) → Steps) → ((inputs : List (List ℕ)) → AllOuts c (next inputs)) → AllOuts c (reads_others split legs next)
+outs_read : (c : Conference) (split : ℕ → List ℕ) (legs : List LegLine) (next : List (List ℕ) → Steps) → ((inputs : List (List ℕ)) → AllOuts c (next inputs)) → AllOuts c (reads_others split legs next)
 outs_read c split [] next a = a []
 outs_read c split (leg ∷ legs) next a =
     by_bool (λ b. AllOuts c (cond b (reads_others split legs (λ more. next (split leg.ssrc ∷ more))) (Reads leg.input (λ octets. reads_others split legs (λ more. next (octets ∷ more)))))) (is_on_trunk leg)
     (λ t. outs_read c split legs (λ more. next (split leg.ssrc ∷ more)) (λ more. a (split leg.ssrc ∷ more)))
     (λ f octets. outs_read c split legs (λ more. next (octets ∷ more)) (λ more. a (octets ∷ more)))
 
-abbrev table_of : Conf → List (List ℕ) → Option Table
+abbrev table_of : Conference → List (List ℕ) → Option Table
 table_of c inputs = plain (setup c) c.tick c.turns (leg_chunks c (input_at inputs))
 
-pub cascade_outs : (file : List ℕ) (ssrc : ℕ) (c : Conf) → AllOuts c (cascades file ssrc c)
+pub cascade_outs : (file : List ℕ) (ssrc : ℕ) (c : Conference) → AllOuts c (cascades file ssrc c)
 cascade_outs file ssrc c = λ octets.
     let split = split_of (trunk_of c ssrc) octets in
     outs_unless c 1 (dump (trunk_limit c) octets).fault (reads_others split c.legs (mixes_over c))
     (outs_read c split c.legs (mixes_over c) (λ inputs. outs_legs c (input_limit c) 2 c.legs inputs (makes c (table_of c inputs)) (outs_made c (table_of c inputs))))
 
 -- ---- a recording without a packet
-some_limit : (c : Conf) → 44 ≤ trunk_limit c
+some_limit : (c : Conference) → 44 ≤ trunk_limit c
 some_limit c = by_bool (λ b. 44 ≤ cond b 524288 2097152) (nat_lt 16 (length c.legs)) (λ t. omega arith) (λ f. omega arith)
 
 -- it is split into such recordings
-silent_split : (c : Conf) (ssrc : ℕ) (leg : LegLine) → split_of (trunk_of c ssrc) (dump_written []) leg.ssrc ≡ silent leg
+silent_split : (c : Conference) (ssrc : ℕ) (leg : LegLine) → split_of (trunk_of c ssrc) (dump_written []) leg.ssrc ≡ silent leg
 unfolding silent split
 silent_split c ssrc leg =
     let t = trunk_of c ssrc in
     let l = some_limit c in
-    ap (λ (r : dumps.Recording). split t.pts t.wait (arrivals_after t.ssrc t.pts [] r.items) leg.ssrc) (read_back (trunk_limit c) [] tt (omega (arith, l)))
+    ap (λ (r : dumps.Recording). split t.payload_types t.wait (arrivals_after t.ssrc t.payload_types [] r.items) leg.ssrc) (read_back (trunk_limit c) [] tt (omega (arith, l)))
 
-silent_fault : (c : Conf) → (dump (trunk_limit c) (dump_written [])).fault ≡ None
+silent_fault : (c : Conference) → (dump (trunk_limit c) (dump_written [])).fault ≡ None
 silent_fault c = let l = some_limit c in ap (λ (r : dumps.Recording). r.fault) (read_back (trunk_limit c) [] tt (omega (arith, l)))
 
-silent_whole : (c : Conf) (n : ℕ) (legs : List LegLine) (steps : Steps) → unless_leg_faulty (input_limit c) n legs (each silent legs) steps ≡ steps
+silent_whole : (c : Conference) (n : ℕ) (legs : List LegLine) (steps : Steps) → unless_leg_faulty (input_limit c) n legs (each silent legs) steps ≡ steps
 unfolding silent
 silent_whole c n [] steps = refl
 silent_whole c n (leg ∷ legs) steps =
@@ -111,7 +111,7 @@ along_silent Told held split (leg ∷ legs) next n file none all o =
     (λ t. along_silent Told held split legs (λ more. next (split leg.ssrc ∷ more)) n file none all (subst (λ (octets : List ℕ). IsOutput Told held (next (octets ∷ each silent legs)) n file) (sym (all leg)) o))
     (λ f. (silent leg, (λ told. absurd (none told)), along_silent Told held split legs (λ more. next (silent leg ∷ more)) n file none all o))
 
-silent_output : (Told : Type 0) (held : Contents) (file : List ℕ) (ssrc : ℕ) (c : Conf) → (Told → ⊥) → (n : ℕ) (leg : LegLine) → leg_at c.legs n ≡ Some leg → IsOutput Told held (cascades file ssrc c) n leg.output
+silent_output : (Told : Type 0) (held : Contents) (file : List ℕ) (ssrc : ℕ) (c : Conference) → (Told → ⊥) → (n : ℕ) (leg : LegLine) → leg_at c.legs n ≡ Some leg → IsOutput Told held (cascades file ssrc c) n leg.output
 silent_output Told held file ssrc c none n leg at =
     let split = split_of (trunk_of c ssrc) (dump_written []) in
     let table = silent_table c c.legs in
@@ -124,7 +124,7 @@ silent_output Told held file ssrc c none n leg at =
     )
 
 -- ---- the whole
-behind_output : (Told : Type 0) (held : Contents) (file : List ℕ) (ssrc : ℕ) (c : Conf) → (Told → (printed : List ℕ) × (files : List Made) × (outcome_from 1 held (cascades file ssrc c) ≡ Done printed files))
+behind_output : (Told : Type 0) (held : Contents) (file : List ℕ) (ssrc : ℕ) (c : Conference) → (Told → (printed : List ℕ) × (files : List Made) × (outcome_from 1 held (cascades file ssrc c) ≡ Done printed files))
     → (n : ℕ) (leg : LegLine) → leg_at c.legs n ≡ Some leg → IsOutput Told held (cascades file ssrc c) n leg.output
 behind_output Told held file ssrc c makes_it n leg at = go (outcome_from 1 held (cascades file ssrc c)) refl
   where
@@ -137,7 +137,7 @@ behind_output Told held file ssrc c makes_it n leg at = go (outcome_from 1 held 
     go (Served other) e = silent_output Told held file ssrc c (λ told. let r = makes_it told in cc (sym e ∙ r.2)) n leg at
 
 -- The output of each leg is one of `cascade`.
-pub cascaded_output : (Told : Type 0) (held : Contents) (conference octets file : List ℕ) (ssrc : ℕ) (c : Conf) → (Told → held conference ≡ Some octets) → conf Files octets ≡ Ok c → odd_line c.legs ≡ None
+pub cascaded_output : (Told : Type 0) (held : Contents) (conference octets file : List ℕ) (ssrc : ℕ) (c : Conference) → (Told → held conference ≡ Some octets) → conference_from Files octets ≡ Ok c → odd_line c.legs ≡ None
     → (Told → (printed : List ℕ) × (files : List Made) × (outcome_from 1 held (cascades file ssrc c) ≡ Done printed files))
     → (n : ℕ) (leg : LegLine) → leg_at c.legs n ≡ Some leg → IsOutput Told held (cascading conference file ssrc) n leg.output
 cascaded_output Told held conference octets file ssrc c lies read even makes_it n leg at = (

@@ -4,7 +4,7 @@ use Rattle.std.specs.Prelude.{All, map, not, ◌&&◌, ◌==◌}
 use Rattle.std.specs.List.{AllZip, concat}
 use Rattle.std.proofs.lemmas.Bool.{true≢false, eq-eqb, eqb-true, and_parts}
 use Rattle.std.proofs.lemmas.List.Elements.{All-nil, All-cons, All-head, All-tail}
-use Rattle.rtt_base.specs.declared.text_packets.Pts.{Pts}
+use Rattle.rtt_base.specs.declared.text_packets.PayloadTypes.{PayloadTypes}
 use Rattle.wire_spec.specs.Packets.{Arrival}
 use Rattle.wire_spec.specs.Dump.{arrivals_after, dump}
 use Rattle.wire_spec.specs.Dump as dumps
@@ -14,9 +14,9 @@ use Rattle.stream_spec.specs.Still.{still, still_history}
 use Rattle.stream_spec.proofs.ChunkTexts.{chunk_texts}
 use Rattle.stream_spec.proofs.Still.{come_still, lawful_still}
 use Rattle.stream_spec.proofs.Walks.{l1}
-use Rattle.file_spec.specs.declared.conf_lines.Form.TheVariants.{Files}
-use Rattle.file_spec.specs.declared.conf_lines.LegLine.{LegLine}
-use Rattle.file_spec.specs.Conf.{Conf, conf, usual_types}
+use Rattle.file_spec.specs.declared.conference_lines.Form.TheVariants.{Files}
+use Rattle.file_spec.specs.declared.conference_lines.LegLine.{LegLine}
+use Rattle.file_spec.specs.Conference.{Conference, conference_from, usual_types}
 use Rattle.file_spec.specs.Lines as lines
 use Rattle.mixer_spec.specs.Setups.{leg_at, setup, ssrc_of}
 use Rattle.mixer_spec.specs.Table.{Table}
@@ -113,7 +113,7 @@ ssrc_fits [] i leg all at = absurd (cc at)
 ssrc_fits (l ∷ legs) zero leg all at = let same : l ≡ leg = cc at in subst (λ (x : LegLine). x.ssrc < 2 ^ 32) same (All-head (λ (l : LegLine). l.ssrc < 2 ^ 32) l legs all)
 ssrc_fits (l ∷ legs) (suc i) leg all at = ssrc_fits legs i leg (All-tail (λ (l : LegLine). l.ssrc < 2 ^ 32) l legs all) at
 
-same_types : (a b : Pts) → a.t140 ≡ b.t140 → a.red ≡ b.red → a ≡ b
+same_types : (a b : PayloadTypes) → a.t140 ≡ b.t140 → a.red ≡ b.red → a ≡ b
 same_types a b t r = λ i. record { t140 = t i; red = r i }
 
 not_other : (t b : Bool) → t ≡ true → (t && not b) ≡ false → b ≡ true
@@ -122,11 +122,11 @@ not_other true false on e = absurd (true≢false e)
 not_other false b on e = absurd (true≢false (sym on))
 
 -- its types are the usual ones
-types_are : (leg : LegLine) → is_on_trunk leg ≡ true → has_other_types leg ≡ false → leg.pts ≡ usual_types
+types_are : (leg : LegLine) → is_on_trunk leg ≡ true → has_other_types leg ≡ false → leg.payload_types ≡ usual_types
 types_are leg on same =
-    let both = not_other (is_on_trunk leg) (leg.pts.t140 == usual_types.t140 && leg.pts.red == usual_types.red) on same in
-    let each = and_parts (leg.pts.t140 == usual_types.t140) (leg.pts.red == usual_types.red) both in
-    same_types leg.pts usual_types (eqb-true leg.pts.t140 usual_types.t140 each.0) (eqb-true leg.pts.red usual_types.red each.1)
+    let both = not_other (is_on_trunk leg) (leg.payload_types.t140 == usual_types.t140 && leg.payload_types.red == usual_types.red) on same in
+    let each = and_parts (leg.payload_types.t140 == usual_types.t140) (leg.payload_types.red == usual_types.red) both in
+    same_types leg.payload_types usual_types (eqb-true leg.payload_types.t140 usual_types.t140 each.0) (eqb-true leg.payload_types.red usual_types.red each.1)
 
 behind_of : (held : Contents) (ssrc : ℕ) (octets : List ℕ) (b : Bridge) (i : ℕ) (leg : LegLine)
     → AllZip (IsTextOf held (split_of (trunk_of b.conference ssrc) octets)) b.conference.legs b.inputs → All (λ (l : LegLine). l.ssrc < 2 ^ 32) b.conference.legs
@@ -155,7 +155,7 @@ behind_of held ssrc octets b i leg lie fit at on same few plan heard_at = record
     heard_is : heard_of b i ≡ mixed_in usual_types leg.ssrc (input_limit b.conference) b.conference.wait text
     heard_is =
         ap (λ o. heard b.conference.wait (still (leg_arrivals (input_limit b.conference) o (input_at b.inputs i))) (ssrc_of o)) at
-        ∙ (ap (λ (p : Pts). heard b.conference.wait (still (arrivals_after leg.ssrc p [] (dump (input_limit b.conference) (input_at b.inputs i)).items)) leg.ssrc) (types_are leg on same)
+        ∙ (ap (λ (p : PayloadTypes). heard b.conference.wait (still (arrivals_after leg.ssrc p [] (dump (input_limit b.conference) (input_at b.inputs i)).items)) leg.ssrc) (types_are leg on same)
         ∙ ap (mixed_in usual_types leg.ssrc (input_limit b.conference) b.conference.wait)
         ((text_at held (split_of (trunk_of b.conference ssrc) octets) b.conference.legs b.inputs i leg lie at).on_trunk on))
 
@@ -184,9 +184,9 @@ not_odd (l ∷ legs) i leg none at =
 
 pub cascaded : CascadesAreBridged
 cascaded held after conference file ssrc printed files e stored =
-    let f = found 0 held conference (λ octets. cascades_read file ssrc (conf Files octets)) printed files e in go f.0 f.1 (conf Files f.0) refl f.2
+    let f = found 0 held conference (λ octets. cascades_read file ssrc (conference_from Files octets)) printed files e in go f.0 f.1 (conference_from Files f.0) refl f.2
   where
-    over : (described : List ℕ) → held conference ≡ Some described → (c : Conf) → conf Files described ≡ Ok c → odd_line c.legs ≡ None
+    over : (described : List ℕ) → held conference ≡ Some described → (c : Conference) → conference_from Files described ≡ Ok c → odd_line c.legs ≡ None
         → (octets : List ℕ) → held file ≡ Some octets → (dump (trunk_limit c) octets).fault ≡ None → (inputs : List (List ℕ))
         → AllZip (IsTextOf held (split_of (trunk_of c ssrc) octets)) c.legs inputs → AllWhole (input_limit c) inputs → (m : ℕ) (o : Option Table)
         → plain (setup c) c.tick c.turns (leg_chunks c (input_at inputs)) ≡ o → outcome_from m held (makes c o) ≡ Done printed files → IsCascaded held after conference file ssrc printed
@@ -204,7 +204,7 @@ cascaded held after conference file ssrc printed files e stored =
               (plan_law c (accepted_law Files described c read).0) (λ j pair. is_seen.heard j i pair);
         }
 
-    behind_mixer : (described : List ℕ) → held conference ≡ Some described → (c : Conf) → conf Files described ≡ Ok c → odd_line c.legs ≡ None
+    behind_mixer : (described : List ℕ) → held conference ≡ Some described → (c : Conference) → conference_from Files described ≡ Ok c → odd_line c.legs ≡ None
         → outcome_from 1 held (cascades file ssrc c) ≡ Done printed files → IsCascaded held after conference file ssrc printed
     behind_mixer described there c read even e =
         let f = found 1 held file (mixes_splits c ssrc) printed files e in
@@ -214,12 +214,12 @@ cascaded held after conference file ssrc printed files e stored =
         let w = legs_whole held split g.last (input_limit c) 2 c.legs g.inputs (makes c (plain (setup c) c.tick c.turns (leg_chunks c (input_at g.inputs)))) printed files g.lie g.then_ in
         over described there c read even f.0 f.1 r.0 g.inputs g.lie w.0 g.last (plain (setup c) c.tick c.turns (leg_chunks c (input_at g.inputs))) refl w.1
 
-    all_even : (described : List ℕ) → held conference ≡ Some described → (c : Conf) → conf Files described ≡ Ok c → (o : Option ℕ) → odd_line c.legs ≡ o
+    all_even : (described : List ℕ) → held conference ≡ Some described → (c : Conference) → conference_from Files described ≡ Ok c → (o : Option ℕ) → odd_line c.legs ≡ o
         → outcome_from 1 held (unless_odd o (cascades file ssrc c)) ≡ Done printed files → IsCascaded held after conference file ssrc printed
     all_even described there c read None even e = behind_mixer described there c read even e
     all_even described there c read (Some line) even e = absurd (cc e)
 
-    go : (described : List ℕ) → held conference ≡ Some described → (r : Result Conf lines.Refusal) → conf Files described ≡ r
+    go : (described : List ℕ) → held conference ≡ Some described → (r : Result Conference lines.Refusal) → conference_from Files described ≡ r
         → outcome_from 1 held (cascades_read file ssrc r) ≡ Done printed files → IsCascaded held after conference file ssrc printed
     go described there (Err refusal) r e = absurd (cc e)
     go described there (Ok c) r e = all_even described there c r (odd_line c.legs) refl e

@@ -4,13 +4,13 @@ use Rattle.std.specs.Prelude.{map, flat_map, max, ◌&&◌, ◌==◌, nat_lt}
 use Rattle.std.specs.List.{AllByRecursion}
 use Rattle.std.proofs.lemmas.Bool.{or_parts, ltb-false}
 use Rattle.std.proofs.lemmas.List.{append_assoc}
-use Rattle.rtt_base.specs.declared.text_packets.Pts.{Pts}
+use Rattle.rtt_base.specs.declared.text_packets.PayloadTypes.{PayloadTypes}
 use Rattle.wire_spec.specs.declared.faults.TextFault.{TextFault}
 use Rattle.wire_spec.specs.Packets.{Packet, Arrival}
 use Rattle.wire_spec.specs.Text.{text_of}
 use Rattle.wire_spec.specs.SentPackets.{packet_written}
 use Rattle.wire_spec.specs.Dump.{Item, Whole, latest, arrived, arrivals_after}
-use Rattle.file_spec.specs.declared.conf_lines.PlanLine.{PlanLine}
+use Rattle.file_spec.specs.declared.conference_lines.PlanLine.{PlanLine}
 use Rattle.stream_spec.specs.Lists.{In}
 use Rattle.mixer_spec.specs.Arrives.{Copy, is_sooner, InOrder, arrives, one_at, arrival, arrivals_of_copies, arrivals}
 use Rattle.mixer_spec.proofs.PlanOrder.{order_law}
@@ -18,8 +18,8 @@ use Rattle.view_spec.specs.Seen.{Reception, Text, fate_of, fate_at, is_packet, i
 use Rattle.mixer_spec.specs.Arrives.{item_of, came}
 use Rattle.command_spec.proofs.SentBack.{IsBack}
 
-abbrev record_of : Pts → Arrival → ℕ × List ℕ
-record_of pts a = (a.time, packet_written pts a.packet)
+abbrev record_of : PayloadTypes → Arrival → ℕ × List ℕ
+record_of payload_types a = (a.time, packet_written payload_types a.packet)
 
 not_sooner : (c d : Copy) → is_sooner d c ≡ false → c.at ≤ d.at
 not_sooner c d e = let l = ltb-false d.at c.at (or_parts (nat_lt d.at c.at) ((d.at == c.at) && nat_lt d.index c.index) e).0 in omega arith
@@ -33,13 +33,13 @@ read_at time past (Ok q) p e l =
     λ i. (let a : Arrival = record { time = m i; packet = same i } in a) ∷ past
 read_at time past (Err fault) p e l = absurd (cc e)
 
-copy_comes : (r : Reception) (c : Copy) (k : ℕ) (sent past : List Arrival) (rest : List Item) → AllByRecursion (IsBack r.ssrc r.pts) sent → latest past ≤ c.at
-    → arrivals_after r.ssrc r.pts past (map (λ x. record { time = c.at; what = Whole x.1 }) (one_at k (map (record_of r.pts) sent)) ++ rest)
-    ≡ arrivals_after r.ssrc r.pts (map (λ a. record { time = c.at; packet = a.packet }) (one_at k sent) ++ past) rest
+copy_comes : (r : Reception) (c : Copy) (k : ℕ) (sent past : List Arrival) (rest : List Item) → AllByRecursion (IsBack r.ssrc r.payload_types) sent → latest past ≤ c.at
+    → arrivals_after r.ssrc r.payload_types past (map (λ x. record { time = c.at; what = Whole x.1 }) (one_at k (map (record_of r.payload_types) sent)) ++ rest)
+    ≡ arrivals_after r.ssrc r.payload_types (map (λ a. record { time = c.at; packet = a.packet }) (one_at k sent) ++ past) rest
 copy_comes r c zero [] past rest b l = refl
 copy_comes r c (suc k) [] past rest b l = refl
 copy_comes r c zero (a ∷ sent) past rest b l =
-    ap (λ (xs : List Arrival). arrivals_after r.ssrc r.pts xs rest) (read_at c.at past (text_of (packet_written r.pts a.packet) (Some r.ssrc) r.pts) a.packet b.0.text_is l)
+    ap (λ (xs : List Arrival). arrivals_after r.ssrc r.payload_types xs rest) (read_at c.at past (text_of (packet_written r.payload_types a.packet) (Some r.ssrc) r.payload_types) a.packet b.0.text_is l)
 copy_comes r c (suc k) (a ∷ sent) past rest b l = copy_comes r c k sent past rest b.1 l
 
 copy_late : (c : Copy) (k : ℕ) (sent past : List Arrival) → latest past ≤ c.at → latest (map (λ a. record { time = c.at; packet = a.packet }) (one_at k sent) ++ past) ≤ c.at
@@ -49,34 +49,34 @@ copy_late c zero (a ∷ sent) past l = omega arith
 copy_late c (suc k) (a ∷ sent) past l = copy_late c k sent past l
 
 -- ---- all copies
-all_come : (r : Reception) (sent : List Arrival) → AllByRecursion (IsBack r.ssrc r.pts) sent → (cs : List Copy) (past : List Arrival) → InOrder cs → ((c : Copy) → In c cs → latest past ≤ c.at)
-    → arrivals_after r.ssrc r.pts past (flat_map (item_of (map (record_of r.pts) sent)) cs) ≡ arrivals_of_copies sent cs ++ past
+all_come : (r : Reception) (sent : List Arrival) → AllByRecursion (IsBack r.ssrc r.payload_types) sent → (cs : List Copy) (past : List Arrival) → InOrder cs → ((c : Copy) → In c cs → latest past ≤ c.at)
+    → arrivals_after r.ssrc r.payload_types past (flat_map (item_of (map (record_of r.payload_types) sent)) cs) ≡ arrivals_of_copies sent cs ++ past
 all_come r sent b [] past o l = refl
 all_come r sent b (c ∷ cs) past o l =
     let first = l c (inl refl) in
-    copy_comes r c c.index sent past (flat_map (item_of (map (record_of r.pts) sent)) cs) b first
+    copy_comes r c c.index sent past (flat_map (item_of (map (record_of r.payload_types) sent)) cs) b first
     ∙ (all_come r sent b cs (arrival sent c ++ past) o.1 (λ d i. let m = copy_late c c.index sent past first in let n = not_sooner c d (o.0 d i) in omega (arith, m, n))
     ∙ sym (append_assoc (arrivals_of_copies sent cs) (arrival sent c) past))
 
-times_are : (pts : Pts) (sent : List Arrival) → map (λ (x : ℕ × List ℕ). x.0) (map (record_of pts) sent) ≡ map (λ (a : Arrival). a.time) sent
-times_are pts [] = refl
-times_are pts (a ∷ sent) = ap (λ ts. a.time ∷ ts) (times_are pts sent)
+times_are : (payload_types : PayloadTypes) (sent : List Arrival) → map (λ (x : ℕ × List ℕ). x.0) (map (record_of payload_types) sent) ≡ map (λ (a : Arrival). a.time) sent
+times_are payload_types [] = refl
+times_are payload_types (a ∷ sent) = ap (λ ts. a.time ∷ ts) (times_are payload_types sent)
 
 nil : (xs : List Arrival) → xs ++ [] ≡ xs
 nil [] = refl
 nil (x ∷ xs) = ap (λ ys. x ∷ ys) (nil xs)
 
-pub comes : (r : Reception) (plan : List PlanLine) (j : ℕ) (sent : List Arrival) → AllByRecursion (IsBack r.ssrc r.pts) sent
-    → arrivals_after r.ssrc r.pts [] (came plan j (map (record_of r.pts) sent)) ≡ arrivals plan j sent
+pub comes : (r : Reception) (plan : List PlanLine) (j : ℕ) (sent : List Arrival) → AllByRecursion (IsBack r.ssrc r.payload_types) sent
+    → arrivals_after r.ssrc r.payload_types [] (came plan j (map (record_of r.payload_types) sent)) ≡ arrivals plan j sent
 comes r plan j sent b =
-    ap (λ ts. arrivals_after r.ssrc r.pts [] (flat_map (item_of (map (record_of r.pts) sent)) (arrives plan j ts))) (times_are r.pts sent)
+    ap (λ ts. arrivals_after r.ssrc r.payload_types [] (flat_map (item_of (map (record_of r.payload_types) sent)) (arrives plan j ts))) (times_are r.payload_types sent)
     ∙ (all_come r sent b (arrives plan j (map (λ a. a.time) sent)) [] (order_law plan j (map (λ a. a.time) sent)) (λ c i. omega arith)
     ∙ nil (arrivals_of_copies sent (arrives plan j (map (λ a. a.time) sent))))
 
 -- ---- counts
 -- each that comes is a packet of text
-copy_texts : (r : Reception) (c : Copy) (k : ℕ) (sent : List Arrival) → AllByRecursion (IsBack r.ssrc r.pts) sent
-    → AllByRecursion (λ i. fate_at r i ≡ Text) (map (λ x. record { time = c.at; what = Whole x.1 }) (one_at k (map (record_of r.pts) sent)))
+copy_texts : (r : Reception) (c : Copy) (k : ℕ) (sent : List Arrival) → AllByRecursion (IsBack r.ssrc r.payload_types) sent
+    → AllByRecursion (λ i. fate_at r i ≡ Text) (map (λ x. record { time = c.at; what = Whole x.1 }) (one_at k (map (record_of r.payload_types) sent)))
 copy_texts r c zero [] b = tt
 copy_texts r c (suc k) [] b = tt
 copy_texts r c zero (a ∷ sent) b = (ap fate_of b.0.text_is, tt)
@@ -86,14 +86,14 @@ both : {X : Type 0} (P : X → Type 0) (xs ys : List X) → AllByRecursion P xs 
 both P [] ys a b = b
 both P (x ∷ xs) ys a b = (a.0, both P xs ys a.1 b)
 
-all_texts : (r : Reception) (sent : List Arrival) → AllByRecursion (IsBack r.ssrc r.pts) sent → (cs : List Copy) → AllByRecursion (λ i. fate_at r i ≡ Text) (flat_map (item_of (map (record_of r.pts) sent)) cs)
+all_texts : (r : Reception) (sent : List Arrival) → AllByRecursion (IsBack r.ssrc r.payload_types) sent → (cs : List Copy) → AllByRecursion (λ i. fate_at r i ≡ Text) (flat_map (item_of (map (record_of r.payload_types) sent)) cs)
 all_texts r sent b [] = tt
 all_texts r sent b (c ∷ cs) =
-    both (λ i. fate_at r i ≡ Text) (item_of (map (record_of r.pts) sent) c) (flat_map (item_of (map (record_of r.pts) sent)) cs) (copy_texts r c c.index sent b) (all_texts r sent b cs)
+    both (λ i. fate_at r i ≡ Text) (item_of (map (record_of r.payload_types) sent) c) (flat_map (item_of (map (record_of r.payload_types) sent)) cs) (copy_texts r c c.index sent b) (all_texts r sent b cs)
 
-pub texts_come : (r : Reception) (plan : List PlanLine) (j : ℕ) (sent : List Arrival) → AllByRecursion (IsBack r.ssrc r.pts) sent
-    → AllByRecursion (λ i. fate_at r i ≡ Text) (came plan j (map (record_of r.pts) sent))
-texts_come r plan j sent b = all_texts r sent b (arrives plan j (map (λ x. x.0) (map (record_of r.pts) sent)))
+pub texts_come : (r : Reception) (plan : List PlanLine) (j : ℕ) (sent : List Arrival) → AllByRecursion (IsBack r.ssrc r.payload_types) sent
+    → AllByRecursion (λ i. fate_at r i ≡ Text) (came plan j (map (record_of r.payload_types) sent))
+texts_come r plan j sent b = all_texts r sent b (arrives plan j (map (λ x. x.0) (map (record_of r.payload_types) sent)))
 
 pub all_count : (r : Reception) (items : List Item) → AllByRecursion (λ i. fate_at r i ≡ Text) items → many is_packet (fate_at r) items ≡ length items
 all_count r [] a = refl
@@ -107,26 +107,26 @@ pub none_foreign : (r : Reception) (items : List Item) → AllByRecursion (λ i.
 none_foreign r [] a = refl
 none_foreign r (x ∷ items) a = rw a.0 (none_foreign r items a.1)
 
-one_each : (k : ℕ) (sent : List Arrival) (pts : Pts) → length (one_at k (map (record_of pts) sent)) ≡ length (one_at k sent)
-one_each zero [] pts = refl
-one_each (suc k) [] pts = refl
-one_each zero (a ∷ sent) pts = refl
-one_each (suc k) (a ∷ sent) pts = one_each k sent pts
+one_each : (k : ℕ) (sent : List Arrival) (payload_types : PayloadTypes) → length (one_at k (map (record_of payload_types) sent)) ≡ length (one_at k sent)
+one_each zero [] payload_types = refl
+one_each (suc k) [] payload_types = refl
+one_each zero (a ∷ sent) payload_types = refl
+one_each (suc k) (a ∷ sent) payload_types = one_each k sent payload_types
 
 length_map : {X Y : Type 0} (f : X → Y) (xs : List X) → length (map f xs) ≡ length xs
 length_map f [] = refl
 length_map f (x ∷ xs) = ap suc (length_map f xs)
 
-as_many : (pts : Pts) (sent : List Arrival) (cs : List Copy) → length (flat_map (item_of (map (record_of pts) sent)) cs) ≡ length (arrivals_of_copies sent cs)
-as_many pts sent [] = refl
-as_many pts sent (c ∷ cs) =
-    let a = length-append (item_of (map (record_of pts) sent) c) (flat_map (item_of (map (record_of pts) sent)) cs) in
+as_many : (payload_types : PayloadTypes) (sent : List Arrival) (cs : List Copy) → length (flat_map (item_of (map (record_of payload_types) sent)) cs) ≡ length (arrivals_of_copies sent cs)
+as_many payload_types sent [] = refl
+as_many payload_types sent (c ∷ cs) =
+    let a = length-append (item_of (map (record_of payload_types) sent) c) (flat_map (item_of (map (record_of payload_types) sent)) cs) in
     let b = length-append (arrivals_of_copies sent cs) (arrival sent c) in
-    let m = length_map (λ (x : ℕ × List ℕ). let i : Item = record { time = c.at; what = Whole x.1 } in i) (one_at c.index (map (record_of pts) sent)) in
+    let m = length_map (λ (x : ℕ × List ℕ). let i : Item = record { time = c.at; what = Whole x.1 } in i) (one_at c.index (map (record_of payload_types) sent)) in
     let n = length_map (λ (y : Arrival). let i : Arrival = record { time = c.at; packet = y.packet } in i) (one_at c.index sent) in
-    let r = as_many pts sent cs in
-    omega (arith, a, b, m, n, r, one_each c.index sent pts)
+    let r = as_many payload_types sent cs in
+    omega (arith, a, b, m, n, r, one_each c.index sent payload_types)
 
-pub many_come : (pts : Pts) (plan : List PlanLine) (j : ℕ) (sent : List Arrival) → length (came plan j (map (record_of pts) sent)) ≡ length (arrivals plan j sent)
-many_come pts plan j sent =
-    ap (λ ts. length (flat_map (item_of (map (record_of pts) sent)) (arrives plan j ts))) (times_are pts sent) ∙ as_many pts sent (arrives plan j (map (λ a. a.time) sent))
+pub many_come : (payload_types : PayloadTypes) (plan : List PlanLine) (j : ℕ) (sent : List Arrival) → length (came plan j (map (record_of payload_types) sent)) ≡ length (arrivals plan j sent)
+many_come payload_types plan j sent =
+    ap (λ ts. length (flat_map (item_of (map (record_of payload_types) sent)) (arrives plan j ts))) (times_are payload_types sent) ∙ as_many payload_types sent (arrives plan j (map (λ a. a.time) sent))

@@ -9,7 +9,7 @@ use Rattle.wire_spec.specs.Rtp.{rtp, rtp_of_header}
 use Rattle.wire_spec.specs.Red.{red, headers_at, texts_at}
 use Rattle.frame_spec.specs.declared.kinds.FrameKind.TheVariants.{EndsInside, Length}
 use Rattle.frame_spec.specs.Frames.{frame_step, reading_from, reading_within}
-use Rattle.command_spec.specs.Usual.{usual_pts}
+use Rattle.command_spec.specs.Usual.{usual_payload_types}
 use Rattle.command_spec.specs.Scripts.{Sending, events_before, first_from, first_end}
 use Rattle.command_spec.specs.Frames.{relay, channel}
 
@@ -38,7 +38,7 @@ soon : List ℕ
 soon = hex (codes "0000000000014100000003000142")
 
 often : Sending
-often = record { stream = record { ssrc = 1001; first = 0; base = 0; gens = 2 }; interval = 3; pts = usual_pts }
+often = record { stream = record { ssrc = 1001; first = 0; base = 0; generations = 2 }; interval = 3; payload_types = usual_payload_types }
 
 soon_letters : List ℕ
 soon_letters = hex (codes "001E00160000000080E4000000000000000003E9E2FFFC00E2FFFC006241")

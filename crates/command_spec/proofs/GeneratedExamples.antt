@@ -1,9 +1,9 @@
 -- Generated conferences that another program worked out from the same rules.
 use Rattle.std.proofs.Common.{◌≡◌, ℕ, ◌-◌, ◌^◌, List, [], ◌∷◌, ◌++◌, refl, true, false}
 use Rattle.std.specs.Prelude.{codes, length, map, take, drop}
-use Rattle.file_spec.specs.declared.conf_lines.PlanLine.{PlanLine}
-use Rattle.file_spec.specs.declared.conf_lines.What.{What}
-use Rattle.file_spec.specs.declared.conf_lines.What.TheVariants.{Lose, Delay, Twice}
+use Rattle.file_spec.specs.declared.conference_lines.PlanLine.{PlanLine}
+use Rattle.file_spec.specs.declared.conference_lines.What.{What}
+use Rattle.file_spec.specs.declared.conference_lines.What.TheVariants.{Lose, Delay, Twice}
 use Rattle.file_spec.specs.Script.{ScriptLine}
 use Rattle.command_spec.specs.Draws.{next, draw, times}
 use Rattle.command_spec.specs.Generated.{generated, plan_line, script_from, text, typist, without_repeats}

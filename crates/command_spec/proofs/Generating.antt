@@ -13,10 +13,10 @@ use Rattle.std.proofs.lemmas.List.Kept.{AllPairs-cons, AllPairs-filter}
 use Rattle.std.proofs.lemmas.List.Sums.{count_by-le-length, length-filter}
 use Rattle.std.proofs.lemmas.Str.{IsUtf8-nil, IsUtf8-append, IsUtf8-from_ascii}
 use Rattle.file_spec.specs.declared.limits.TheConstants.{LAST_MOMENT}
-use Rattle.file_spec.specs.declared.conf_lines.LegLine.{LegLine}
-use Rattle.file_spec.specs.declared.conf_lines.PlanLine.{PlanLine}
-use Rattle.file_spec.specs.declared.conf_lines.What.TheVariants.{Lose, Delay, Twice}
-use Rattle.file_spec.specs.Conf.{is_name, is_name_octet, is_same_packet}
+use Rattle.file_spec.specs.declared.conference_lines.LegLine.{LegLine}
+use Rattle.file_spec.specs.declared.conference_lines.PlanLine.{PlanLine}
+use Rattle.file_spec.specs.declared.conference_lines.What.TheVariants.{Lose, Delay, Twice}
+use Rattle.file_spec.specs.Conference.{is_name, is_name_octet, is_same_packet}
 use Rattle.file_spec.specs.Kept.{AreLegs, Differ, IsConference, IsLeg, IsShort}
 use Rattle.file_spec.specs.Script.{ScriptLine}
 use Rattle.file_spec.specs.Stays.{stays_at}
@@ -222,7 +222,7 @@ leg_is : (i : ℕ) → i < 100 → IsLeg (leg i)
 leg_is i h = record {
   name = named i h;
   types = record { t140 = record { low = lit≤ tt; high = lit≤ tt }; red = record { low = lit≤ tt; high = lit≤ tt }; differ = λ e. omega (arith, e) };
-  gens = lit≤ tt;
+  generations = lit≤ tt;
   stay = record { from = lit≤ tt; until = λ end e. absurd (cc e); some = λ end e. absurd (cc e) };
 }
 

@@ -4,7 +4,7 @@ use Rattle.std.specs.Prelude.{◌==◌, ◌&&◌, nat_le, if◌then◌else◌}
 use Rattle.std.specs.List.{flat_map}
 use Rattle.std.proofs.lemmas.Bool.{eq-eqb, eqb-true, ne_eqb}
 use Rattle.std.proofs.lemmas.List.{length-append}
-use Rattle.rtt_base.specs.declared.text_packets.Pts.{Pts}
+use Rattle.rtt_base.specs.declared.text_packets.PayloadTypes.{PayloadTypes}
 use Rattle.rtt_base.specs.declared.blocks.TextBlock.{TextBlock}
 use Rattle.wire_spec.specs.Packets.{Packet, back, has_text}
 use Rattle.wire_spec.specs.Dump.{dump_opening, record_written}
@@ -12,7 +12,7 @@ use Rattle.wire_spec.specs.SentPackets.{packet_written}
 use Rattle.stream_spec.specs.Numbering.{Numbered}
 use Rattle.stream_spec.specs.Hearing.{is_marked, is_new, marker, new_texts, older_texts, piece, text_list}
 use Rattle.stream_spec.specs.Ready.{Chunk, chunk, chunks_over}
-use Rattle.cascade_spec.specs.Splitting.{Group, alone, groups, groups_from, joined, moment_of, packet_of, packets_from, record_of, recorded, stamp_of}
+use Rattle.cascade_spec.specs.Splitting.{Group, alone, groups, groups_from, joined, moment_of, packet_of, packets_from, record_of, recorded, timestamp_of}
 
 pub by_bool : (P : Bool → Type 0) (b : Bool) → (b ≡ true → P true) → (b ≡ false → P false) → P b
 by_bool P true t f = t refl
@@ -104,19 +104,19 @@ total_append (x ∷ xs) ys = let e = total_append xs ys in omega (arith, e)
 one_text : (text : List ℕ) → total (text_list text) ≤ length text
 one_text text = by_bool (λ b. total (cond b (text ∷ []) []) ≤ length text) (has_text text) (λ t. omega arith) (λ f. omega arith)
 
-older_total : (prev : Option Numbered) (stamp : ℕ) (bs : List TextBlock) → total (older_texts prev stamp bs) ≤ older_size bs
-older_total prev stamp [] = omega arith
-older_total prev stamp (b ∷ bs) =
-    let rest = older_total prev stamp bs in
+older_total : (prev : Option Numbered) (timestamp : ℕ) (bs : List TextBlock) → total (older_texts prev timestamp bs) ≤ older_size bs
+older_total prev timestamp [] = omega arith
+older_total prev timestamp (b ∷ bs) =
+    let rest = older_total prev timestamp bs in
     let one = one_text b.text in
-    by_bool (λ n. total (cond n (text_list b.text) [] ++ older_texts prev stamp bs) ≤ length b.text + older_size bs) (is_new prev (back stamp b.offset))
-    (λ t. let e = total_append (text_list b.text) (older_texts prev stamp bs) in omega (arith, e, one, rest)) (λ f. omega (arith, rest))
+    by_bool (λ n. total (cond n (text_list b.text) [] ++ older_texts prev timestamp bs) ≤ length b.text + older_size bs) (is_new prev (back timestamp b.offset))
+    (λ t. let e = total_append (text_list b.text) (older_texts prev timestamp bs) in omega (arith, e, one, rest)) (λ f. omega (arith, rest))
 
 piece_total : (present : ℕ → Bool) (first : ℕ) (prev : Option Numbered) (b : Numbered) → total (piece present first prev b) ≤ 3 + text_size b.packet
 piece_total present first prev b =
-    let older = older_total prev b.packet.stamp b.packet.older in
+    let older = older_total prev b.packet.timestamp b.packet.older in
     let own = one_text b.packet.primary in
-    let news = total_append (older_texts prev b.packet.stamp b.packet.older) (text_list b.packet.primary) in
+    let news = total_append (older_texts prev b.packet.timestamp b.packet.older) (text_list b.packet.primary) in
     by_bool (λ m. total (cond m (marker ∷ []) [] ++ new_texts prev b) ≤ 3 + text_size b.packet) (is_marked present first prev b)
     (λ t. omega (arith, older, own, news)) (λ f. omega (arith, older, own, news))
 
@@ -170,8 +170,8 @@ groups_cost ready place present first bs =
 size_opening : length dump_opening ≡ 44
 size_opening = refl
 
-plain_size : (pts : Pts) (s seq stamp : ℕ) (text : List ℕ) → length (packet_written pts (packet_of s seq stamp text)) ≡ 12 + length text
-plain_size pts s seq stamp text = rw (eq-eqb s s refl) (omega arith)
+plain_size : (payload_types : PayloadTypes) (s seq timestamp : ℕ) (text : List ℕ) → length (packet_written payload_types (packet_of s seq timestamp text)) ≡ 12 + length text
+plain_size payload_types s seq timestamp text = rw (eq-eqb s s refl) (omega arith)
 
 eight_more : (n : ℕ) → suc (suc (suc (suc (suc (suc (suc (suc n))))))) ≡ 8 + n
 eight_more n = omega arith
@@ -179,19 +179,19 @@ eight_more n = omega arith
 head_size : (at : ℕ) (packet : List ℕ) → length (record_written (at, packet)) ≡ 8 + length packet
 head_size at packet = eight_more (length packet)
 
-records_size : (pts : Pts) (s seq least : ℕ) (gs : List Group) → length (flat_map record_written (map (record_of pts) (packets_from s seq least gs))) ≡ cost gs
-records_size pts s seq least [] = refl
-records_size pts s seq least (g ∷ gs) =
-    let rest = records_size pts s ((seq + 1) % 2 ^ 16) ((stamp_of least g + 1) % 2 ^ 32) gs in
-    let own = packet_written pts (packet_of s seq (stamp_of least g) g.text) in
-    let one = plain_size pts s seq (stamp_of least g) g.text in
-    let all = length-append (record_written (moment_of g, own)) (flat_map record_written (map (record_of pts) (packets_from s ((seq + 1) % 2 ^ 16) ((stamp_of least g + 1) % 2 ^ 32) gs))) in
+records_size : (payload_types : PayloadTypes) (s seq least : ℕ) (gs : List Group) → length (flat_map record_written (map (record_of payload_types) (packets_from s seq least gs))) ≡ cost gs
+records_size payload_types s seq least [] = refl
+records_size payload_types s seq least (g ∷ gs) =
+    let rest = records_size payload_types s ((seq + 1) % 2 ^ 16) ((timestamp_of least g + 1) % 2 ^ 32) gs in
+    let own = packet_written payload_types (packet_of s seq (timestamp_of least g) g.text) in
+    let one = plain_size payload_types s seq (timestamp_of least g) g.text in
+    let all = length-append (record_written (moment_of g, own)) (flat_map record_written (map (record_of payload_types) (packets_from s ((seq + 1) % 2 ^ 16) ((timestamp_of least g + 1) % 2 ^ 32) gs))) in
     let head = head_size (moment_of g) own in
     omega (arith, rest, one, all, head)
 
-pub recorded_size : (pts : Pts) (s seq least : ℕ) (gs : List Group) → length (recorded pts (packets_from s seq least gs)) ≡ 44 + cost gs
-recorded_size pts s seq least gs =
-    let all = length-append dump_opening (flat_map record_written (map (record_of pts) (packets_from s seq least gs))) in
-    let rest = records_size pts s seq least gs in
+pub recorded_size : (payload_types : PayloadTypes) (s seq least : ℕ) (gs : List Group) → length (recorded payload_types (packets_from s seq least gs)) ≡ 44 + cost gs
+recorded_size payload_types s seq least gs =
+    let all = length-append dump_opening (flat_map record_written (map (record_of payload_types) (packets_from s seq least gs))) in
+    let rest = records_size payload_types s seq least gs in
     let open_ = size_opening in
     omega (arith, all, rest, open_)

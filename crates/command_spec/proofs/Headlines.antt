@@ -5,9 +5,9 @@ use Rattle.std.specs.List.{AllByRecursion, concat, enumerate_from}
 use Rattle.std.proofs.Math.Nat.{mul-le-mul_left}
 use Rattle.wire_spec.specs.Packets.{Arrival}
 use Rattle.wire_spec.specs.Dump.{dump_written}
-use Rattle.file_spec.specs.declared.conf_lines.Form.TheVariants.{Files}
-use Rattle.file_spec.specs.declared.conf_lines.LegLine.{LegLine}
-use Rattle.file_spec.specs.Conf.{Conf, conf}
+use Rattle.file_spec.specs.declared.conference_lines.Form.TheVariants.{Files}
+use Rattle.file_spec.specs.declared.conference_lines.LegLine.{LegLine}
+use Rattle.file_spec.specs.Conference.{Conference, conference_from}
 use Rattle.file_spec.specs.Kept.{IsConference}
 use Rattle.stream_spec.specs.Numbering.{numbered, used}
 use Rattle.stream_spec.specs.Hearing.{heard}
@@ -17,7 +17,7 @@ use Rattle.stream_spec.specs.Carries.{Carries}
 use Rattle.view_spec.specs.declared.counts.Counts.{Counts}
 use Rattle.text_spec.specs.Shown.{shown}
 use Rattle.view_spec.specs.Views.{Source, aware_view, unaware_view}
-use Rattle.mixer_spec.specs.Setups.{AllStay, leg_at, gens_of}
+use Rattle.mixer_spec.specs.Setups.{AllStay, leg_at, generations_of}
 use Rattle.mixer_spec.specs.Table.{Table}
 use Rattle.mixer_spec.specs.Headline.{hears, IsHop}
 use Rattle.mixer_spec.specs.Chunks.{texts_of}
@@ -52,12 +52,12 @@ map_twice f g [] = refl
 map_twice f g (x ∷ xs) = ap (λ zs. f (g x) ∷ zs) (map_twice f g xs)
 
 -- the view of a leg that has these arrivals and counts
-abbrev view_with : Conf → ℕ → LegLine → List Arrival → Counts → List ℕ
+abbrev view_with : Conference → ℕ → LegLine → List Arrival → Counts → List ℕ
 view_with c j leg a counts =
     if leg.aware then aware_view leg.name (map (λ (l : LegLine). let s : Source = record { name = l.name; display = shown (concat (heard c.wait a l.ssrc)) } in s) (remove c.legs j)) counts
     else unaware_view leg.name (shown (concat (heard c.wait a c.mixer.ssrc))) counts
 
-seen_with : (c : Conf) (table : Table) (j : ℕ) (leg : LegLine) → view_of c table j leg ≡ view_with c j leg (arrivals_at (reception_of c leg) (came_to c table j leg)) (counts_at (reception_of c leg) (came_to c table j leg))
+seen_with : (c : Conference) (table : Table) (j : ℕ) (leg : LegLine) → view_of c table j leg ≡ view_with c j leg (arrivals_at (reception_of c leg) (came_to c table j leg)) (counts_at (reception_of c leg) (came_to c table j leg))
 seen_with c table j leg = go leg.aware
   where
     go : (b : Bool)
@@ -68,7 +68,7 @@ seen_with c table j leg = go leg.aware
     go true = ap (λ ss. aware_view leg.name ss (counts_at (reception_of c leg) (came_to c table j leg))) (map_twice (source_at (reception_of c leg) (came_to c table j leg)) speaker_of (remove c.legs j))
     go false = refl
 
-view_is : (b : Bridge) (j : ℕ) (leg : LegLine) → AllByRecursion (IsBack b.conference.mixer.ssrc leg.pts) (sent_to b.conference b.table j) → view_of b.conference b.table j leg ≡ view_behind b j leg
+view_is : (b : Bridge) (j : ℕ) (leg : LegLine) → AllByRecursion (IsBack b.conference.mixer.ssrc leg.payload_types) (sent_to b.conference b.table j) → view_of b.conference b.table j leg ≡ view_behind b j leg
 view_is b j leg k =
     seen_with b.conference b.table j leg
     ∙ (ap (λ (a : List Arrival). view_with b.conference j leg a (counts_at (reception_of b.conference leg) (came_to b.conference b.table j leg))) come
@@ -82,7 +82,7 @@ view_is b j leg k =
 
     counts : counts_at (reception_of b.conference leg) (came_to b.conference b.table j leg) ≡ counts_behind (onward_from_mixer b j)
     counts = same_counts (counts_at (reception_of b.conference leg) (came_to b.conference b.table j leg)) (counts_behind (onward_from_mixer b j))
-        (all_count (reception_of b.conference leg) (came_to b.conference b.table j leg) texts ∙ many_come leg.pts b.conference.plan j (sent_to b.conference b.table j))
+        (all_count (reception_of b.conference leg) (came_to b.conference b.table j leg) texts ∙ many_come leg.payload_types b.conference.plan j (sent_to b.conference b.table j))
         (ap (λ (a : List Arrival). length (used b.conference.wait (numbered a))) come)
         (none_refused (reception_of b.conference leg) (came_to b.conference b.table j leg) texts)
         (none_foreign (reception_of b.conference leg) (came_to b.conference b.table j leg) texts)
@@ -152,7 +152,7 @@ record IsTold (b : Bridge) (j g : ℕ) : Type 0 where
   closed : Closed g (told_to b j)
   packets_are : packets_to (setup_of b) j (b.table.terminals j).past ≡ map (own_packet (told_to b j)) (placed (told_to b j))
 
-is_told : (b : Bridge) → IsWhole b → (j : ℕ) → j < length b.conference.legs → IsTold b j ((setup_of b).gens j)
+is_told : (b : Bridge) → IsWhole b → (j : ℕ) → j < length b.conference.legs → IsTold b j ((setup_of b).generations j)
 is_told b w j l =
     let m = mixed_of b w in
     let a : AtEnd (setup_of b) b.conference.turns j b.table = at_end (setup_of b) (leg_chunks b.conference (input_at b.inputs)) b.conference.tick b.conference.turns j b.table m.setup m.texts l w.over in
@@ -166,7 +166,7 @@ pub seen_of : (held after : Contents) (printed : List ℕ) (b : Bridge) → IsCo
     → printed ≡ views b.conference b.table → AllStored (outs b.conference b.table) held after → IsSeen after printed b
 seen_of held after printed b is fits over views_are stored = record {
   outs = λ j leg at.
-      let g : gens_of (leg_at b.conference.legs j) ≡ leg.gens = ap gens_of at in
+      let g : generations_of (leg_at b.conference.legs j) ≡ leg.generations = ap generations_of at in
       let t = subst (IsTold b j) g (is_told b w j (below_legs b.conference.legs j leg at)) in
       (dump_written (records_of b j leg), there j leg at, out_is b j leg (back j leg at) t.lawful t.own t.closed t.packets_are);
   views = views_are ∙ views_from b 0 b.conference.legs (λ j leg at. let k : j ≡ 0 + j = omega arith in subst (λ n. view_of b.conference b.table n leg ≡ view_behind b n leg) k (view_is b j leg (back j leg at)));
@@ -182,11 +182,11 @@ seen_of held after printed b is fits over views_are stored = record {
         let k : 0 + j ≡ j = omega arith in
         stored_at (out_of b.conference b.table) (λ n l. refl) 0 b.conference.legs held after w.is.legs.differ stored j leg at ∙ ap (λ n. Some (dump_written (records_of b n leg))) k
 
-    back : (j : ℕ) (leg : LegLine) → leg_at b.conference.legs j ≡ Some leg → AllByRecursion (IsBack b.conference.mixer.ssrc leg.pts) (sent_to b.conference b.table j)
+    back : (j : ℕ) (leg : LegLine) → leg_at b.conference.legs j ≡ Some leg → AllByRecursion (IsBack b.conference.mixer.ssrc leg.payload_types) (sent_to b.conference b.table j)
     back j leg at = all_back b.conference (input_at b.inputs) b.table w.is fits over j leg at
 
 -- of one that was read
-pub seen : (held after : Contents) (octets printed : List ℕ) (b : Bridge) → conf Files octets ≡ Ok b.conference → IsConferenceMixed b.conference (input_at b.inputs) b.table
+pub seen : (held after : Contents) (octets printed : List ℕ) (b : Bridge) → conference_from Files octets ≡ Ok b.conference → IsConferenceMixed b.conference (input_at b.inputs) b.table
     → printed ≡ views b.conference b.table → AllStored (outs b.conference b.table) held after → IsSeen after printed b
 seen held after octets printed b read over views_are stored =
     seen_of held after printed b (accepted_law Files octets b.conference read).0 (ssrcs_fit Files octets b.conference read) over views_are stored

@@ -6,7 +6,7 @@ use Rattle.std.proofs.lemmas.Slice.Eq.{bytes_eq-Decides}
 use Rattle.std.specs.Prelude.{codes, map, bytes_eq}
 use Rattle.std.specs.Str.{is_utf8, chars}
 use Rattle.std.specs.Char.{encode_utf8}
-use Rattle.rtt_base.specs.declared.text_packets.Pts.{Pts}
+use Rattle.rtt_base.specs.declared.text_packets.PayloadTypes.{PayloadTypes}
 use Rattle.wire_spec.specs.SentPackets.{packet_written}
 use Rattle.wire_spec.specs.Rtp.{rtp, rtp_of_header}
 use Rattle.wire_spec.specs.Red.{headers_at, texts_at, red}
@@ -16,8 +16,8 @@ use Rattle.wire_spec.specs.declared.faults.DumpKind.TheVariants.{NotDump}
 use Rattle.stream_spec.specs.History.{placed}
 use Rattle.stream_spec.specs.Own.{Stream, Sent, sent_history, own_packet}
 use Rattle.file_spec.specs.declared.kinds.ConfKind.TheVariants.{Count}
-use Rattle.file_spec.specs.Conf as line
-use Rattle.file_spec.specs.Conf.{entry, leg_of, mixer_of, plan_of, stay_or_plan, time_or_other}
+use Rattle.file_spec.specs.Conference as line
+use Rattle.file_spec.specs.Conference.{entry, leg_of, mixer_of, plan_of, stay_or_plan, time_or_other}
 use Rattle.text_spec.specs.Characters.{class_of}
 use Rattle.text_spec.specs.Shown.{shown}
 use Rattle.view_spec.specs.Views.{aware_view}
@@ -34,16 +34,16 @@ legs = codes "leg Ann aware 1001 ann.in ann.out\nleg Bob aware 1002 bob.in bob.o
 
 -- what lies there: the conference, and in every other file a recording
 abbrev pub lying : List ℕ → List ℕ → List ℕ → Contents
-lying conf ann bob name = if_named (codes "c.txt") conf (if_named (codes "ann.in") ann (if_named (codes "bob.in") bob None))
+lying conference ann bob name = if_named (codes "c.txt") conference (if_named (codes "ann.in") ann (if_named (codes "bob.in") bob None))
   where
     if_named : List ℕ → List ℕ → Option (List ℕ) → Option (List ℕ)
     if_named file octets other = cond (bytes_eq name file) (Some octets) other
 
-abbrev pub types : Pts
+abbrev pub types : PayloadTypes
 types = record { t140 = 98; red = 100 }
 
 abbrev pub typist : ℕ → Stream
-typist ssrc = record { ssrc = ssrc; first = 0; base = 0; gens = 2 }
+typist ssrc = record { ssrc = ssrc; first = 0; base = 0; generations = 2 }
 
 abbrev pub text : ℕ → ℕ → List ℕ → Sent
 text ssrc media octets = record { source = ssrc; media = media; text = octets }
@@ -110,7 +110,7 @@ once_to_bob =
 one_lost : outcome (lying (legs ++ codes "gens Bob 0\nlose Bob 1\n") by_ann by_bob) (mixing (codes "c.txt"))
     ≡ Done (view (codes "Ann") (codes "Bob") (codes "Hi Ann" ∷ []) 3 ++ (view (codes "Bob") (codes "Ann") ((codes "H" ++ 239 ∷ 191 ∷ 189 ∷ codes "y") ∷ [] ∷ []) 2 ++ []))
     (record { name = codes "ann.out"; octets = dump_written to_ann } ∷ record { name = codes "bob.out"; octets = dump_written once_to_bob } ∷ [])
-unfolding entry time_or_other stay_or_plan leg_of mixer_of plan_of line.gens_of is_utf8 chars encode_utf8 text_of text_of_short rtp rtp_of_header red headers_at texts_at dump records records_within dump_step opening shown class_of
+unfolding entry time_or_other stay_or_plan leg_of mixer_of plan_of line.generations_of is_utf8 chars encode_utf8 text_of text_of_short rtp rtp_of_header red headers_at texts_at dump records records_within dump_step opening shown class_of
 one_lost = refl
 
 -- ---- what is refused

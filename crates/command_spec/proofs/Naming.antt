@@ -7,10 +7,10 @@ use Rattle.std.proofs.lemmas.Bool.{true≢false, and_parts, ltb-true, lt-ltb, le
 use Rattle.std.proofs.lemmas.List.Folds.{list_any_at}
 use Rattle.std.proofs.lemmas.List.Sums.{length-filter}
 use Rattle.std.proofs.lemmas.Slice.Eq.{bytes_eq-Decides}
-use Rattle.file_spec.specs.declared.limits.TheConstants.{LAST_MOMENT, MOST_GENS}
-use Rattle.file_spec.specs.declared.conf_lines.LegLine.{LegLine}
-use Rattle.file_spec.specs.declared.conf_lines.Stay.{Stay}
-use Rattle.file_spec.specs.Conf.{Conf, change_leg, is_name, port}
+use Rattle.file_spec.specs.declared.limits.TheConstants.{LAST_MOMENT, MOST_GENERATIONS}
+use Rattle.file_spec.specs.declared.conference_lines.LegLine.{LegLine}
+use Rattle.file_spec.specs.declared.conference_lines.Stay.{Stay}
+use Rattle.file_spec.specs.Conference.{Conference, change_leg, is_name, port}
 use Rattle.file_spec.specs.Stays.{IsStay, NeverCrowd, is_before_end, stays_at}
 use Rattle.file_spec.specs.Kept.{AreLegs, AreTwoTypes, Differ, IsConference, IsLeg}
 use Rattle.command_spec.proofs.SameFiles.{HasFilesOf, HaveFilesOf, changed_files, same_files}
@@ -134,8 +134,8 @@ leg_keeps : (ls : List LegLine) (old new : LegLine) → Keeps ls old new → IsL
 unfolding NewName
 leg_keeps ls old new k leg = record {
   name = elim k.name [ inl same ↦ subst (λ n. IsTrue (is_name n)) (sym same) leg.name | inr p ↦ p.0 ];
-  types = subst (λ (l : LegLine). AreTwoTypes l.pts) (sym k.same) leg.types;
-  gens = subst (λ (l : LegLine). l.gens ≤ MOST_GENS) (sym k.same) leg.gens;
+  types = subst (λ (l : LegLine). AreTwoTypes l.payload_types) (sym k.same) leg.types;
+  generations = subst (λ (l : LegLine). l.generations ≤ MOST_GENERATIONS) (sym k.same) leg.generations;
   stay = k.stay leg.stay;
 }
 
@@ -259,7 +259,7 @@ inputs_told : (P : List ℕ → Type 0) (wait : ℕ) (says : ℕ → Said) (k : 
 inputs_told P wait says zero ls all = all
 inputs_told P wait says (suc k) ls all = inputs_keep wait (says k) k (told_legs wait says k ls) P (inputs_told P wait says k ls all)
 
-pub named_conference : (says : ℕ → Said) (c : Conf) → IsConference c → IsConference (named_by says c)
+pub named_conference : (says : ℕ → Said) (c : Conference) → IsConference c → IsConference (named_by says c)
 named_conference says c keeps =
     let all = all_keep c.wait says (length c.legs) (length c.legs) c.mixer.ssrc c.legs (record { length_is = refl; legs = keeps.legs; room = keeps.room; differs = keeps.mixer.differs }) in
     record {
@@ -298,7 +298,7 @@ same_told wait a b (suc k) ls same =
     ap (λ (now : List LegLine). change_leg (told_so wait (a k) now) k now) rest
     ∙ ap (λ (said : Said). change_leg (told_so wait said (told_legs wait b k ls)) k (told_legs wait b k ls)) (same k (omega arith))
 
-pub same_named : (a b : ℕ → Said) (c : Conf) → ((i : ℕ) → i < length c.legs → a i ≡ b i) → named_by a c ≡ named_by b c
+pub same_named : (a b : ℕ → Said) (c : Conference) → ((i : ℕ) → i < length c.legs → a i ≡ b i) → named_by a c ≡ named_by b c
 same_named a b c same = ap (λ (legs : List LegLine). record c { legs = legs }) (same_told c.wait a b (length c.legs) c.legs same)
 
 pub length_told : (wait : ℕ) (says : ℕ → Said) (k : ℕ) (ls : List LegLine) → length (told_legs wait says k ls) ≡ length ls

@@ -3,10 +3,10 @@ use Rattle.std.proofs.Common.{◌≡◌, ℕ, inl, inr, Option, Some, List, [], 
 use Rattle.std.specs.Prelude.{Result, Ok}
 use Rattle.std.specs.List.{AllZip}
 use Rattle.std.proofs.lemmas.Bool.{cases_Bool}
-use Rattle.file_spec.specs.declared.conf_lines.Form.TheVariants.{Files}
-use Rattle.file_spec.specs.declared.conf_lines.LegLine.{LegLine}
+use Rattle.file_spec.specs.declared.conference_lines.Form.TheVariants.{Files}
+use Rattle.file_spec.specs.declared.conference_lines.LegLine.{LegLine}
 use Rattle.file_spec.specs.Lines as lines
-use Rattle.file_spec.specs.Conf.{Conf, conf}
+use Rattle.file_spec.specs.Conference.{Conference, conference_from}
 use Rattle.mixer_spec.specs.Table.{Table}
 use Rattle.mixer_spec.specs.Bridged.{IsConferenceMixed}
 use Rattle.cascade_spec.specs.Laws.{split_of}
@@ -21,8 +21,8 @@ use Rattle.command_spec.specs.Bridges.{Bridge, IsMixedFrom}
 some_same : (x y : List ℕ) → Some x ≡ Some y → x ≡ y
 some_same x y e = cc e
 
-conf_same : (x y : Conf) (r : Result Conf lines.Refusal) → r ≡ Ok x → r ≡ Ok y → x ≡ y
-conf_same x y r e f = cc (e, f)
+conference_same : (x y : Conference) (r : Result Conference lines.Refusal) → r ≡ Ok x → r ≡ Ok y → x ≡ y
+conference_same x y r e f = cc (e, f)
 
 table_same : (x y : Table) (r : Option Table) → r ≡ Some x → r ≡ Some y → x ≡ y
 table_same x y r e f = cc (e, f)
@@ -44,11 +44,11 @@ one_mixed : (a b : Bridge) → a.conference ≡ b.conference → a.inputs ≡ b.
 one_mixed a b c i over_a over_b = one_bridge a b c i (table_same a.table b.table _ over over_b)
   where
     over : IsConferenceMixed b.conference (input_at b.inputs) a.table
-    over = subst (λ (xs : List (List ℕ)). IsConferenceMixed b.conference (input_at xs) a.table) i (subst (λ (x : Conf). IsConferenceMixed x (input_at a.inputs) a.table) c over_a)
+    over = subst (λ (xs : List (List ℕ)). IsConferenceMixed b.conference (input_at xs) a.table) i (subst (λ (x : Conference). IsConferenceMixed x (input_at a.inputs) a.table) c over_a)
 
 -- what lies in a file decides the conference there
-one_read : (held : Contents) (file : List ℕ) (c d : Conf) → ((octets : List ℕ) × (held file ≡ Some octets) × (conf Files octets ≡ Ok c)) → ((octets : List ℕ) × (held file ≡ Some octets) × (conf Files octets ≡ Ok d)) → c ≡ d
-one_read held file c d x y = conf_same c d (conf Files x.0) x.2 (ap (conf Files) (some_same x.0 y.0 (sym x.1 ∙ y.1)) ∙ y.2)
+one_read : (held : Contents) (file : List ℕ) (c d : Conference) → ((octets : List ℕ) × (held file ≡ Some octets) × (conference_from Files octets ≡ Ok c)) → ((octets : List ℕ) × (held file ≡ Some octets) × (conference_from Files octets ≡ Ok d)) → c ≡ d
+one_read held file c d x y = conference_same c d (conference_from Files x.0) x.2 (ap (conference_from Files) (some_same x.0 y.0 (sym x.1 ∙ y.1)) ∙ y.2)
 
 pub one_law : (held : Contents) (file : List ℕ) (a b : Bridge) → IsMixedFrom held file a → IsMixedFrom held file b → a ≡ b
 one_law held file a b ma mb = one_mixed a b c i ma.over mb.over
@@ -57,19 +57,19 @@ one_law held file a b ma mb = one_mixed a b c i ma.over mb.over
     c = one_read held file a.conference b.conference ma.read mb.read
 
     i : a.inputs ≡ b.inputs
-    i = zip_same held b.conference.legs a.inputs b.inputs (subst (λ (x : Conf). AllZip (λ leg octets. held leg.input ≡ Some octets) x.legs a.inputs) c ma.inputs_lie) mb.inputs_lie
+    i = zip_same held b.conference.legs a.inputs b.inputs (subst (λ (x : Conference). AllZip (λ leg octets. held leg.input ≡ Some octets) x.legs a.inputs) c ma.inputs_lie) mb.inputs_lie
 
-pub attended_law : (held : Contents) (file : List ℕ) (c d : Conf) (a b : Bridge) → IsAttendedFrom held file c a → IsAttendedFrom held file d b → (c ≡ d) × (a ≡ b)
+pub attended_law : (held : Contents) (file : List ℕ) (c d : Conference) (a b : Bridge) → IsAttendedFrom held file c a → IsAttendedFrom held file d b → (c ≡ d) × (a ≡ b)
 attended_law held file c d a b ma mb = (e, one_mixed a b named_same i ma.over mb.over)
   where
     e : c ≡ d
     e = one_read held file c d ma.read mb.read
 
     i : a.inputs ≡ b.inputs
-    i = zip_same held d.legs a.inputs b.inputs (subst (λ (x : Conf). AllZip (λ leg octets. held leg.input ≡ Some octets) x.legs a.inputs) e ma.inputs_lie) mb.inputs_lie
+    i = zip_same held d.legs a.inputs b.inputs (subst (λ (x : Conference). AllZip (λ leg octets. held leg.input ≡ Some octets) x.legs a.inputs) e ma.inputs_lie) mb.inputs_lie
 
     named_same : a.conference ≡ b.conference
-    named_same = ma.is_named ∙ (ap (λ (x : Conf). named x a.inputs) e ∙ (ap (named d) i ∙ sym mb.is_named))
+    named_same = ma.is_named ∙ (ap (λ (x : Conference). named x a.inputs) e ∙ (ap (named d) i ∙ sym mb.is_named))
 
 text_same : (held : Contents) (split : ℕ → List ℕ) (leg : LegLine) (x y : List ℕ) → IsTextOf held split leg x → IsTextOf held split leg y → x ≡ y
 text_same held split leg x y a b = elim (cases_Bool (is_on_trunk leg)) [
@@ -97,7 +97,7 @@ cascaded_law held conference file ssrc x y a b ma mb = (e, one_mixed a b c i ma.
 
     texts : AllZip (IsTextOf held (split_of (trunk_of b.conference ssrc) y)) b.conference.legs a.inputs
     texts = subst (λ (q : List ℕ). AllZip (IsTextOf held (split_of (trunk_of b.conference ssrc) q)) b.conference.legs a.inputs) e
-        (subst (λ (q : Conf). AllZip (IsTextOf held (split_of (trunk_of q ssrc) x)) q.legs a.inputs) c ma.texts_lie)
+        (subst (λ (q : Conference). AllZip (IsTextOf held (split_of (trunk_of q ssrc) x)) q.legs a.inputs) c ma.texts_lie)
 
     i : a.inputs ≡ b.inputs
     i = texts_same held (split_of (trunk_of b.conference ssrc) y) b.conference.legs a.inputs b.inputs texts mb.texts_lie

@@ -6,9 +6,9 @@ use Rattle.wire_spec.specs.Packets.{Arrival}
 use Rattle.wire_spec.specs.Dump.{opening, dump, dump_written, arrivals_after, usual_limit}
 use Rattle.wire_spec.specs.Dump as dumps
 use Rattle.wire_spec.proofs.Recordings.{read_back}
-use Rattle.file_spec.specs.declared.conf_lines.Form.TheVariants.{Files}
-use Rattle.file_spec.specs.declared.conf_lines.LegLine.{LegLine}
-use Rattle.file_spec.specs.Conf.{Conf, conf}
+use Rattle.file_spec.specs.declared.conference_lines.Form.TheVariants.{Files}
+use Rattle.file_spec.specs.declared.conference_lines.LegLine.{LegLine}
+use Rattle.file_spec.specs.Conference.{Conference, conference_from}
 use Rattle.stream_spec.specs.Ready.{Chunk, chunks}
 use Rattle.stream_spec.specs.Own.{has_text_in}
 use Rattle.mixer_spec.specs.Chunks.{has_chunk}
@@ -81,14 +81,14 @@ nobody : Terminal
 nobody = record { past = []; asks = []; waits = λ i. [] }
 
 no_work : (s : Setup) (j i : ℕ) → ((i == j) || not (has_work s j (empty.terminals j) i)) ≡ true
-no_work s j i = ap (λ b. (i == j) || not b) (no_text (s.gens j)) ∙ go (i == j)
+no_work s j i = ap (λ b. (i == j) || not b) (no_text (s.generations j)) ∙ go (i == j)
   where
     go : (b : Bool) → (b || true) ≡ true
     go true = refl
     go false = refl
 
 quiet : (s : Setup) (j : ℕ) → is_quiet s j (empty.terminals j) ≡ true
-quiet s j = ap (λ b. not b && all_below (λ i. (i == j) || not (has_work s j (empty.terminals j) i)) s.legs) (no_text (s.gens j)) ∙ all_true (λ i. (i == j) || not (has_work s j (empty.terminals j) i)) s.legs (no_work s j)
+quiet s j = ap (λ b. not b && all_below (λ i. (i == j) || not (has_work s j (empty.terminals j) i)) s.legs) (no_text (s.generations j)) ∙ all_true (λ i. (i == j) || not (has_work s j (empty.terminals j) i)) s.legs (no_work s j)
 
 blank_over : (s : Setup) (d : Desk) → IsBlank d → is_over s d ≡ true
 blank_over s d b =
@@ -106,21 +106,21 @@ at_once s tick (suc n) k d b =
     (v.table, ap (λ x. elim x as (λ b. Option Table) [ true ↦ Some v.table | false ↦ plain_from s tick n (suc k) (record { left = v.left; table = turned s (k * tick) v.table }) ]) (blank_over s v (blank_before s (k * tick) d b)))
 
 -- ---- inputs without a packet
-none_arrive : (c : Conf) (o : Option LegLine) (octets : List ℕ) → (dump (input_limit c) octets).items ≡ [] → leg_arrivals (input_limit c) o octets ≡ []
+none_arrive : (c : Conference) (o : Option LegLine) (octets : List ℕ) → (dump (input_limit c) octets).items ≡ [] → leg_arrivals (input_limit c) o octets ≡ []
 none_arrive c None octets e = refl
-none_arrive c (Some l) octets e = ap (arrivals_after l.ssrc l.pts []) e
+none_arrive c (Some l) octets e = ap (arrivals_after l.ssrc l.payload_types []) e
 
-none_heard : (c : Conf) (inputs : ℕ → List ℕ) (i : ℕ) → (dump (input_limit c) (inputs i)).items ≡ [] → leg_chunks c inputs i ≡ []
+none_heard : (c : Conference) (inputs : ℕ → List ℕ) (i : ℕ) → (dump (input_limit c) (inputs i)).items ≡ [] → leg_chunks c inputs i ≡ []
 none_heard c inputs i e = ap (λ (a : List Arrival). in_stay (setup c) i (chunks c.wait i (still a) (ssrc_of (leg_at c.legs i)))) (none_arrive c (leg_at c.legs i) (inputs i) e)
 
-limit_is : (c : Conf) → 44 ≤ input_limit c
+limit_is : (c : Conference) → 44 ≤ input_limit c
 limit_is c = go (nat_lt 16 (length c.legs))
   where
     go : (b : Bool) → 44 ≤ cond b MOST_INPUT_OF_MANY usual_limit
     go true = omega arith
     go false = omega arith
 
-pub empty_read : (c : Conf) → dump (input_limit c) (dump_written []) ≡ record { items = []; fault = None }
+pub empty_read : (c : Conference) → dump (input_limit c) (dump_written []) ≡ record { items = []; fault = None }
 empty_read c = let l = limit_is c in read_back (input_limit c) [] tt (omega (arith, l))
 
 nothing_read : (limit : ℕ) → (dump limit []).items ≡ []
@@ -134,13 +134,13 @@ each f legs = map f legs
 unfoldable pub silent : LegLine → List ℕ
 silent leg = dump_written []
 
-silent_at : (c : Conf) (legs : List LegLine) (i : ℕ) → (dump (input_limit c) (input_at (each silent legs) i)).items ≡ []
+silent_at : (c : Conference) (legs : List LegLine) (i : ℕ) → (dump (input_limit c) (input_at (each silent legs) i)).items ≡ []
 unfolding silent
 silent_at c [] i = nothing_read (input_limit c)
 silent_at c (l ∷ legs) zero = ap (λ (r : dumps.Recording). r.items) (empty_read c)
 silent_at c (l ∷ legs) (suc i) = silent_at c legs i
 
-silent_whole : (c : Conf) (n : ℕ) (legs : List LegLine) (steps : Steps) → unless_one_broken (input_limit c) n (each silent legs) steps ≡ steps
+silent_whole : (c : Conference) (n : ℕ) (legs : List LegLine) (steps : Steps) → unless_one_broken (input_limit c) n (each silent legs) steps ≡ steps
 unfolding silent
 silent_whole c n [] steps = refl
 silent_whole c n (l ∷ legs) steps =
@@ -148,36 +148,36 @@ silent_whole c n (l ∷ legs) steps =
     ∙ silent_whole c (suc n) legs steps
 
 -- where nobody says anything, mixing is over
-pub silent_table : (c : Conf) (legs : List LegLine) → (t : Table) × (plain (setup c) c.tick c.turns (leg_chunks c (input_at (each silent legs))) ≡ Some t)
+pub silent_table : (c : Conference) (legs : List LegLine) → (t : Table) × (plain (setup c) c.tick c.turns (leg_chunks c (input_at (each silent legs))) ≡ Some t)
 silent_table c legs =
     let blank : IsBlank (record { left = leg_chunks c (input_at (each silent legs)); table = empty }) =
     record { left = λ i. none_heard c (input_at (each silent legs)) i (silent_at c legs i); terminals = refl } in
     at_once (setup c) c.tick c.turns 0 (record { left = leg_chunks c (input_at (each silent legs)); table = empty }) blank
 
 -- what is made then
-silence : (c : Conf) (legs : List LegLine) → (t : Table) × (mixes c (each silent legs) ≡ Makes (views c t) (outs c t))
+silence : (c : Conference) (legs : List LegLine) → (t : Table) × (mixes c (each silent legs) ≡ Makes (views c t) (outs c t))
 silence c legs =
     let r = silent_table c legs in
     (r.0, silent_whole c 1 legs (makes c (plain (setup c) c.tick c.turns (leg_chunks c (input_at (each silent legs))))) ∙ ap (makes c) r.1)
 
 -- ---- the outputs of what is made
-pub nth_out : (c : Conf) (t : Table) (k : ℕ) (legs : List LegLine) (n : ℕ) (leg : LegLine) → leg_at legs n ≡ Some leg → IsNth (map (λ x. out_of c t x.0 x.1) (enumerate_from k legs)) n leg.output
+pub nth_out : (c : Conference) (t : Table) (k : ℕ) (legs : List LegLine) (n : ℕ) (leg : LegLine) → leg_at legs n ≡ Some leg → IsNth (map (λ x. out_of c t x.0 x.1) (enumerate_from k legs)) n leg.output
 nth_out c t k [] n leg e = absurd (cc e)
 nth_out c t k (l ∷ legs) zero leg e = let same : l ≡ leg = cc e in ap (λ (x : LegLine). x.output) (sym same)
 nth_out c t k (l ∷ legs) (suc n) leg e = nth_out c t (k + 1) legs n leg e
 
 -- what it comes to is made, and then these are the outputs, or it is refused
-abbrev AreOuts : Conf → Steps → Type 0
+abbrev AreOuts : Conference → Steps → Type 0
 AreOuts c (Makes printed files) = (t : Table) × (files ≡ outs c t)
 AreOuts c (Refuses n refusal) = Unit {0}
 AreOuts c (Reads name next) = ⊥
 AreOuts c (Serves other) = ⊥
 
-outs_made : (c : Conf) (o : Option Table) → AreOuts c (makes c o)
+outs_made : (c : Conference) (o : Option Table) → AreOuts c (makes c o)
 outs_made c None = tt
 outs_made c (Some t) = (t, refl)
 
-outs_unless : (c : Conf) (limit n : ℕ) (inputs : List (List ℕ)) (steps : Steps) → AreOuts c steps → AreOuts c (unless_one_broken limit n inputs steps)
+outs_unless : (c : Conference) (limit n : ℕ) (inputs : List (List ℕ)) (steps : Steps) → AreOuts c steps → AreOuts c (unless_one_broken limit n inputs steps)
 outs_unless c limit n [] steps a = a
 outs_unless c limit n (octets ∷ more) steps a = go (dump limit octets).fault (outs_unless c limit (suc n) more steps a)
   where
@@ -186,13 +186,13 @@ outs_unless c limit n (octets ∷ more) steps a = go (dump limit octets).fault (
     go None r = r
     go (Some fault) r = tt
 
-outs_printed : (c : Conf) (more : List ℕ) (steps : Steps) → AreOuts c steps → AreOuts c (and_prints more steps)
+outs_printed : (c : Conference) (more : List ℕ) (steps : Steps) → AreOuts c steps → AreOuts c (and_prints more steps)
 outs_printed c more (Makes printed files) a = a
 outs_printed c more (Refuses n refusal) a = tt
 outs_printed c more (Reads name next) a = absurd a
 outs_printed c more (Serves other) a = absurd a
 
-are_outs : (c : Conf) (inputs : List (List ℕ)) → AreOuts c (mixes_counted c inputs)
+are_outs : (c : Conference) (inputs : List (List ℕ)) → AreOuts c (mixes_counted c inputs)
 are_outs c inputs = go c.service.counts
   where
     plainly : AreOuts c (mixes c inputs)
@@ -221,12 +221,12 @@ is_under None e = cc e
 is_under (Some octets) e = refl
 
 -- the conference that the inputs decide is mixed over them
-abbrev pub mixes_as : (List (List ℕ) → Conf) → List (List ℕ) → Steps
+abbrev pub mixes_as : (List (List ℕ) → Conference) → List (List ℕ) → Steps
 mixes_as becomes inputs = mixes_counted (becomes inputs) inputs
 
 -- Whatever the world tells, the output of each leg is one of what mixes over its inputs a conference of legs that have its files,
 -- which these inputs may decide.
-pub mixed_output : (Told : Type 0) (held : Contents) (c : Conf) (becomes : List (List ℕ) → Conf) → ((inputs : List (List ℕ)) → HaveFilesOf c.legs (becomes inputs).legs)
+pub mixed_output : (Told : Type 0) (held : Contents) (c : Conference) (becomes : List (List ℕ) → Conference) → ((inputs : List (List ℕ)) → HaveFilesOf c.legs (becomes inputs).legs)
     → (Told → (k : ℕ) (leg : LegLine) → leg_at c.legs k ≡ Some leg → IsSome (held leg.input))
     → (Told → (printed : List ℕ) × (files : List Made) × (mixes (becomes (inputs_under held c.legs)) (inputs_under held c.legs) ≡ Makes printed files))
     → (n : ℕ) (leg : LegLine) → leg_at c.legs n ≡ Some leg → IsOutput Told held (reads_inputs c.legs (mixes_as becomes)) n leg.output
@@ -252,7 +252,7 @@ mixed_output Told held c becomes same all makes_it n leg at =
     go (Serves other) e a = absurd a
 
 -- The output of each leg is one of `mix`.
-pub is_output : (Told : Type 0) (held : Contents) (file octets : List ℕ) (c : Conf) → (Told → held file ≡ Some octets) → conf Files octets ≡ Ok c
+pub is_output : (Told : Type 0) (held : Contents) (file octets : List ℕ) (c : Conference) → (Told → held file ≡ Some octets) → conference_from Files octets ≡ Ok c
     → (Told → (k : ℕ) (leg : LegLine) → leg_at c.legs k ≡ Some leg → IsSome (held leg.input))
     → (Told → (printed : List ℕ) × (files : List Made) × (mixes c (inputs_under held c.legs) ≡ Makes printed files))
     → (n : ℕ) (leg : LegLine) → leg_at c.legs n ≡ Some leg → IsOutput Told held (mixing file) n leg.output
@@ -260,7 +260,7 @@ is_output Told held file octets c lies read all makes_it n leg at =
     (octets, lies, subst (λ r. IsOutput Told held (mixes_read r) n leg.output) (sym read) (mixed_output Told held c (λ inputs. c) (λ inputs. same_files c.legs) all makes_it n leg at))
 
 -- The output of each leg is one of `attend`.
-pub attended_output : (Told : Type 0) (held : Contents) (file octets : List ℕ) (c : Conf) → (Told → held file ≡ Some octets) → conf Files octets ≡ Ok c
+pub attended_output : (Told : Type 0) (held : Contents) (file octets : List ℕ) (c : Conference) → (Told → held file ≡ Some octets) → conference_from Files octets ≡ Ok c
     → (Told → (k : ℕ) (leg : LegLine) → leg_at c.legs k ≡ Some leg → IsSome (held leg.input))
     → (Told → (printed : List ℕ) × (files : List Made) × (mixes (named c (inputs_under held c.legs)) (inputs_under held c.legs) ≡ Makes printed files))
     → (n : ℕ) (leg : LegLine) → leg_at c.legs n ≡ Some leg → IsOutput Told held (attending file) n leg.output

@@ -8,9 +8,9 @@ use Rattle.std.proofs.lemmas.Bool.{and_from, and_parts, or_cases, leb-true, eqb-
 use Rattle.std.proofs.lemmas.Str.{chars-IsAscii, chars-encodes}
 use Rattle.text_spec.specs.Characters.{is_print}
 use Rattle.text_spec.proofs.Steps.{plain_class}
-use Rattle.file_spec.specs.declared.conf_lines.LegLine.{LegLine}
+use Rattle.file_spec.specs.declared.conference_lines.LegLine.{LegLine}
 use Rattle.file_spec.specs.declared.limits.TheConstants.{LONGEST_NAME}
-use Rattle.file_spec.specs.Conf.{Conf, is_name, is_name_octet}
+use Rattle.file_spec.specs.Conference.{Conference, is_name, is_name_octet}
 use Rattle.file_spec.specs.Kept.{IsConference, IsLeg}
 use Rattle.mixer_spec.specs.Setups.{leg_at, name_of, setup}
 use Rattle.named_spec.specs.Named.{prints}
@@ -71,5 +71,5 @@ names_at [] each k = ap (list_all prints) (chars-encodes [] refl)
 names_at (l ∷ ls) each zero = name_prints l.name (each 0 l (omega arith)).name
 names_at (l ∷ ls) each (suc k) = names_at ls (λ i d b. each (suc i) d (omega arith)) k
 
-pub names_print : (c : Conf) → IsConference c → NamesPrint (setup c).name
+pub names_print : (c : Conference) → IsConference c → NamesPrint (setup c).name
 names_print c k = names_at c.legs k.legs.each

@@ -6,9 +6,9 @@ use Rattle.std.specs.List.{AllZip}
 use Rattle.std.proofs.lemmas.List.Elements.{All-nil, All-cons}
 use Rattle.wire_spec.specs.Dump.{dump}
 use Rattle.wire_spec.specs.Dump as dumps
-use Rattle.file_spec.specs.declared.conf_lines.Form.TheVariants.{Files}
-use Rattle.file_spec.specs.declared.conf_lines.LegLine.{LegLine}
-use Rattle.file_spec.specs.Conf.{Conf, conf}
+use Rattle.file_spec.specs.declared.conference_lines.Form.TheVariants.{Files}
+use Rattle.file_spec.specs.declared.conference_lines.LegLine.{LegLine}
+use Rattle.file_spec.specs.Conference.{Conference, conference_from}
 use Rattle.file_spec.specs.Lines as lines
 use Rattle.mixer_spec.specs.Setups.{setup}
 use Rattle.mixer_spec.specs.Table.{Table}
@@ -88,7 +88,7 @@ prints_done more held m (Makes front made) printed files e =
 prints_done more held m (Serves c) printed files e = absurd (cc e)
 
 -- of a mixing, where that is asked for
-pub counted_done : (held : Contents) (m : ℕ) (c : Conf) (inputs : List (List ℕ)) (printed : List ℕ) (files : List Made) → outcome_from m held (mixes_counted c inputs) ≡ Done printed files
+pub counted_done : (held : Contents) (m : ℕ) (c : Conference) (inputs : List (List ℕ)) (printed : List ℕ) (files : List Made) → outcome_from m held (mixes_counted c inputs) ≡ Done printed files
     → (front : List ℕ) × (outcome_from m held (mixes c inputs) ≡ Done front files) × (printed ≡ front ++ counted c inputs)
 counted_done held m c inputs printed files e = go c.service.counts e
   where
@@ -98,7 +98,7 @@ counted_done held m c inputs printed files e = go c.service.counts e
     go false e = (printed, e, sym (append-nil printed))
 
 -- what a mixing makes, and what is counted
-pub counted_makes : (c : Conf) (inputs : List (List ℕ)) (printed : List ℕ) (files : List Made) → mixes c inputs ≡ Makes printed files → mixes_counted c inputs ≡ Makes (printed ++ counted c inputs) files
+pub counted_makes : (c : Conference) (inputs : List (List ℕ)) (printed : List ℕ) (files : List Made) → mixes c inputs ≡ Makes printed files → mixes_counted c inputs ≡ Makes (printed ++ counted c inputs) files
 counted_makes c inputs printed files e = go c.service.counts
   where
     go : (b : Bool) → (if b then and_prints (counts_lines c inputs) (mixes c inputs) else mixes c inputs) ≡ Makes (printed ++ (if b then counts_lines c inputs else [])) files
@@ -107,9 +107,9 @@ counted_makes c inputs printed files e = go c.service.counts
 
 pub reached : (held : Contents) (file printed : List ℕ) (files : List Made) → outcome held (mixing file) ≡ Done printed files → IsReached held file printed files
 reached held file printed files e =
-    let f = found 0 held file (λ octets. mixes_read (conf Files octets)) printed files e in go f.0 f.1 (conf Files f.0) refl f.2
+    let f = found 0 held file (λ octets. mixes_read (conference_from Files octets)) printed files e in go f.0 f.1 (conference_from Files f.0) refl f.2
   where
-    over : (octets : List ℕ) → held file ≡ Some octets → (c : Conf) → conf Files octets ≡ Ok c → (inputs : List (List ℕ)) → AllZip (λ leg octets. held leg.input ≡ Some octets) c.legs inputs
+    over : (octets : List ℕ) → held file ≡ Some octets → (c : Conference) → conference_from Files octets ≡ Ok c → (inputs : List (List ℕ)) → AllZip (λ leg octets. held leg.input ≡ Some octets) c.legs inputs
         → All (λ octets. (dump (input_limit c) octets).fault ≡ None) inputs → (m : ℕ) (o : Option Table) → plain (setup c) c.tick c.turns (leg_chunks c (input_at inputs)) ≡ o
         → (front : List ℕ) → outcome_from m held (makes c o) ≡ Done front files → printed ≡ front ++ counted c inputs → IsReached held file printed files
     over octets h c r inputs lie whole m None p front e behind = absurd (cc e)
@@ -122,7 +122,7 @@ reached held file printed files e =
           outs_are = sym d.1;
         }
 
-    go : (octets : List ℕ) → held file ≡ Some octets → (r : Result Conf lines.Refusal) → conf Files octets ≡ r → outcome_from 1 held (mixes_read r) ≡ Done printed files → IsReached held file printed files
+    go : (octets : List ℕ) → held file ≡ Some octets → (r : Result Conference lines.Refusal) → conference_from Files octets ≡ r → outcome_from 1 held (mixes_read r) ≡ Done printed files → IsReached held file printed files
     go octets h (Err refusal) r e = absurd (cc e)
     go octets h (Ok c) r e =
         let a = inputs_found held 1 c.legs (mixes_counted c) printed files e in

@@ -1,8 +1,8 @@
 -- Legs that have the same files.
 use Rattle.std.proofs.Common.{◌≡◌, ℕ, zero, suc, Some, List, [], ◌∷◌, length, refl, ap, subst, ◌∙◌}
 use Rattle.std.specs.List.{AllZip}
-use Rattle.file_spec.specs.declared.conf_lines.LegLine.{LegLine}
-use Rattle.file_spec.specs.Conf.{change_leg}
+use Rattle.file_spec.specs.declared.conference_lines.LegLine.{LegLine}
+use Rattle.file_spec.specs.Conference.{change_leg}
 use Rattle.mixer_spec.specs.Setups.{leg_at}
 use Rattle.command_spec.specs.Work.{Contents}
 use Rattle.command_spec.specs.Inputs.{inputs_under, octets_under}

@@ -4,7 +4,7 @@ use Rattle.std.specs.Prelude.{Result, Ok, Err, ◌==◌, ◌&&◌, ◌||◌, nat
 use Rattle.std.proofs.lemmas.Bool.{true≢false, leb-true}
 use Rattle.std.proofs.lemmas.Bool.Decides.{Decides-eqb}
 use Rattle.rtt_base.specs.Steps.{◌>>=◌}
-use Rattle.rtt_base.specs.declared.text_packets.Pts.{Pts}
+use Rattle.rtt_base.specs.declared.text_packets.PayloadTypes.{PayloadTypes}
 use Rattle.rtt_base.specs.declared.limits.TheConstants.{MOST_PACKET_OCTETS}
 use Rattle.wire_spec.specs.declared.faults.RtpFault.{RtpFault}
 use Rattle.wire_spec.specs.declared.faults.TextFault.{TextFault}
@@ -41,80 +41,80 @@ rtcp_type second t r d = go (second % 128 == t) refl
         absurd (omega (arith, low, high, least, same))
 
 -- a type of neither
-abbrev IsOther : Pts → ℕ → Type 0
-IsOther pts pt = ((pt == pts.t140) ≡ false) × ((pt == pts.red) ≡ false)
+abbrev IsOther : PayloadTypes → ℕ → Type 0
+IsOther payload_types pt = ((pt == payload_types.t140) ≡ false) × ((pt == payload_types.red) ≡ false)
 
-other_type : (payload : List ℕ) (pt : ℕ) (pts : Pts) → IsOther pts pt → red payload pt pts ≡ Err red_faults.WrongType
+other_type : (payload : List ℕ) (pt : ℕ) (payload_types : PayloadTypes) → IsOther payload_types pt → red payload pt payload_types ≡ Err red_faults.WrongType
 unfolding red
-other_type payload pt pts o = ap (λ b. cond b (texts_at [] payload) (cond (pt == pts.red) (headers_at 8 pts.t140 payload >>= λ hs. texts_at hs.headers hs.texts) (Err red_faults.WrongType))) o.0
-    ∙ ap (λ b. cond b (headers_at 8 pts.t140 payload >>= λ hs. texts_at hs.headers hs.texts) (Err red_faults.WrongType)) o.1
+other_type payload pt payload_types o = ap (λ b. cond b (texts_at [] payload) (cond (pt == payload_types.red) (headers_at 8 payload_types.t140 payload >>= λ hs. texts_at hs.headers hs.texts) (Err red_faults.WrongType))) o.0
+    ∙ ap (λ b. cond b (headers_at 8 payload_types.t140 payload >>= λ hs. texts_at hs.headers hs.texts) (Err red_faults.WrongType)) o.1
 
 neither : (a b : Bool) → (a || b) ≡ false → (a ≡ false) × (b ≡ false)
 neither true b e = absurd (true≢false e)
 neither false b e = (refl, e)
 
 -- ---- a record that is none of the stream
-module _ (ssrc : ℕ) (pts : Pts) (t140 : is_dynamic pts.t140 ≡ true) (red_type : is_dynamic pts.red ≡ true) where
+module _ (ssrc : ℕ) (payload_types : PayloadTypes) (t140 : is_dynamic payload_types.t140 ≡ true) (red_type : is_dynamic payload_types.red ≡ true) where
   -- the type of a packet of this SSRC that is none of the stream
-  type_is_other : (octets : List ℕ) (h : Reading) → rtp octets ≡ Ok h → (h.ssrc == ssrc) ≡ true → is_name ssrc (stream_of pts (sort_of_what (Whole octets))) ≡ false → IsOther pts h.pt
-  type_is_other octets h e s n = go (is_rtcp octets) refl (ap (λ q. is_name ssrc (stream_of pts (cond (is_rtcp octets) sorts.Rtcp (headed q)))) (sym e) ∙ n)
+  type_is_other : (octets : List ℕ) (h : Reading) → rtp octets ≡ Ok h → (h.ssrc == ssrc) ≡ true → is_name ssrc (stream_of payload_types (sort_of_what (Whole octets))) ≡ false → IsOther payload_types h.pt
+  type_is_other octets h e s n = go (is_rtcp octets) refl (ap (λ q. is_name ssrc (stream_of payload_types (cond (is_rtcp octets) sorts.Rtcp (headed q)))) (sym e) ∙ n)
     where
       same : h.pt ≡ slice_index octets 1 % 128
       same = type_read octets h (header_read octets h e)
 
-      by_type : (b : Bool) → is_of_text pts h ≡ b → is_name ssrc (cond b (Some h.ssrc) None) ≡ false → IsOther pts h.pt
+      by_type : (b : Bool) → is_of_text payload_types h ≡ b → is_name ssrc (cond b (Some h.ssrc) None) ≡ false → IsOther payload_types h.pt
       by_type true t m = absurd (true≢false (sym s ∙ m))
-      by_type false t m = neither (h.pt == pts.t140) (h.pt == pts.red) t
+      by_type false t m = neither (h.pt == payload_types.t140) (h.pt == payload_types.red) t
 
-      go : (b : Bool) → is_rtcp octets ≡ b → is_name ssrc (stream_of pts (cond b sorts.Rtcp (sorts.Headed h))) ≡ false → IsOther pts h.pt
-      go true r m = (ap (λ k. k == pts.t140) same ∙ rtcp_type (slice_index octets 1) pts.t140 r t140, ap (λ k. k == pts.red) same ∙ rtcp_type (slice_index octets 1) pts.red r red_type)
-      go false r m = by_type (is_of_text pts h) refl m
+      go : (b : Bool) → is_rtcp octets ≡ b → is_name ssrc (stream_of payload_types (cond b sorts.Rtcp (sorts.Headed h))) ≡ false → IsOther payload_types h.pt
+      go true r m = (ap (λ k. k == payload_types.t140) same ∙ rtcp_type (slice_index octets 1) payload_types.t140 r t140, ap (λ k. k == payload_types.red) same ∙ rtcp_type (slice_index octets 1) payload_types.red r red_type)
+      go false r m = by_type (is_of_text payload_types h) refl m
 
   abbrev IsRefused : Result Packet TextFault → Type 0
   IsRefused r = (fault : TextFault) × (r ≡ Err fault)
 
-  refused_short : (octets : List ℕ) → is_name ssrc (stream_of pts (sort_of_what (Whole octets))) ≡ false → IsRefused (text_of_short octets (Some ssrc) pts)
+  refused_short : (octets : List ℕ) → is_name ssrc (stream_of payload_types (sort_of_what (Whole octets))) ≡ false → IsRefused (text_of_short octets (Some ssrc) payload_types)
   unfolding text_of_short
   refused_short octets n = by_header (rtp octets) refl
     where
       blocks_of : Reading → Result Packet TextFault
-      blocks_of r = refused_as blocks_fault (red r.payload r.pt pts) >>= λ blocks. Ok (text_packet r blocks)
+      blocks_of r = refused_as blocks_fault (red r.payload r.pt payload_types) >>= λ blocks. Ok (text_packet r blocks)
 
       by_ssrc : (h : Reading) → rtp octets ≡ Ok h → (a b : Bool) → (h.ssrc == ssrc) ≡ a → IsRefused (cond a (cond b (Err Sources) (Ok h)) (Err Foreign) >>= blocks_of)
       by_ssrc h e false b s = (Foreign, refl)
       by_ssrc h e true true s = (Sources, refl)
-      by_ssrc h e true false s = (WrongType, ap (λ x. refused_as blocks_fault x >>= λ blocks. Ok (text_packet h blocks)) (other_type h.payload h.pt pts (type_is_other octets h e s n)))
+      by_ssrc h e true false s = (WrongType, ap (λ x. refused_as blocks_fault x >>= λ blocks. Ok (text_packet h blocks)) (other_type h.payload h.pt payload_types (type_is_other octets h e s n)))
 
       by_header : (q : Result Reading RtpFault) → rtp octets ≡ q → IsRefused (refused_as header_fault q >>= λ reading. accepted (Some ssrc) reading >>= blocks_of)
       by_header (Err f) e = (header_fault f, refl)
       by_header (Ok h) e = by_ssrc h e (h.ssrc == ssrc) (nat_lt 1 h.cc) refl
 
-  refused : (octets : List ℕ) → is_name ssrc (stream_of pts (sort_of_what (Whole octets))) ≡ false → IsRefused (text_of octets (Some ssrc) pts)
+  refused : (octets : List ℕ) → is_name ssrc (stream_of payload_types (sort_of_what (Whole octets))) ≡ false → IsRefused (text_of octets (Some ssrc) payload_types)
   unfolding text_of
   refused octets n = go (nat_lt MOST_PACKET_OCTETS (length octets))
     where
-      go : (b : Bool) → IsRefused (cond b (Err Long) (text_of_short octets (Some ssrc) pts))
+      go : (b : Bool) → IsRefused (cond b (Err Long) (text_of_short octets (Some ssrc) payload_types))
       go true = (Long, refl)
       go false = refused_short octets n
 
-  none_arrives : (item : Item) (before : List Arrival) → is_name ssrc (stream_of pts (sort_of item)) ≡ false → arrivals_with ssrc pts item before ≡ before
+  none_arrives : (item : Item) (before : List Arrival) → is_name ssrc (stream_of payload_types (sort_of item)) ≡ false → arrivals_with ssrc payload_types item before ≡ before
   none_arrives item before n = go item.what n
     where
-      go : (w : What) → is_name ssrc (stream_of pts (sort_of_what w)) ≡ false → arrivals_with ssrc pts (record { time = item.time; what = w }) before ≡ before
+      go : (w : What) → is_name ssrc (stream_of payload_types (sort_of_what w)) ≡ false → arrivals_with ssrc payload_types (record { time = item.time; what = w }) before ≡ before
       go (Whole octets) m = ap (λ r. arrived item.time r before) (refused octets m).1
       go dumps.Rtcp m = refl
       go dumps.Cut m = refl
       go dumps.Large m = refl
 
-  same_arrivals : (before : List Arrival) (items : List Item) → arrivals_after ssrc pts before (stream pts ssrc items) ≡ arrivals_after ssrc pts before items
+  same_arrivals : (before : List Arrival) (items : List Item) → arrivals_after ssrc payload_types before (stream payload_types ssrc items) ≡ arrivals_after ssrc payload_types before items
   same_arrivals before [] = refl
-  same_arrivals before (item ∷ items) = go (is_name ssrc (stream_of pts (sort_of item))) refl (λ past. same_arrivals past items)
+  same_arrivals before (item ∷ items) = go (is_name ssrc (stream_of payload_types (sort_of item))) refl (λ past. same_arrivals past items)
     where
-      go : (b : Bool) → is_name ssrc (stream_of pts (sort_of item)) ≡ b → ((past : List Arrival) → arrivals_after ssrc pts past (stream pts ssrc items) ≡ arrivals_after ssrc pts past items)
-          → arrivals_after ssrc pts before (cond b (item ∷ stream pts ssrc items) (stream pts ssrc items)) ≡ arrivals_after ssrc pts (arrivals_with ssrc pts item before) items
-      go true e more = more (arrivals_with ssrc pts item before)
-      go false e more = more before ∙ ap (λ past. arrivals_after ssrc pts past items) (sym (none_arrives item before e))
+      go : (b : Bool) → is_name ssrc (stream_of payload_types (sort_of item)) ≡ b → ((past : List Arrival) → arrivals_after ssrc payload_types past (stream payload_types ssrc items) ≡ arrivals_after ssrc payload_types past items)
+          → arrivals_after ssrc payload_types before (cond b (item ∷ stream payload_types ssrc items) (stream payload_types ssrc items)) ≡ arrivals_after ssrc payload_types (arrivals_with ssrc payload_types item before) items
+      go true e more = more (arrivals_with ssrc payload_types item before)
+      go false e more = more before ∙ ap (λ past. arrivals_after ssrc payload_types past items) (sym (none_arrives item before e))
 
 -- what arrives of the stream x
-pub arrives_alike : (pts : Pts) (ssrc : ℕ) (items : List Item) → is_dynamic pts.t140 ≡ true → is_dynamic pts.red ≡ true → arrivals_after ssrc pts [] (stream pts ssrc items) ≡ arrivals_after ssrc pts [] items
-arrives_alike pts ssrc items t r = same_arrivals ssrc pts t r [] items
+pub arrives_alike : (payload_types : PayloadTypes) (ssrc : ℕ) (items : List Item) → is_dynamic payload_types.t140 ≡ true → is_dynamic payload_types.red ≡ true → arrivals_after ssrc payload_types [] (stream payload_types ssrc items) ≡ arrivals_after ssrc payload_types [] items
+arrives_alike payload_types ssrc items t r = same_arrivals ssrc payload_types t r [] items

@@ -6,7 +6,7 @@ use Rattle.std.proofs.lemmas.Bool.{ltb-false}
 use Rattle.std.proofs.lemmas.List.{length-take, length-drop}
 use Rattle.rtt_base.specs.Steps.{◌>>=◌}
 use Rattle.rtt_base.proofs.Steps.{bind_ok}
-use Rattle.rtt_base.specs.declared.text_packets.Pts.{Pts}
+use Rattle.rtt_base.specs.declared.text_packets.PayloadTypes.{PayloadTypes}
 use Rattle.rtt_base.specs.declared.blocks.TextBlock.{TextBlock}
 use Rattle.wire_spec.specs.declared.faults.TextFault.{TextFault}
 use Rattle.wire_spec.specs.declared.faults.RtpFault.TheVariants as rtp_fault
@@ -172,16 +172,16 @@ headers_less (suc room) t140 octets hs e =
     let d = length-drop 4 octets in
     others_less octets (headers_at room t140 (drop 4 octets)) r.0 hs (length octets) (omega arith) (λ x q. let k = headers_less room t140 (drop 4 octets) x q in omega (arith, k, d)) r.2
 
-red_size : (octets : List ℕ) (pt : ℕ) (pts : Pts) (blocks : List TextBlock) → red octets pt pts ≡ Ok blocks → all_size blocks ≤ length octets
+red_size : (octets : List ℕ) (pt : ℕ) (payload_types : PayloadTypes) (blocks : List TextBlock) → red octets pt payload_types ≡ Ok blocks → all_size blocks ≤ length octets
 unfolding red
-red_size octets pt pts blocks e = go (pt == pts.t140) (pt == pts.red) e
+red_size octets pt payload_types blocks e = go (pt == payload_types.t140) (pt == payload_types.red) e
   where
-    go : (a b : Bool) → cond a (texts_at [] octets) (cond b (headers_at 8 pts.t140 octets >>= λ hs. texts_at hs.headers hs.texts) (Err WrongType)) ≡ Ok blocks → all_size blocks ≤ length octets
+    go : (a b : Bool) → cond a (texts_at [] octets) (cond b (headers_at 8 payload_types.t140 octets >>= λ hs. texts_at hs.headers hs.texts) (Err WrongType)) ≡ Ok blocks → all_size blocks ≤ length octets
     go true b e = texts_size [] octets blocks e
     go false true e =
-        let r = bind_ok (headers_at 8 pts.t140 octets) (λ hs. texts_at hs.headers hs.texts) blocks e in
+        let r = bind_ok (headers_at 8 payload_types.t140 octets) (λ hs. texts_at hs.headers hs.texts) blocks e in
         let a = texts_size r.0.headers r.0.texts blocks r.2 in
-        let b = headers_less 8 pts.t140 octets r.0 r.1 in
+        let b = headers_less 8 payload_types.t140 octets r.0 r.1 in
         omega (arith, a, b)
     go false false e = absurd (cc e)
 
@@ -202,24 +202,24 @@ accepted_same asked a b e = go (is_asked asked a.ssrc) (nat_lt 1 a.cc) e
     go true false e = cc e
     go false y e = absurd (cc e)
 
-text_less : (octets : List ℕ) (asked : Option ℕ) (pts : Pts) (p : Packet) → text_of octets asked pts ≡ Ok p → 12 + text_size p ≤ length octets
+text_less : (octets : List ℕ) (asked : Option ℕ) (payload_types : PayloadTypes) (p : Packet) → text_of octets asked payload_types ≡ Ok p → 12 + text_size p ≤ length octets
 unfolding text_of text_of_short
-text_less octets asked pts p e = go (nat_lt MOST_PACKET_OCTETS (length octets)) e
+text_less octets asked payload_types p e = go (nat_lt MOST_PACKET_OCTETS (length octets)) e
   where
-    short : (refused_as header_fault (rtp octets) >>= λ reading. accepted asked reading >>= λ r. refused_as blocks_fault (red r.payload r.pt pts) >>= λ blocks. Ok (text_packet r blocks)) ≡ Ok p → 12 + text_size p ≤ length octets
+    short : (refused_as header_fault (rtp octets) >>= λ reading. accepted asked reading >>= λ r. refused_as blocks_fault (red r.payload r.pt payload_types) >>= λ blocks. Ok (text_packet r blocks)) ≡ Ok p → 12 + text_size p ≤ length octets
     short e =
         let a = bind_ok (refused_as header_fault (rtp octets)) _ p e in
         let b = bind_ok (accepted asked a.0) _ p a.2 in
-        let c = bind_ok (refused_as blocks_fault (red b.0.payload b.0.pt pts)) _ p b.2 in
+        let c = bind_ok (refused_as blocks_fault (red b.0.payload b.0.pt payload_types)) _ p b.2 in
         let x = rtp_less octets a.0 (refused_ok header_fault (rtp octets) a.0 a.1) in
         let y = ap (λ (r : Reading). length r.payload) (accepted_same asked a.0 b.0 b.1) in
-        let z = red_size b.0.payload b.0.pt pts c.0 (refused_ok blocks_fault (red b.0.payload b.0.pt pts) c.0 c.1) in
+        let z = red_size b.0.payload b.0.pt payload_types c.0 (refused_ok blocks_fault (red b.0.payload b.0.pt payload_types) c.0 c.1) in
         let w = parts_size c.0 in
         let same : text_packet b.0 c.0 ≡ p = let f = c.2 in cc f in
         let l = ap (λ (q : Packet). text_size q) same in
         omega (arith, x, y, z, w, l)
 
-    go : (b : Bool) → cond b (Err Rattle.wire_spec.specs.declared.faults.TextFault.TheVariants.Long) (text_of_short octets asked pts) ≡ Ok p → 12 + text_size p ≤ length octets
+    go : (b : Bool) → cond b (Err Rattle.wire_spec.specs.declared.faults.TextFault.TheVariants.Long) (text_of_short octets asked payload_types) ≡ Ok p → 12 + text_size p ≤ length octets
     go true e = absurd (cc e)
     go false e = short e
 
@@ -229,28 +229,28 @@ abbrev pub items_size : List Item → ℕ
 items_size [] = 0
 items_size (item ∷ items) = elim item.what [ Whole octets ↦ 8 + length octets | Rtcp ↦ 0 | Part ↦ 0 | Large ↦ 0 ] + items_size items
 
-arrived_less : (time : ℕ) (octets : List ℕ) (s : ℕ) (pts : Pts) (past : List Arrival) → came (arrived time (text_of octets (Some s) pts) past) ≤ 8 + length octets + came past
-arrived_less time octets s pts past = go (text_of octets (Some s) pts) refl
+arrived_less : (time : ℕ) (octets : List ℕ) (s : ℕ) (payload_types : PayloadTypes) (past : List Arrival) → came (arrived time (text_of octets (Some s) payload_types) past) ≤ 8 + length octets + came past
+arrived_less time octets s payload_types past = go (text_of octets (Some s) payload_types) refl
   where
-    go : (r : Result Packet TextFault) → text_of octets (Some s) pts ≡ r → came (arrived time r past) ≤ 8 + length octets + came past
+    go : (r : Result Packet TextFault) → text_of octets (Some s) payload_types ≡ r → came (arrived time r past) ≤ 8 + length octets + came past
     go (Err fault) is = omega arith
-    go (Ok p) is = let l = text_less octets (Some s) pts p is in omega (arith, l)
+    go (Ok p) is = let l = text_less octets (Some s) payload_types p is in omega (arith, l)
 
-item_less : (s : ℕ) (pts : Pts) (item : Item) (past : List Arrival) → came (arrivals_with s pts item past) ≤ elim item.what [ Whole octets ↦ 8 + length octets | Rtcp ↦ 0 | Part ↦ 0 | Large ↦ 0 ] + came past
-item_less s pts item past = go item.what
+item_less : (s : ℕ) (payload_types : PayloadTypes) (item : Item) (past : List Arrival) → came (arrivals_with s payload_types item past) ≤ elim item.what [ Whole octets ↦ 8 + length octets | Rtcp ↦ 0 | Part ↦ 0 | Large ↦ 0 ] + came past
+item_less s payload_types item past = go item.what
   where
-    go : (w : What) → came (elim w [ Whole octets ↦ arrived item.time (text_of octets (Some s) pts) past | Rtcp ↦ past | Part ↦ past | Large ↦ past ])
+    go : (w : What) → came (elim w [ Whole octets ↦ arrived item.time (text_of octets (Some s) payload_types) past | Rtcp ↦ past | Part ↦ past | Large ↦ past ])
         ≤ elim w [ Whole octets ↦ 8 + length octets | Rtcp ↦ 0 | Part ↦ 0 | Large ↦ 0 ] + came past
-    go (Whole octets) = arrived_less item.time octets s pts past
+    go (Whole octets) = arrived_less item.time octets s payload_types past
     go Rtcp = omega arith
     go Part = omega arith
     go Large = omega arith
 
-pub came_less : (s : ℕ) (pts : Pts) (past : List Arrival) (items : List Item) → came (arrivals_after s pts past items) ≤ items_size items + came past
-came_less s pts past [] = omega arith
-came_less s pts past (item ∷ items) =
-    let one = item_less s pts item past in
-    let rest = came_less s pts (arrivals_with s pts item past) items in
+pub came_less : (s : ℕ) (payload_types : PayloadTypes) (past : List Arrival) (items : List Item) → came (arrivals_after s payload_types past items) ≤ items_size items + came past
+came_less s payload_types past [] = omega arith
+came_less s payload_types past (item ∷ items) =
+    let one = item_less s payload_types item past in
+    let rest = came_less s payload_types (arrivals_with s payload_types item past) items in
     omega (arith, one, rest)
 
 -- ---- the recording
@@ -338,10 +338,10 @@ split_fits t octets s some =
     let past = came_of t octets in
     let bs = filter (is_packet_of s) (used t.wait (numbered (still past))) in
     let cs = chunks_of t.wait past s in
-    let size = recorded_size t.pts s 0 0 (groups cs) in
+    let size = recorded_size t.payload_types s 0 0 (groups cs) in
     let cost_is = groups_cost (ready_of t.wait (numbered (still past))) 0 (has_number (used t.wait (numbered (still past)))) (first_number 0 (numbered (still past))) bs in
     let a = used_came t.wait s past in
-    let b = came_less t.ssrc t.pts [] (dump t.limit octets).items in
+    let b = came_less t.ssrc t.payload_types [] (dump t.limit octets).items in
     let c = dump_fits t.limit octets in
     go bs (cost (groups cs)) (length (split_of t octets s)) size cost_is (omega (arith, a, b, c))
   where

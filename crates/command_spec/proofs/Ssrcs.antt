@@ -4,16 +4,16 @@ use Rattle.std.specs.Prelude.{nat_le, Ok, bytes_eq, All}
 use Rattle.std.specs.List.{list_any}
 use Rattle.std.specs.Option.{ForSome, ok_or}
 use Rattle.std.proofs.lemmas.List.Elements.{All-nil, All-push}
-use Rattle.rtt_base.specs.declared.text_packets.Pts.{Pts}
+use Rattle.rtt_base.specs.declared.text_packets.PayloadTypes.{PayloadTypes}
 use Rattle.file_spec.specs.declared.kinds.ConfKind.TheVariants.{Number, Many, Twice, Clash}
-use Rattle.file_spec.specs.declared.conf_lines.Form.{Form}
-use Rattle.file_spec.specs.declared.conf_lines.MixerLine.{MixerLine}
-use Rattle.file_spec.specs.declared.conf_lines.LegLine.{LegLine}
+use Rattle.file_spec.specs.declared.conference_lines.Form.{Form}
+use Rattle.file_spec.specs.declared.conference_lines.MixerLine.{MixerLine}
+use Rattle.file_spec.specs.declared.conference_lines.LegLine.{LegLine}
 use Rattle.rtt_base.specs.Steps.{◌>>=◌}
 use Rattle.file_spec.specs.Steps.{unless}
 use Rattle.file_spec.specs.Lines.{Line}
-use Rattle.file_spec.specs.Numbers.{number, most_ssrc, pts}
-use Rattle.file_spec.specs.Conf.{Above, Conf, Entry, Leg, Gens, Stays, Tick, Spacing, Wait, Turns, Relabel, Mixer, Plan, Follows, Serves, nothing, with_entry, change_leg, with_gens, with_follow, with_stay, mixer, mixer_of, clashes, most_legs, new_leg, usual_types, leg_of, leg, and_line, conf}
+use Rattle.file_spec.specs.Numbers.{number, most_ssrc, payload_types}
+use Rattle.file_spec.specs.Conference.{Above, Conference, Entry, Leg, Generations, Stays, Tick, Spacing, Wait, Turns, Relabel, Mixer, Plan, Follows, Serves, nothing, with_entry, change_leg, with_generations, with_follow, with_stay, mixer, mixer_of, clashes, most_legs, new_leg, usual_types, leg_of, leg, and_line, conference_from}
 use Rattle.rtt_base.proofs.Steps.{bind_ok}
 use Rattle.file_spec.proofs.Passed.{unless_ok, ok_or_ok, number_most}
 use Rattle.file_spec.proofs.EachLine.{HoldsOf, entry_holds, line_adds, lines_of, completed, leg_read, mixer_read}
@@ -29,7 +29,7 @@ Fit above = AreSsrcs above.legs above.mixer
 abbrev Fits : Entry → Type 0
 Fits (Leg l) = l.ssrc < 2 ^ 32
 Fits (Mixer m) = m.ssrc < 2 ^ 32
-Fits (Gens g) = Unit {0}
+Fits (Generations g) = Unit {0}
 Fits (Stays s) = Unit {0}
 Fits (Tick n) = Unit {0}
 Fits (Spacing n) = Unit {0}
@@ -58,7 +58,7 @@ changed change same (suc k) (l ∷ legs) a = go (changed change same k legs (λ 
 
 more : (above : Above) (said : Entry) → Fit above → Fits said → Fit (with_entry above said)
 more above (Leg l) f n = record { legs_fit = All-push (λ a. a.ssrc < 2 ^ 32) above.legs l f.legs_fit n; mixer_fits = f.mixer_fits }
-more above (Gens g) f n = record { legs_fit = changed (with_gens g.gens) (λ l. refl) g.leg above.legs f.legs_fit; mixer_fits = f.mixer_fits }
+more above (Generations g) f n = record { legs_fit = changed (with_generations g.generations) (λ l. refl) g.leg above.legs f.legs_fit; mixer_fits = f.mixer_fits }
 more above (Stays s) f n = record { legs_fit = changed (with_stay s.stay) (λ l. refl) s.leg above.legs f.legs_fit; mixer_fits = f.mixer_fits }
 more above (Tick m) f n = record { legs_fit = f.legs_fit; mixer_fits = f.mixer_fits }
 more above (Spacing m) f n = record { legs_fit = f.legs_fit; mixer_fits = f.mixer_fits }
@@ -81,7 +81,7 @@ new_same form above l x e =
     (unless_ok (nat_le (most_legs form) (length above.legs)) Many l b.0 b.1).1
     ∙ ((unless_ok (list_any (λ a. bytes_eq a.name l.name) above.legs) Twice b.0 a.0 b.2).1 ∙ (unless_ok (clashes form above l) Clash a.0 x a.2).1)
 
-leg_of_fits : (form : Form) (above : Above) (n : ℕ) (name mode ssrc input output : List ℕ) (types : Option Pts) (x : LegLine) → leg_of form above n name mode ssrc input output types ≡ Ok x → x.ssrc < 2 ^ 32
+leg_of_fits : (form : Form) (above : Above) (n : ℕ) (name mode ssrc input output : List ℕ) (types : Option PayloadTypes) (x : LegLine) → leg_of form above n name mode ssrc input output types ≡ Ok x → x.ssrc < 2 ^ 32
 leg_of_fits form above n name mode ssrc input output types x e =
     let r = leg_read form above n name mode ssrc input output types x e in
     subst (λ (y : LegLine). y.ssrc < 2 ^ 32) (new_same form above r.line x r.is) (named ssrc r.line.ssrc r.source)
@@ -94,11 +94,11 @@ leg_fits form above n (a ∷ b ∷ c ∷ []) x e = absurd (cc e)
 leg_fits form above n (a ∷ b ∷ c ∷ d ∷ []) x e = absurd (cc e)
 leg_fits form above n (a ∷ b ∷ c ∷ d ∷ f ∷ []) x e = leg_of_fits form above n a b c d f (Some usual_types) x e
 leg_fits form above n (a ∷ b ∷ c ∷ d ∷ f ∷ g ∷ []) x e = absurd (cc e)
-leg_fits form above n (a ∷ b ∷ c ∷ d ∷ f ∷ g ∷ h ∷ []) x e = leg_of_fits form above n a b c d f (pts g h) x e
+leg_fits form above n (a ∷ b ∷ c ∷ d ∷ f ∷ g ∷ h ∷ []) x e = leg_of_fits form above n a b c d f (payload_types g h) x e
 leg_fits form above n (a ∷ b ∷ c ∷ d ∷ f ∷ g ∷ h ∷ i ∷ more) x e = absurd (cc e)
 
-mixer_of_fits : (above : Above) (ssrc seq stamp : List ℕ) (x : MixerLine) → mixer_of above ssrc seq stamp ≡ Ok x → x.ssrc < 2 ^ 32
-mixer_of_fits above ssrc seq stamp x e = named ssrc x.ssrc (mixer_read above ssrc seq stamp x e).source
+mixer_of_fits : (above : Above) (ssrc seq timestamp : List ℕ) (x : MixerLine) → mixer_of above ssrc seq timestamp ≡ Ok x → x.ssrc < 2 ^ 32
+mixer_of_fits above ssrc seq timestamp x e = named ssrc x.ssrc (mixer_read above ssrc seq timestamp x e).source
 
 mixer_fits : (above : Above) (ws : List (List ℕ)) (x : MixerLine) → mixer above ws ≡ Ok x → x.ssrc < 2 ^ 32
 mixer_fits above [] x e = absurd (cc e)
@@ -112,7 +112,7 @@ entry_fits : (form : Form) (above : Above) (n : ℕ) → HoldsOf Fits form above
 entry_fits form above n = record {
   each_leg = leg_fits form above n;
   each_mixer = mixer_fits above;
-  each_gens = λ ws x e. tt;
+  each_generations = λ ws x e. tt;
   each_stay = λ q ws x e. tt;
   each_plan = λ q word ws x e. tt;
   each_tick = λ ws x e. tt;
@@ -131,11 +131,11 @@ line_fits form above later line e f =
     subst Fit a.3 (more above a.1 f (entry_holds Fits form above line.number (entry_fits form above line.number) a.0 a.1 a.2))
 
 -- ---- the whole
-pub record HasSsrcs (c : Conf) : Type 0 where
+pub record HasSsrcs (c : Conference) : Type 0 where
   pub legs : All (λ l. l.ssrc < 2 ^ 32) c.legs
   pub mixer : c.mixer.ssrc < 2 ^ 32
 
-pub ssrcs_fit : (form : Form) (octets : List ℕ) (c : Conf) → conf form octets ≡ Ok c → HasSsrcs c
+pub ssrcs_fit : (form : Form) (octets : List ℕ) (c : Conference) → conference_from form octets ≡ Ok c → HasSsrcs c
 ssrcs_fit form octets c e =
     let none : Fit nothing = record { legs_fit = All-nil (λ l. l.ssrc < 2 ^ 32); mixer_fits = λ m q. absurd (cc q) } in
     let a = lines_of Fit form (line_fits form) none octets c e in

@@ -3,7 +3,7 @@ use Rattle.std.proofs.Common.{◌≡◌, ℕ, zero, suc, ◌+◌, Some, List, []
 use Rattle.std.specs.Prelude.{◌≢◌, map, AllPairs, All}
 use Rattle.std.specs.List.{enumerate_from}
 use Rattle.std.proofs.lemmas.List.Elements.{All-head, All-tail}
-use Rattle.file_spec.specs.declared.conf_lines.LegLine.{LegLine}
+use Rattle.file_spec.specs.declared.conference_lines.LegLine.{LegLine}
 use Rattle.file_spec.specs.Kept.{Differ}
 use Rattle.mixer_spec.specs.Setups.{leg_at}
 use Rattle.command_spec.specs.Work.{Contents, Made}

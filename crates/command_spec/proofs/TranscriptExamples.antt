@@ -13,7 +13,7 @@ use Rattle.command_spec.specs.declared.requests.ReadRequest.{ReadRequest}
 use Rattle.command_spec.specs.Transcripts.{escaped, transcript_view}
 
 abbrev asked : ℕ → ℕ → ReadRequest
-asked ssrc source = record { ssrc = ssrc; source = source; pts = record { t140 = 98; red = 100 } }
+asked ssrc source = record { ssrc = ssrc; source = source; payload_types = record { t140 = 98; red = 100 } }
 
 -- a sender types A and, 300 ms later, B
 two_letters : List ℕ

@@ -6,14 +6,14 @@ use Rattle.std.specs.Str.{byte}
 use Rattle.wire_spec.specs.Dump.{dump}
 use Rattle.rtcp_spec.specs.declared.events.Event.{Event}
 use Rattle.rtcp_spec.specs.declared.events.Event.TheVariants.{Name, Bye}
-use Rattle.rtcp_spec.specs.declared.faults.RtcpFault.{RtcpFault}
+use Rattle.rtcp_spec.specs.declared.faults.RtcpRefusal.{RtcpRefusal}
 use Rattle.rtcp_spec.specs.Rtcp.{rtcp}
 use Rattle.rtcp_spec.specs.Recorded.{Entry, entries}
 use Rattle.file_spec.specs.declared.limits.TheConstants.{LAST_MOMENT}
-use Rattle.file_spec.specs.declared.conf_lines.Form.TheVariants.{Files}
-use Rattle.file_spec.specs.declared.conf_lines.LegLine.{LegLine}
-use Rattle.file_spec.specs.declared.conf_lines.Stay.{Stay}
-use Rattle.file_spec.specs.Conf.{Conf, change_leg, conf, is_name}
+use Rattle.file_spec.specs.declared.conference_lines.Form.TheVariants.{Files}
+use Rattle.file_spec.specs.declared.conference_lines.LegLine.{LegLine}
+use Rattle.file_spec.specs.declared.conference_lines.Stay.{Stay}
+use Rattle.file_spec.specs.Conference.{Conference, change_leg, conference_from, is_name}
 use Rattle.file_spec.specs.Lines as lines
 use Rattle.mixer_spec.specs.Setups.{leg_at, ssrc_of}
 use Rattle.mixer_spec.specs.Bridged.{input_limit}
@@ -45,7 +45,7 @@ and_events ssrc at said [] = said
 and_events ssrc at said (e ∷ events) = and_events ssrc at (and_event ssrc at said e) events
 
 -- what is refused tells nothing
-abbrev pub and_read : ℕ → ℕ → Said → Result (List Event) RtcpFault → Said
+abbrev pub and_read : ℕ → ℕ → Said → Result (List Event) RtcpRefusal → Said
 and_read ssrc at said (Ok events) = and_events ssrc at said events
 and_read ssrc at said (Err fault) = said
 
@@ -101,26 +101,26 @@ told_legs wait says (suc k) legs =
     change_leg (told_so wait (says k) (told_legs wait says k legs)) k (told_legs wait says k legs)
 
 -- what the input of the leg k says of it
-abbrev pub says_of : Conf → List (List ℕ) → ℕ → Said
+abbrev pub says_of : Conference → List (List ℕ) → ℕ → Said
 says_of c inputs k = said_by (input_limit c) (ssrc_of (leg_at c.legs k)) (input_at inputs k)
 
 -- all legs of the conference are told so
-abbrev pub named_by : (ℕ → Said) → Conf → Conf
+abbrev pub named_by : (ℕ → Said) → Conference → Conference
 named_by says c = record c { legs = told_legs c.wait says (length c.legs) c.legs }
 
 -- the conference with the names and the leavings that its inputs tell
-abbrev pub named : Conf → List (List ℕ) → Conf
+abbrev pub named : Conference → List (List ℕ) → Conference
 named c inputs = named_by (says_of c inputs) c
 
 -- ---- the steps
 -- what is mixed is the conference that is named so
-abbrev pub attends : Conf → List (List ℕ) → Steps
+abbrev pub attends : Conference → List (List ℕ) → Steps
 attends c inputs = mixes_counted (named c inputs) inputs
 
-abbrev pub attends_read : Result Conf lines.Refusal → Steps
+abbrev pub attends_read : Result Conference lines.Refusal → Steps
 attends_read (Err refusal) = Refuses 0 (AtLine refusal.line refusal.kind)
 attends_read (Ok c) = reads_inputs c.legs (attends c)
 
 -- the conference that this file describes is attended
 abbrev pub attending : List ℕ → Steps
-attending file = Reads file (λ octets. attends_read (conf Files octets))
+attending file = Reads file (λ octets. attends_read (conference_from Files octets))

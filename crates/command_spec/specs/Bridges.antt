@@ -5,9 +5,9 @@ use Rattle.std.specs.List.{AllZip, concat, enumerate_from}
 use Rattle.wire_spec.specs.Packets.{Arrival}
 use Rattle.wire_spec.specs.Text.{text_of}
 use Rattle.wire_spec.specs.Dump.{dump, dump_written, sent_item}
-use Rattle.file_spec.specs.declared.conf_lines.Form.TheVariants.{Files}
-use Rattle.file_spec.specs.declared.conf_lines.LegLine.{LegLine}
-use Rattle.file_spec.specs.Conf.{Conf, conf}
+use Rattle.file_spec.specs.declared.conference_lines.Form.TheVariants.{Files}
+use Rattle.file_spec.specs.declared.conference_lines.LegLine.{LegLine}
+use Rattle.file_spec.specs.Conference.{Conference, conference_from}
 use Rattle.stream_spec.specs.Numbering as numbers
 use Rattle.stream_spec.specs.History.{History, Lawful, placed}
 use Rattle.stream_spec.specs.Own.{Own, Closed, own_packet}
@@ -30,7 +30,7 @@ use Rattle.wire_spec.specs.declared.limits.TheConstants.{LAST_RECORD_MOMENT}
 
 -- A conference, the octets of its inputs in leg order, and the table when mixing them was over.
 pub record Bridge : Type 0 where
-  pub conference : Conf
+  pub conference : Conference
   pub inputs : List (List ℕ)
   pub table : Table
 
@@ -77,10 +77,10 @@ records_of b j leg = records_to b.conference b.table j leg
 -- packets, in order, which is read back wherever its times and its size are within the limits.
 pub record IsOut (b : Bridge) (j : ℕ) (leg : LegLine) (octets : List ℕ) : Type 0 where
   pub lawful : Lawful (told_to b j)
-  pub own : Own leg.gens (told_to b j)
-  pub closed : Closed leg.gens (told_to b j)
+  pub own : Own leg.generations (told_to b j)
+  pub closed : Closed leg.generations (told_to b j)
   pub is : octets ≡ dump_written (records_of b j leg)
-  pub packets : map (λ r. text_of r.1 (Some b.conference.mixer.ssrc) leg.pts) (records_of b j leg)
+  pub packets : map (λ r. text_of r.1 (Some b.conference.mixer.ssrc) leg.payload_types) (records_of b j leg)
       ≡ map (λ x. Ok (own_packet (told_to b j) x)) (placed (told_to b j))
   pub read_back : (limit : ℕ) → All (λ r. r.0 ≤ LAST_RECORD_MOMENT) (records_of b j leg) → length octets ≤ limit
       → dump limit octets ≡ record { items = map sent_item (records_of b j leg); fault = None }
@@ -145,7 +145,7 @@ pub record IsHeardAsOne (b : Bridge) (j : ℕ) : Type 0 where
 -- ---- the whole
 -- The conference lies in this file, and recordings without a fault in its inputs; mixing them is over within its turns.
 pub record IsMixedFrom (held : Contents) (file : List ℕ) (b : Bridge) : Type 0 where
-  pub read : (octets : List ℕ) × (held file ≡ Some octets) × (conf Files octets ≡ Ok b.conference)
+  pub read : (octets : List ℕ) × (held file ≡ Some octets) × (conference_from Files octets ≡ Ok b.conference)
   pub inputs_lie : AllZip (λ leg octets. held leg.input ≡ Some octets) b.conference.legs b.inputs
   pub whole : All (λ octets. (dump (input_limit b.conference) octets).fault ≡ None) b.inputs
   pub over : IsConferenceMixed b.conference (input_at b.inputs) b.table

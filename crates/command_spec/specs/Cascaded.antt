@@ -7,9 +7,9 @@ use Rattle.stream_spec.specs.History.{History, Lawful, Come, places}
 use Rattle.stream_spec.specs.Hearing.{heard}
 use Rattle.stream_spec.specs.Kept.{kept, texts}
 use Rattle.stream_spec.specs.Still.{still, still_history}
-use Rattle.file_spec.specs.declared.conf_lines.Form.TheVariants.{Files}
-use Rattle.file_spec.specs.declared.conf_lines.LegLine.{LegLine}
-use Rattle.file_spec.specs.Conf.{conf}
+use Rattle.file_spec.specs.declared.conference_lines.Form.TheVariants.{Files}
+use Rattle.file_spec.specs.declared.conference_lines.LegLine.{LegLine}
+use Rattle.file_spec.specs.Conference.{conference_from}
 use Rattle.mixer_spec.specs.Setups.{AllStay, leg_at, ssrc_of}
 use Rattle.mixer_spec.specs.Headline.{Headline, HeadlineAt, Hop, all_sent, hears}
 use Rattle.mixer_spec.specs.Bridged.{IsConferenceMixed, IsPair, IsPart, before_shared, input_limit, shared_texts}
@@ -72,7 +72,7 @@ pub record IsSeen (after : Contents) (printed : List ℕ) (b : Bridge) : Type 0 
 -- The conference of the bridge lies in one file, and in another one a recording of these octets, which is read to its end, as are
 -- those in which the texts of the legs lie. Mixing it is over within its turns.
 pub record IsCascadedFrom (held : Contents) (conference file : List ℕ) (ssrc : ℕ) (octets : List ℕ) (b : Bridge) : Type 0 where
-  pub read : (described : List ℕ) × (held conference ≡ Some described) × (conf Files described ≡ Ok b.conference)
+  pub read : (described : List ℕ) × (held conference ≡ Some described) × (conference_from Files described ≡ Ok b.conference)
   pub lies : held file ≡ Some octets
   pub recorded : (dump (trunk_limit b.conference) octets).fault ≡ None
   pub texts_lie : AllZip (IsTextOf held (split_of (trunk_of b.conference ssrc) octets)) b.conference.legs b.inputs

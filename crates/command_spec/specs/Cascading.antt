@@ -4,9 +4,9 @@
 use Rattle.std.specs.Prelude.{ℕ, suc, ◌==◌, ◌&&◌, not, nat_lt, Bool, Option, None, Some, List, [], ◌∷◌, length, bytes_eq, codes, Result, Ok, Err, if◌then◌else◌}
 use Rattle.wire_spec.specs.Dump.{dump}
 use Rattle.wire_spec.specs.Dump as dumps
-use Rattle.file_spec.specs.declared.conf_lines.LegLine.{LegLine}
-use Rattle.file_spec.specs.declared.conf_lines.Form.TheVariants.{Files}
-use Rattle.file_spec.specs.Conf.{Conf, conf, usual_types}
+use Rattle.file_spec.specs.declared.conference_lines.LegLine.{LegLine}
+use Rattle.file_spec.specs.declared.conference_lines.Form.TheVariants.{Files}
+use Rattle.file_spec.specs.Conference.{Conference, conference_from, usual_types}
 use Rattle.file_spec.specs.Lines as lines
 use Rattle.mixer_spec.specs.Setups.{setup}
 use Rattle.mixer_spec.specs.Plain.{plain}
@@ -25,7 +25,7 @@ is_on_trunk leg = bytes_eq leg.input (codes "trunk")
 
 -- The recording has the usual payload types, and such a leg must have them.
 abbrev pub has_other_types : LegLine → Bool
-has_other_types leg = is_on_trunk leg && not (leg.pts.t140 == usual_types.t140 && leg.pts.red == usual_types.red)
+has_other_types leg = is_on_trunk leg && not (leg.payload_types.t140 == usual_types.t140 && leg.payload_types.red == usual_types.red)
 
 -- the line of the first leg that has not
 abbrev pub odd_line : List LegLine → Option ℕ
@@ -34,12 +34,12 @@ odd_line (leg ∷ legs) = if has_other_types leg then Some leg.line else odd_lin
 
 -- ---- the recording
 -- how many octets it may have: 512 KiB where there are more legs than places, else 2 MiB
-abbrev pub trunk_limit : Conf → ℕ
+abbrev pub trunk_limit : Conference → ℕ
 trunk_limit c = if nat_lt PLACES (length c.legs) then MOST_TRUNK_OF_MANY else MOST_TRUNK_OCTETS
 
 -- how it is read, where the other mixer sent under this SSRC
-abbrev pub trunk_of : Conf → ℕ → Trunk
-trunk_of c ssrc = record { ssrc = ssrc; pts = usual_types; wait = c.wait; limit = trunk_limit c }
+abbrev pub trunk_of : Conference → ℕ → Trunk
+trunk_of c ssrc = record { ssrc = ssrc; payload_types = usual_types; wait = c.wait; limit = trunk_limit c }
 
 -- ---- the steps
 -- the recording that is the input of this number is refused with this fault, or this comes then
@@ -57,7 +57,7 @@ unless_leg_faulty limit n (leg ∷ legs) (octets ∷ more) steps =
     else unless_faulty n (dump limit octets).fault (unless_leg_faulty limit (suc n) legs more steps)
 
 -- the legs are mixed, whose texts lie in recordings of these octets
-abbrev pub mixes_over : Conf → List (List ℕ) → Steps
+abbrev pub mixes_over : Conference → List (List ℕ) → Steps
 mixes_over c inputs =
     unless_leg_faulty (input_limit c) 2 c.legs inputs
     (makes c (plain (setup c) c.tick c.turns (leg_chunks c (input_at inputs))))
@@ -70,13 +70,13 @@ reads_others split (leg ∷ legs) next =
     else Reads leg.input (λ octets. reads_others split legs (λ more. next (octets ∷ more)))
 
 -- a recording of these octets is split, and its splits are mixed with the other legs
-abbrev pub mixes_splits : Conf → ℕ → List ℕ → Steps
+abbrev pub mixes_splits : Conference → ℕ → List ℕ → Steps
 mixes_splits c ssrc octets =
     unless_faulty 1 (dump (trunk_limit c) octets).fault
     (reads_others (split_of (trunk_of c ssrc) octets) c.legs (mixes_over c))
 
 -- what comes of a conference behind a mixer of this SSRC, which is recorded in this file
-abbrev pub cascades : List ℕ → ℕ → Conf → Steps
+abbrev pub cascades : List ℕ → ℕ → Conference → Steps
 cascades file ssrc c = Reads file (mixes_splits c ssrc)
 
 -- the conference is refused at this line of a leg that has other types, or this comes then
@@ -84,10 +84,10 @@ abbrev pub unless_odd : Option ℕ → Steps → Steps
 unless_odd None steps = steps
 unless_odd (Some line) steps = Refuses 0 (AtTrunk line)
 
-abbrev pub cascades_read : List ℕ → ℕ → Result Conf lines.Refusal → Steps
+abbrev pub cascades_read : List ℕ → ℕ → Result Conference lines.Refusal → Steps
 cascades_read file ssrc (Err refusal) = Refuses 0 (AtLine refusal.line refusal.kind)
 cascades_read file ssrc (Ok c) = unless_odd (odd_line c.legs) (cascades file ssrc c)
 
 -- the conference that the first file describes, behind a mixer of this SSRC, which is recorded in the other one
 abbrev pub cascading : List ℕ → List ℕ → ℕ → Steps
-cascading conference file ssrc = Reads conference (λ octets. cascades_read file ssrc (conf Files octets))
+cascading conference file ssrc = Reads conference (λ octets. cascades_read file ssrc (conference_from Files octets))

@@ -4,13 +4,13 @@ use Rattle.wire_spec.specs.Dump.{arrivals}
 use Rattle.stream_spec.specs.Ready.{Chunk, chunks}
 use Rattle.file_spec.specs.Script.{ScriptLine}
 use Rattle.frame_spec.specs.declared.frames.Frame.{Frame}
-use Rattle.frame_spec.specs.declared.frames.FrameFault.{FrameFault}
+use Rattle.frame_spec.specs.declared.frames.FrameRefusal.{FrameRefusal}
 use Rattle.frame_spec.specs.declared.kinds.FrameKind.TheVariants.{Full, ManyFrames}
 use Rattle.frame_spec.specs.declared.limits.TheConstants.{FRAME_HEAD_OCTETS, END_OF_FRAME_MOMENTS, MOST_FRAMES_OCTETS}
 use Rattle.frame_spec.specs.Frames.{frames_written, read_frames}
 use Rattle.command_spec.specs.Reading.{usual_wait}
 use Rattle.command_spec.specs.Scripts.{Sending, InOrder, full_line, recording}
-use Rattle.command_spec.specs.Usual.{usual_pts}
+use Rattle.command_spec.specs.Usual.{usual_payload_types}
 
 -- ---- `relay`
 
@@ -37,16 +37,16 @@ full_frame s fs = full_line s (lines_of fs)
 abbrev pub relayed : Sending → List Frame → List ℕ
 relayed s fs = recording s (lines_of fs)
 
-abbrev pub unless_full_frame : Option ℕ → List ℕ → Result (List ℕ) FrameFault
+abbrev pub unless_full_frame : Option ℕ → List ℕ → Result (List ℕ) FrameRefusal
 unless_full_frame None octets = Ok octets
 unless_full_frame (Some byte) octets = Err (record { offset = byte; kind = Full })
 
-abbrev pub relay_read : Sending → List Frame → Option FrameFault → Result (List ℕ) FrameFault
+abbrev pub relay_read : Sending → List Frame → Option FrameRefusal → Result (List ℕ) FrameRefusal
 relay_read s fs (Some fault) = Err fault
 relay_read s fs None = unless_full_frame (full_frame s fs) (relayed s fs)
 
 -- the recording, or why these octets are not sent: all frames are read before the first one is sent
-abbrev pub relay : Sending → List ℕ → Result (List ℕ) FrameFault
+abbrev pub relay : Sending → List ℕ → Result (List ℕ) FrameRefusal
 relay s octets = relay_read s (read_frames octets).frames (read_frames octets).fault
 
 -- ---- `channel`
@@ -57,7 +57,7 @@ chunk_frame c = record { at = c.ready; text = c.text }
 
 -- the chunks that are heard of a source in a recording
 abbrev pub channel_chunks : ℕ → List ℕ → List Chunk
-channel_chunks ssrc octets = chunks usual_wait 0 (arrivals octets ssrc usual_pts) ssrc
+channel_chunks ssrc octets = chunks usual_wait 0 (arrivals octets ssrc usual_payload_types) ssrc
 
 abbrev pub channel_frames : ℕ → List ℕ → List Frame
 channel_frames ssrc octets = map chunk_frame (channel_chunks ssrc octets)
@@ -66,10 +66,10 @@ channel_frames ssrc octets = map chunk_frame (channel_chunks ssrc octets)
 abbrev pub channel_file : ℕ → List ℕ → List ℕ
 channel_file ssrc octets = frames_written (channel_frames ssrc octets)
 
-abbrev pub unless_many_frames : List ℕ → Result (List ℕ) FrameFault
+abbrev pub unless_many_frames : List ℕ → Result (List ℕ) FrameRefusal
 unless_many_frames octets =
     if nat_lt MOST_FRAMES_OCTETS (length octets) then Err (record { offset = length octets; kind = ManyFrames }) else Ok octets
 
 -- the frames, or why they are not written; the recording is one that is read to its end
-abbrev pub channel : ℕ → List ℕ → Result (List ℕ) FrameFault
+abbrev pub channel : ℕ → List ℕ → Result (List ℕ) FrameRefusal
 channel ssrc octets = unless_many_frames (channel_file ssrc octets)

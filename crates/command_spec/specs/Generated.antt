@@ -2,13 +2,13 @@
 -- all is drawn.
 use Rattle.std.specs.Prelude.{false, ℕ, zero, suc, ◌+◌, ◌%◌, ◌==◌, not, List, [], ◌∷◌, ◌++◌, map, filter, codes, decimal, if◌then◌else◌}
 use Rattle.std.specs.List.{range_with_len}
-use Rattle.file_spec.specs.declared.conf_lines.LegLine.{LegLine}
-use Rattle.file_spec.specs.declared.conf_lines.MixerLine.{MixerLine}
-use Rattle.file_spec.specs.declared.conf_lines.PlanLine.{PlanLine}
-use Rattle.file_spec.specs.declared.conf_lines.What.{What}
-use Rattle.file_spec.specs.declared.conf_lines.What.TheVariants.{Lose, Delay, Twice}
-use Rattle.file_spec.specs.declared.limits.TheConstants.{USUAL_GENS}
-use Rattle.file_spec.specs.Conf.{Conf, is_same_packet, nothing, usual_types, whole, whole_stay}
+use Rattle.file_spec.specs.declared.conference_lines.LegLine.{LegLine}
+use Rattle.file_spec.specs.declared.conference_lines.MixerLine.{MixerLine}
+use Rattle.file_spec.specs.declared.conference_lines.PlanLine.{PlanLine}
+use Rattle.file_spec.specs.declared.conference_lines.What.{What}
+use Rattle.file_spec.specs.declared.conference_lines.What.TheVariants.{Lose, Delay, Twice}
+use Rattle.file_spec.specs.declared.limits.TheConstants.{USUAL_GENERATIONS}
+use Rattle.file_spec.specs.Conference.{Conference, is_same_packet, nothing, usual_types, whole, whole_stay}
 use Rattle.file_spec.specs.Script.{ScriptLine}
 use Rattle.command_spec.specs.Draws.{Drawing, draw, give, times, ◌>>=◌}
 
@@ -19,7 +19,7 @@ pub record Typist : Type 0 where
 
 -- the conference, and for each of its legs, in leg order, what it types and its first sequence number
 pub record Generated : Type 0 where
-  pub conference : Conf
+  pub conference : Conference
   pub scripts : List (List ScriptLine)
   pub firsts : List ℕ
 
@@ -97,18 +97,18 @@ leg i = record {
   ssrc = 1000 + i;
   input = decimal i ++ codes ".in";
   output = decimal i ++ codes ".out";
-  pts = usual_types;
-  gens = USUAL_GENS;
+  payload_types = usual_types;
+  generations = USUAL_GENERATIONS;
   stay = whole_stay;
   follow = false;
 }
 
 -- the mixer's stream begins with 0
 abbrev pub mixer : MixerLine
-mixer = record { ssrc = 1; seq = 0; stamp = 0 }
+mixer = record { ssrc = 1; seq = 0; timestamp = 0 }
 
 -- so many legs, and this plan; all else has its default
-abbrev pub conference_of : ℕ → List PlanLine → Conf
+abbrev pub conference_of : ℕ → List PlanLine → Conference
 conference_of legs plan = whole (record nothing { legs = map leg (range_with_len 0 legs); plan = plan }) mixer
 
 -- ---- the whole

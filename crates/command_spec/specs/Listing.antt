@@ -1,7 +1,7 @@
 -- What `list` prints of a recording: a line for each record, and how many there are (profile). Each line ends with LF.
 use Rattle.std.specs.Prelude.{ℕ, Bool, true, false, None, List, ◌++◌, length, flat_map, Result, Ok, Err, codes, decimal}
 use Rattle.rtt_base.specs.declared.blocks.TextBlock.{TextBlock}
-use Rattle.rtt_base.specs.declared.text_packets.Pts.{Pts}
+use Rattle.rtt_base.specs.declared.text_packets.PayloadTypes.{PayloadTypes}
 use Rattle.wire_spec.specs.declared.faults.TextFault.{TextFault}
 use Rattle.wire_spec.specs.declared.faults.TextFault.TheVariants.{Short, Version, Padding, Sources, WrongType, Cut, Many, Long, NotText, Foreign}
 use Rattle.wire_spec.specs.Packets.{Packet, blocks_of}
@@ -32,8 +32,8 @@ block_length block = codes " " ++ decimal (length block.text)
 
 -- a packet that is one of text, with the lengths of its blocks: oldest first, the primary one last
 unfoldable pub packet_line : ℕ → Packet → List ℕ
-packet_line at p = decimal at ++ codes " " ++ decimal p.seq ++ codes " mark " ++ bit p.mark
-    ++ codes " stamp " ++ decimal p.stamp
+packet_line at p = decimal at ++ codes " " ++ decimal p.seq ++ codes " mark " ++ bit p.marker_bit
+    ++ codes " stamp " ++ decimal p.timestamp
     ++ codes " ssrc " ++ decimal p.ssrc ++ codes " source " ++ decimal p.source
     ++ codes " texts" ++ flat_map block_length (blocks_of p) ++ codes "\n"
 
@@ -45,10 +45,10 @@ abbrev pub sent_line : ℕ → Result Packet TextFault → List ℕ
 sent_line at (Ok packet) = packet_line at packet
 sent_line at (Err fault) = refused_line at fault
 
-abbrev pub record_line : Pts → Item → List ℕ
-record_line pts item =
+abbrev pub record_line : PayloadTypes → Item → List ℕ
+record_line payload_types item =
     elim item.what [
-      | Whole octets ↦ sent_line item.time (text_of octets None pts)
+      | Whole octets ↦ sent_line item.time (text_of octets None payload_types)
       | Rtcp ↦ decimal item.time ++ codes " rtcp\n"
       | dumps.Cut ↦ decimal item.time ++ codes " cut\n"
       | dumps.Large ↦ decimal item.time ++ codes " large\n"
@@ -58,5 +58,5 @@ abbrev pub last_line : ℕ → List ℕ
 last_line records = codes "-- records " ++ decimal records ++ codes "\n"
 
 -- all lines of a recording
-unfoldable pub list_view : Pts → List Item → List ℕ
-list_view pts items = flat_map (record_line pts) items ++ last_line (length items)
+unfoldable pub list_view : PayloadTypes → List Item → List ℕ
+list_view payload_types items = flat_map (record_line payload_types) items ++ last_line (length items)

@@ -35,7 +35,7 @@ summary n made sums =
     codes "make " ++ decimal n ++ codes " legs " ++ decimal (length made.conference.legs)
     ++ codes " lines " ++ decimal (lines_typed made) ++ codes " typed " ++ decimal (octets_typed made)
     ++ codes " packets " ++ decimal sums.packets ++ codes " used " ++ decimal sums.used
-    ++ codes " marks " ++ decimal sums.marks ++ codes "\n"
+    ++ codes " marks " ++ decimal sums.markers ++ codes "\n"
 
 -- ---- the steps
 -- where mixing is over within the turns there are sums, which are printed

@@ -3,7 +3,7 @@ use Rattle.std.specs.Prelude.{ℕ, List, [], ◌++◌, Result, Ok, Err, codes, d
 use Rattle.wire_spec.specs.declared.faults.DumpKind.{DumpKind}
 use Rattle.wire_spec.specs.declared.faults.DumpKind.TheVariants.{NotDump, BadLength, EndsInside, TooLong, TooLarge, Read}
 use Rattle.file_spec.specs.declared.kinds.ConfKind.{ConfKind}
-use Rattle.file_spec.specs.declared.kinds.ConfKind.TheVariants as conf
+use Rattle.file_spec.specs.declared.kinds.ConfKind.TheVariants as conference
 use Rattle.frame_spec.specs.declared.kinds.FrameKind.{FrameKind}
 use Rattle.frame_spec.specs.declared.kinds.FrameKind.TheVariants as frame
 use Rattle.command_spec.specs.declared.faults.Refusal.{Refusal}
@@ -58,22 +58,22 @@ dump_kind_name TooLarge = codes "TooLarge"
 dump_kind_name Read = codes "Read"
 
 abbrev pub conf_kind_name : ConfKind → List ℕ
-conf_kind_name conf.NotText = codes "NotText"
-conf_kind_name conf.Word = codes "Word"
-conf_kind_name conf.Count = codes "Count"
-conf_kind_name conf.Name = codes "Name"
-conf_kind_name conf.Number = codes "Number"
-conf_kind_name conf.Many = codes "Many"
-conf_kind_name conf.PlanMany = codes "PlanMany"
-conf_kind_name conf.Twice = codes "Twice"
-conf_kind_name conf.Clash = codes "Clash"
-conf_kind_name conf.Crowd = codes "Crowd"
-conf_kind_name conf.Few = codes "Few"
-conf_kind_name conf.Large = codes "Large"
-conf_kind_name conf.Order = codes "Order"
-conf_kind_name conf.Escape = codes "Escape"
-conf_kind_name conf.Long = codes "Long"
-conf_kind_name conf.Full = codes "Full"
+conf_kind_name conference.NotText = codes "NotText"
+conf_kind_name conference.Word = codes "Word"
+conf_kind_name conference.Count = codes "Count"
+conf_kind_name conference.Name = codes "Name"
+conf_kind_name conference.Number = codes "Number"
+conf_kind_name conference.Many = codes "Many"
+conf_kind_name conference.PlanMany = codes "PlanMany"
+conf_kind_name conference.Twice = codes "Twice"
+conf_kind_name conference.Clash = codes "Clash"
+conf_kind_name conference.Crowd = codes "Crowd"
+conf_kind_name conference.Few = codes "Few"
+conf_kind_name conference.Large = codes "Large"
+conf_kind_name conference.Order = codes "Order"
+conf_kind_name conference.Escape = codes "Escape"
+conf_kind_name conference.Long = codes "Long"
+conf_kind_name conference.Full = codes "Full"
 
 abbrev pub frame_kind_name : FrameKind → List ℕ
 frame_kind_name frame.Time = codes "Time"

@@ -1,6 +1,6 @@
 -- What work comes to where nothing outside fails (profile).
 use Rattle.std.specs.Prelude.{◌≡◌, ◌≢◌, ℕ, ◌+◌, None, Some, List, [], ◌∷◌}
-use Rattle.file_spec.specs.Conf.{Conf}
+use Rattle.file_spec.specs.Conference.{Conference}
 use Rattle.command_spec.specs.declared.faults.Refusal.{Refusal}
 use Rattle.command_spec.specs.Work.{Contents, Made, Steps, Reads, Refuses, Makes, Serves}
 
@@ -9,7 +9,7 @@ pub data Outcome : Type 0 where
   Missing : (input : ℕ) → Outcome
   Refused : (input : ℕ) → (refusal : Refusal) → Outcome
   Done : (printed : List ℕ) → (files : List Made) → Outcome
-  Served : (conference : Conf) → Outcome
+  Served : (conference : Conference) → Outcome
 
 -- the outcome, where so many files were read before
 abbrev pub outcome_from : ℕ → Contents → Steps → Outcome

@@ -17,7 +17,7 @@ usual_wait = USUAL_WAIT
 
 -- who reads is a terminal that hears the stream
 abbrev pub reception : ReadRequest → Reception
-reception r = record { ssrc = r.ssrc; pts = r.pts; wait = usual_wait }
+reception r = record { ssrc = r.ssrc; payload_types = r.payload_types; wait = usual_wait }
 
 abbrev pub records_of : List ℕ → List Item
 records_of octets = (dump usual_limit octets).items
@@ -31,6 +31,6 @@ unfoldable pub read_view : ReadRequest → List ℕ → List ℕ
 read_view r octets = text_seen (reception r) r.source (records_of octets)
 
 -- What is printed of arrivals that come from a history: the source's blocks of the packets that came in time, in their
--- order, each once, and the marks.
+-- order, each once, and the markers.
 unfoldable pub history_view : History → ReadRequest → List ℕ → List ℕ
 history_view h r octets = text_view (shown (concat (texts (kept h (places usual_wait h (arrivals_of r octets)) r.source)))) (counts_at (reception r) (records_of octets))

@@ -2,7 +2,7 @@
 -- ask; the recording of what the sender sends up to the first end. Lists of events and entries are newest first.
 use Rattle.std.specs.Prelude.{ℕ, zero, suc, ◌+◌, ◌≤◌, ◌^◌, ◌==◌, ◌&&◌, Bool, true, false, not, nat_lt, nat_le, Option, None, Some, List, [], ◌∷◌, ◌++◌, length, All, IsUtf8, if◌then◌else◌}
 use Rattle.std.specs.List.{flat_map, list_all}
-use Rattle.rtt_base.specs.declared.text_packets.Pts.{Pts}
+use Rattle.rtt_base.specs.declared.text_packets.PayloadTypes.{PayloadTypes}
 use Rattle.wire_spec.specs.Dump.{dump_written}
 use Rattle.file_spec.specs.Script.{ScriptLine}
 use Rattle.file_spec.specs.declared.limits.TheConstants.{LAST_MOMENT}
@@ -11,20 +11,20 @@ use Rattle.stream_spec.specs.Own.{Stream, packet_after}
 use Rattle.stream_spec.specs.Typed.{Event, Text, Ask, Turned, sents, entries, waiting, has_more, history_typed}
 use Rattle.wire_spec.specs.SentPackets.{packet_written}
 use Rattle.stream_spec.specs.declared.limits.TheConstants.{MOST_WAITING_OCTETS}
-use Rattle.command_spec.specs.Usual.{usual_pts}
+use Rattle.command_spec.specs.Usual.{usual_payload_types}
 use Rattle.command_spec.specs.declared.limits.TheConstants.{USUAL_INTERVAL}
 
 -- what sends a script: a stream, the least time between two packets in milliseconds, and the payload types
 pub record Sending : Type 0 where
   pub stream : Stream
   pub interval : ℕ
-  pub pts : Pts
+  pub payload_types : PayloadTypes
 
 -- two generations, at most one packet in the usual time, and the usual payload types, with this SSRC, first sequence number and
 -- timestamp at time 0
 abbrev pub usual_sending : ℕ → ℕ → ℕ → Sending
-usual_sending ssrc seq stamp =
-    record { stream = record { ssrc = ssrc; first = seq; base = stamp; gens = 2 }; interval = USUAL_INTERVAL; pts = usual_pts }
+usual_sending ssrc seq timestamp =
+    record { stream = record { ssrc = ssrc; first = seq; base = timestamp; generations = 2 }; interval = USUAL_INTERVAL; payload_types = usual_payload_types }
 
 -- ---- what a script asks of a sender
 
@@ -101,7 +101,7 @@ first_end s lines = first_from (is_end s lines) (2 ^ 31) 0
 abbrev pub records_of : Sending → List Turned → List (ℕ × List ℕ)
 records_of s [] = []
 records_of s (e ∷ es) =
-    records_of s es ++ (e.at, packet_written s.pts (packet_after s.stream (sents es) e.sent)) ∷ []
+    records_of s es ++ (e.at, packet_written s.payload_types (packet_after s.stream (sents es) e.sent)) ∷ []
 
 -- what was sent up to t
 abbrev pub records_sent : Sending → List ScriptLine → ℕ → List (ℕ × List ℕ)

@@ -1,7 +1,7 @@
 -- What `show` prints of a stream's sources, what else there is, and where the recording can't be read further (profile). Each
 -- line ends with LF.
 use Rattle.std.specs.Prelude.{ℕ, ◌+◌, ◌==◌, Bool, true, false, Option, None, Some, List, [], ◌∷◌, ◌++◌, length, map, filter, flat_map, min, max, Result, Ok, Err, codes, decimal, if◌then◌else◌}
-use Rattle.rtt_base.specs.declared.text_packets.Pts.{Pts}
+use Rattle.rtt_base.specs.declared.text_packets.PayloadTypes.{PayloadTypes}
 use Rattle.wire_spec.specs.declared.faults.DumpKind.{DumpKind}
 use Rattle.wire_spec.specs.declared.faults.DumpKind.TheVariants.{NotDump}
 use Rattle.wire_spec.specs.declared.faults.TextFault.{TextFault}
@@ -25,8 +25,8 @@ number_line before number = if number == 0 then [] else printed_line (before ++ 
 -- ---- a stream of text
 
 -- who hears it
-abbrev pub hearing : Pts → ℕ → Reception
-hearing pts ssrc = record { ssrc = ssrc; pts = pts; wait = usual_wait }
+abbrev pub hearing : PayloadTypes → ℕ → Reception
+hearing payload_types ssrc = record { ssrc = ssrc; payload_types = payload_types; wait = usual_wait }
 
 -- no record is later than LAST_RECORD_MOMENT
 abbrev pub least_time : List Item → ℕ
@@ -66,7 +66,7 @@ is_refused_as fault (Err other) = place_of other == place_of fault
 
 -- how many are refused so
 abbrev pub refused_as : Reception → List Item → TextFault → ℕ
-refused_as r came fault = length (filter (λ item. is_refused_as fault (text_at r.ssrc r.pts item)) came)
+refused_as r came fault = length (filter (λ item. is_refused_as fault (text_at r.ssrc r.payload_types item)) came)
 
 abbrev pub refusal_line : TextFault → ℕ → List ℕ
 refusal_line fault number = number_line (codes "-- refused " ++ fault_name fault ++ codes " ") number
@@ -86,14 +86,14 @@ abbrev pub how_many : Sort → List Item → ℕ
 how_many sort items = length (filter (λ item. is_same_sort sort (sort_of item)) items)
 
 -- how many packets are of later streams and pairs
-abbrev pub more : Pts → List Item → ℕ
-more pts items = (streams pts items).others + (pairs pts items).others
+abbrev pub more : PayloadTypes → List Item → ℕ
+more payload_types items = (streams payload_types items).others + (pairs payload_types items).others
 
-unfoldable pub other_lines : Pts → List Item → List ℕ
-other_lines pts items =
+unfoldable pub other_lines : PayloadTypes → List Item → List ℕ
+other_lines payload_types items =
     number_line (codes "-- rtcp ") (how_many sorts.Rtcp items) ++ number_line (codes "-- cut ") (how_many sorts.Cut items)
     ++ number_line (codes "-- large ") (how_many sorts.Large items) ++ number_line (codes "-- no RTP ") (how_many sorts.NoRtp items)
-    ++ number_line (codes "-- more ") (more pts items)
+    ++ number_line (codes "-- more ") (more payload_types items)
 
 -- the recording is whole, or there is a fault where it can't be read further
 unfoldable pub end_line : Option Fault → List ℕ

@@ -2,7 +2,7 @@
 -- which are kept apart is a profile).
 use Rattle.std.specs.Prelude.{◌≡◌, ℕ, ◌+◌, ◌*◌, ◌/◌, ◌%◌, ◌==◌, ◌&&◌, ◌||◌, Bool, true, false, not, Option, None, Some, List, [], ◌∷◌, filter, slice_index, Result, Ok, Err, nat_le, if◌then◌else◌}
 use Rattle.std.specs.List.{filter_map, list_any, list_all}
-use Rattle.rtt_base.specs.declared.text_packets.Pts.{Pts}
+use Rattle.rtt_base.specs.declared.text_packets.PayloadTypes.{PayloadTypes}
 use Rattle.wire_spec.specs.declared.faults.RtpFault.{RtpFault}
 use Rattle.wire_spec.specs.declared.faults.TextFault.{TextFault}
 use Rattle.wire_spec.specs.declared.faults.TextFault.TheVariants.{Long, NotText}
@@ -51,13 +51,13 @@ is_same_sort _ _ = false
 
 -- ---- streams and pairs
 
-abbrev pub is_of_text : Pts → Reading → Bool
-is_of_text pts header = header.pt == pts.t140 || header.pt == pts.red
+abbrev pub is_of_text : PayloadTypes → Reading → Bool
+is_of_text payload_types header = header.pt == payload_types.t140 || header.pt == payload_types.red
 
 -- the SSRC of a packet with one of the two payload types of text: its stream
-abbrev pub stream_of : Pts → Sort → Option ℕ
-stream_of pts (Headed header) = if is_of_text pts header then Some header.ssrc else None
-stream_of pts _ = None
+abbrev pub stream_of : PayloadTypes → Sort → Option ℕ
+stream_of payload_types (Headed header) = if is_of_text payload_types header then Some header.ssrc else None
+stream_of payload_types _ = None
 
 -- an SSRC and a payload type of seven bits, as one number
 abbrev pub pair : ℕ → ℕ → ℕ
@@ -70,9 +70,9 @@ abbrev pub type_of : ℕ → ℕ
 type_of pair = pair % 128
 
 -- the pair of a packet with another payload type
-abbrev pub pair_of : Pts → Sort → Option ℕ
-pair_of pts (Headed header) = if is_of_text pts header then None else Some (pair header.ssrc header.pt)
-pair_of pts _ = None
+abbrev pub pair_of : PayloadTypes → Sort → Option ℕ
+pair_of payload_types (Headed header) = if is_of_text payload_types header then None else Some (pair header.ssrc header.pt)
+pair_of payload_types _ = None
 
 -- the first 64 of what records name
 abbrev pub named : (Sort → Option ℕ) → List Item → Firsts
@@ -86,17 +86,17 @@ is_name name (Some x) = x == name
 abbrev pub naming : (Sort → Option ℕ) → ℕ → List Item → List Item
 naming name x items = filter (λ item. is_name x (name (sort_of item))) items
 
-abbrev pub streams : Pts → List Item → Firsts
-streams pts items = named (stream_of pts) items
+abbrev pub streams : PayloadTypes → List Item → Firsts
+streams payload_types items = named (stream_of payload_types) items
 
-abbrev pub stream : Pts → ℕ → List Item → List Item
-stream pts ssrc items = naming (stream_of pts) ssrc items
+abbrev pub stream : PayloadTypes → ℕ → List Item → List Item
+stream payload_types ssrc items = naming (stream_of payload_types) ssrc items
 
-abbrev pub pairs : Pts → List Item → Firsts
-pairs pts items = named (pair_of pts) items
+abbrev pub pairs : PayloadTypes → List Item → Firsts
+pairs payload_types items = named (pair_of payload_types) items
 
-abbrev pub packets_of : Pts → ℕ → List Item → List Item
-packets_of pts pair items = naming (pair_of pts) pair items
+abbrev pub packets_of : PayloadTypes → ℕ → List Item → List Item
+packets_of payload_types pair items = naming (pair_of payload_types) pair items
 
 -- ---- what a packet is as one of text of an SSRC
 
@@ -104,16 +104,16 @@ abbrev pub octets_of : What → List ℕ
 octets_of (Whole octets) = octets
 octets_of _ = []
 
-abbrev pub text_at : ℕ → Pts → Item → Result Packet TextFault
-text_at ssrc pts item = text_of (octets_of item.what) (Some ssrc) pts
+abbrev pub text_at : ℕ → PayloadTypes → Item → Result Packet TextFault
+text_at ssrc payload_types item = text_of (octets_of item.what) (Some ssrc) payload_types
 
 abbrev pub source_in : Result Packet TextFault → Option ℕ
 source_in (Ok packet) = Some packet.source
 source_in (Err fault) = None
 
 -- the sources of a stream: the first 64 that its packets of text name
-abbrev pub sources : ℕ → Pts → List Item → Firsts
-sources ssrc pts came = firsts (filter_map (λ item. source_in (text_at ssrc pts item)) came)
+abbrev pub sources : ℕ → PayloadTypes → List Item → Firsts
+sources ssrc payload_types came = firsts (filter_map (λ item. source_in (text_at ssrc payload_types item)) came)
 
 -- ---- what the packets of a pair may be
 
@@ -124,8 +124,8 @@ is_like_text (Err Long) = true
 is_like_text (Err NotText) = true
 is_like_text (Err _) = false
 
-abbrev pub are_like_text : ℕ → Pts → List Item → Bool
-are_like_text ssrc pts came = list_all (λ item. is_like_text (text_at ssrc pts item)) came
+abbrev pub are_like_text : ℕ → PayloadTypes → List Item → Bool
+are_like_text ssrc payload_types came = list_all (λ item. is_like_text (text_at ssrc payload_types item)) came
 
 abbrev pub payload_in : Sort → List ℕ
 payload_in (Headed header) = header.payload
@@ -139,8 +139,8 @@ abbrev pub is_dynamic : ℕ → Bool
 is_dynamic pt = nat_le FIRST_TYPE pt && nat_le pt LAST_TYPE
 
 -- both are given to text
-abbrev pub AreGiven : Pts → Type 0
-AreGiven pts = (is_dynamic pts.t140 ≡ true) × (is_dynamic pts.red ≡ true)
+abbrev pub AreGiven : PayloadTypes → Type 0
+AreGiven payload_types = (is_dynamic payload_types.t140 ≡ true) × (is_dynamic payload_types.red ≡ true)
 
 -- the type in the first header of a red payload
 abbrev pub first_type : List ℕ → ℕ

@@ -1,6 +1,6 @@
 -- What a command is: it reads files, one after another, and comes to a refusal or to what it makes (profile).
 use Rattle.std.specs.Prelude.{◌≡◌, ℕ, zero, suc, Bool, Option, Some, List, [], ◌∷◌, ◌++◌}
-use Rattle.file_spec.specs.Conf.{Conf}
+use Rattle.file_spec.specs.Conference.{Conference}
 use Rattle.command_spec.specs.declared.faults.Refusal.{Refusal}
 
 -- the octets under each name
@@ -18,7 +18,7 @@ pub data Steps : Type 0 where
   Reads : (name : List ℕ) → (List ℕ → Steps) → Steps
   Refuses : (input : ℕ) → (refusal : Refusal) → Steps
   Makes : (printed : List ℕ) → (files : List Made) → Steps
-  Serves : (conference : Conf) → Steps
+  Serves : (conference : Conference) → Steps
 
 -- the same, and behind what is printed stands this
 abbrev pub and_prints : List ℕ → Steps → Steps
@@ -56,7 +56,7 @@ IsOutput Told held (Makes printed files) n file = IsNth files n file
 IsOutput Told held (Serves c) n file = ⊥
 
 -- a live call is served of a conference of which this holds, where the octets of what is read lie there, as far as that is told
-abbrev pub ServesSome : (Told : Type 0) → Contents → Steps → (Conf → Type 0) → Type 0
+abbrev pub ServesSome : (Told : Type 0) → Contents → Steps → (Conference → Type 0) → Type 0
 ServesSome Told held (Reads name next) P =
     (octets : List ℕ) × (Told → held name ≡ Some octets) × ServesSome Told held (next octets) P
 ServesSome Told held (Refuses input refusal) P = ⊥

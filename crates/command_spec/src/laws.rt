@@ -14,7 +14,7 @@ ghost use Rattle.command_spec.specs.Cascaded.{CascadesAreBridged, CascadesAreOne
 ghost use Rattle.mixer_spec.specs.declared.limits.TheConstants.{PLACES};
 
 /// Where what arrives out of a recording comes from a lawful history, what `read` prints is the view of that history: the
-/// source's blocks which came in time, each once, and marks.
+/// source's blocks which came in time, each once, and markers.
 pub fn histories_are_shown()
     ensures { (h : History) → Lawful h → (r : ReadRequest) (octets : List ℕ) → Come h (arrivals_of r octets)
         → read_view r octets ≡ history_view h r octets }
@@ -23,10 +23,10 @@ pub fn histories_are_shown()
 /// What `show` shows of a source of a stream is what `read` shows of it, and it uses as many packets, where the two payload
 /// types are ones that are given to text.
 pub fn shown_is_read()
-    ensures shown { (r : ReadRequest) (octets : List ℕ) → AreGiven r.pts
-        → display_at (reception r) (stream r.pts r.ssrc (records_of octets)) r.source ≡ display_at (reception r) (records_of octets) r.source }
-    ensures used { (r : ReadRequest) (octets : List ℕ) → AreGiven r.pts
-        → (counts_at (reception r) (stream r.pts r.ssrc (records_of octets))).used ≡ (counts_at (reception r) (records_of octets)).used }
+    ensures shown { (r : ReadRequest) (octets : List ℕ) → AreGiven r.payload_types
+        → display_at (reception r) (stream r.payload_types r.ssrc (records_of octets)) r.source ≡ display_at (reception r) (records_of octets) r.source }
+    ensures used { (r : ReadRequest) (octets : List ℕ) → AreGiven r.payload_types
+        → (counts_at (reception r) (stream r.payload_types r.ssrc (records_of octets))).used ≡ (counts_at (reception r) (records_of octets)).used }
 {}
 
 /// What `mix` makes of a conference is bridged, whatever lies in its inputs and whatever its plan says: each output has the

@@ -1,5 +1,5 @@
 //! What is asked for.
-use rtt_base::Pts;
+use rtt_base::PayloadTypes;
 
 /// Whose text is read, and in which packets.
 #[derive(Clone, Copy, Debug, PartialEq, Eq)]
@@ -9,5 +9,5 @@ pub struct ReadRequest {
     /// Whose text in them.
     pub source: u32,
     /// Their payload types.
-    pub pts: Pts,
+    pub payload_types: PayloadTypes,
 }

@@ -1,2 +1,2 @@
-pub mod ConfLoop
+pub mod ConferenceLoop
 pub mod EntryWords

@@ -1,12 +1,12 @@
 //! What the lines of a conference say, one by one and so far.
 ghost use Rattle.std.specs.Prelude.{◌≡◌, ◌<◌, ◌≤◌, ◌∷◌, [], ◌++◌, length, OnOk};
 ghost use Rattle.file_spec.specs.declared.limits.TheConstants.{MOST_LEGS};
-ghost use Rattle.file_spec.specs.Conf.{Leg, nothing, with_entry};
+ghost use Rattle.file_spec.specs.Conference.{Leg, nothing, with_entry};
 
-use conference::{Legs, Plan, set_follow, set_gens, set_stay};
-use file_spec::limits::{MOST_LEGS, USUAL_GENS};
-use file_spec::{GensLine, LegLine, MixerLine, PlanLine, Service, ServiceLine, Stay, StayLine};
-use rtt_base::{Name, NoMemory, Path, Pts};
+use conference::{Legs, Plan, set_follow, set_generations, set_stay};
+use file_spec::limits::{MOST_LEGS, USUAL_GENERATIONS};
+use file_spec::{GenerationsLine, LegLine, MixerLine, PlanLine, Service, ServiceLine, Stay, StayLine};
+use rtt_base::{Name, NoMemory, Path, PayloadTypes};
 use std::alloc::Global;
 
 /// A leg, its paths still in the file.
@@ -18,14 +18,14 @@ pub(crate) struct NewLeg<'a> {
     pub ssrc: u32,
     pub input: &'a str,
     pub output: &'a str,
-    pub pts: Pts,
+    pub payload_types: PayloadTypes,
 }
 
 /// What one line says.
 #[derive(Drop)]
-pub(crate) enum Entry<'a> {
+pub(crate) enum LineEntry<'a> {
     Leg(NewLeg<'a>),
-    Gens(GensLine),
+    Generations(GenerationsLine),
     Stays(StayLine),
     Tick(u32),
     Spacing(u32),
@@ -44,7 +44,7 @@ pub(crate) enum Entry<'a> {
 pub(crate) struct Draft {
     pub legs: Legs,
     /// The legs, counted from 0, whose generations were told.
-    pub gens: Vec<u8>,
+    pub generations: Vec<u8>,
     /// The legs, counted from 0, whose stays were told.
     pub stays: Vec<u8>,
     pub tick: Option<u32>,
@@ -75,7 +75,7 @@ impl Draft {
     {
         Draft {
             legs: Legs::new(alloc),
-            gens: Vec::new(alloc),
+            generations: Vec::new(alloc),
             stays: Vec::new(alloc),
             tick: None,
             spacing: None,
@@ -101,8 +101,8 @@ impl Draft {
             ssrc: leg.ssrc,
             input,
             output,
-            pts: leg.pts,
-            gens: USUAL_GENS,
+            payload_types: leg.payload_types,
+            generations: USUAL_GENERATIONS,
             stay: Stay {
                 from: 0,
                 until: None,
@@ -112,29 +112,29 @@ impl Draft {
     }
 
     /// The lines so far and one more.
-    pub fn add(&mut self, alloc: Global, entry: Entry<'_>) -> Result<(), NoMemory>
+    pub fn add(&mut self, alloc: Global, entry: LineEntry<'_>) -> Result<(), NoMemory>
         requires { MayFollow (above_of self.old) (meaning entry) }
         ensures { OnOk result (above_of self.new ≡ with_entry (above_of self.old) (meaning entry.entry)) }
     {
         match entry {
-            Entry::Leg(leg) => return self.add_leg(alloc, leg),
-            Entry::Gens(line) => {
-                push_place(&mut self.gens, line.leg)?;
-                set_gens(&mut self.legs, usize::from(line.leg), line.gens);
+            LineEntry::Leg(leg) => return self.add_leg(alloc, leg),
+            LineEntry::Generations(line) => {
+                push_place(&mut self.generations, line.leg)?;
+                set_generations(&mut self.legs, usize::from(line.leg), line.generations);
             }
-            Entry::Stays(line) => {
+            LineEntry::Stays(line) => {
                 push_place(&mut self.stays, line.leg)?;
                 set_stay(&mut self.legs, usize::from(line.leg), line.stay);
             }
-            Entry::Tick(value) => self.tick = Some(value),
-            Entry::Spacing(value) => self.spacing = Some(value),
-            Entry::Wait(value) => self.wait = Some(value),
-            Entry::Turns(value) => self.turns = Some(value),
-            Entry::Relabel(value) => self.relabel = Some(value),
-            Entry::Mixer(line) => self.mixer = Some(line),
-            Entry::Plan(line) => return self.plan.push(line),
-            Entry::Follows(leg) => set_follow(&mut self.legs, usize::from(leg)),
-            Entry::Serves(line) => self.service.add(line),
+            LineEntry::Tick(value) => self.tick = Some(value),
+            LineEntry::Spacing(value) => self.spacing = Some(value),
+            LineEntry::Wait(value) => self.wait = Some(value),
+            LineEntry::Turns(value) => self.turns = Some(value),
+            LineEntry::Relabel(value) => self.relabel = Some(value),
+            LineEntry::Mixer(line) => self.mixer = Some(line),
+            LineEntry::Plan(line) => return self.plan.push(line),
+            LineEntry::Follows(leg) => set_follow(&mut self.legs, usize::from(leg)),
+            LineEntry::Serves(line) => self.service.add(line),
         }
         Ok(())
     }

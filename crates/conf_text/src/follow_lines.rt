@@ -1,7 +1,7 @@
 //! The lines of legs that are followed.
 ghost use Rattle.std.specs.Prelude.{◌≡◌, ◌<◌, ◌&&◌, bytes_eq, length, IfOk};
 ghost use Rattle.std.specs.List.{list_any};
-ghost use Rattle.file_spec.specs.Conf.{follow, follow_of};
+ghost use Rattle.file_spec.specs.Conference.{follow, follow_of};
 ghost use Rattle.conf_text.specs.Lines.{above_of, texts_of};
 
 use crate::ConfKind;
@@ -17,7 +17,7 @@ fn is_followed(legs: &[LegLine], name: &str) -> bool
         .any(|leg| leg.name.as_str() == name && leg.follow)
 }
 
-#[tactic(auto, unfolding(file_spec::specs::Conf::follow_of))]
+#[tactic(auto, unfolding(file_spec::specs::Conference::follow_of))]
 fn read_name(above: &Draft, name: &str) -> Result<u8, ConfKind>
     ensures exact { result ≡ follow_of (above_of above.now) name.now }
     ensures place { IfOk result (λ leg. leg < length above.now.legs) }

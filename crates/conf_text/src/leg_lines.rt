@@ -1,7 +1,7 @@
 //! The lines of legs.
 ghost use Rattle.std.specs.Prelude.{◌≡◌, ◌==◌, ◌<◌, ◌||◌, length, IfSome, OnOk, Some};
 ghost use Rattle.std.specs.List.{list_any};
-ghost use Rattle.file_spec.specs.Conf.{clashes, has_names, has_port, is_mixers, is_operators, leg, most_legs, new_leg, port, is_same_port, shares_own, shares_path};
+ghost use Rattle.file_spec.specs.Conference.{clashes, has_names, has_port, is_mixers, is_operators, leg, most_legs, new_leg, port, is_same_port, shares_own, shares_path};
 ghost use Rattle.file_spec.specs.Sound.{IsBetween};
 ghost use Rattle.conf_text.specs.Lines.{above_of, leg_line, leg_said, seen, texts_of};
 
@@ -9,13 +9,13 @@ use crate::ConfKind;
 use crate::drafts::{Draft, NewLeg};
 use crate::names::{awareness, names_leg, names_path};
 use conference::{has_name, name_of};
-use file_lines::{number_from, number_of, pts_of};
+use file_lines::{number_from, number_of, payload_types_of};
 use file_spec::limits::{MOST_LEGS, MOST_LINKS, USUAL_RED, USUAL_T140};
 use file_spec::{Form, LegLine, MixerLine, OperatorLine};
-use rtt_base::Pts;
+use rtt_base::PayloadTypes;
 
 /// The payload types of a leg that names none.
-const USUAL_TYPES: Pts = Pts {
+const USUAL_TYPES: PayloadTypes = PayloadTypes {
     t140: USUAL_T140,
     red: USUAL_RED,
 };
@@ -76,7 +76,7 @@ fn share_path(form: Form, above: &LegLine, leg: &NewLeg<'_>) -> bool
 fn share_own(form: Form, leg: &NewLeg<'_>) -> bool
     ensures { result ≡ shares_own form (leg_line leg.now) }
 {
-    leg.pts.t140 == leg.pts.red || form == Form::Files && leg.output == leg.input
+    leg.payload_types.t140 == leg.payload_types.red || form == Form::Files && leg.output == leg.input
 }
 
 fn has_mixer(mixer: &Option<MixerLine>, ssrc: u32) -> bool
@@ -160,15 +160,15 @@ fn join<'a>(form: Form, above: &Draft, leg: NewLeg<'a>) -> Result<NewLeg<'a>, Co
     Ok(leg)
 }
 
-#[tactic(auto, unfolding(file_spec::specs::Conf::leg_of))]
+#[tactic(auto, unfolding(file_spec::specs::Conference::leg_of))]
 fn read_words<'a>(
     form: Form,
     above: &Draft,
     line: u32,
     words: &LegWords<'a>,
-    pts: Option<Pts>,
+    payload_types: Option<PayloadTypes>,
 ) -> Result<NewLeg<'a>, ConfKind>
-    ensures exact { seen leg_line result ≡ leg_said form above.now line words.now pts }
+    ensures exact { seen leg_line result ≡ leg_said form above.now line words.now payload_types }
     ensures seat { OnOk result (length above.now.legs < MOST_LEGS) }
 {
     let aware = awareness(words.mode).ok_or(ConfKind::Word)?;
@@ -179,7 +179,7 @@ fn read_words<'a>(
     if !is_heard(form, words.input) {
         return Err(ConfKind::Number);
     }
-    let pts = pts.ok_or(ConfKind::Number)?;
+    let payload_types = payload_types.ok_or(ConfKind::Number)?;
     let leg = NewLeg {
         line,
         name: name_of(words.name),
@@ -187,7 +187,7 @@ fn read_words<'a>(
         ssrc,
         input: words.input,
         output: words.output,
-        pts,
+        payload_types,
     };
     join(form, above, leg)
 }
@@ -205,9 +205,9 @@ pub(crate) fn read_leg<'a>(
     let [name, mode, ssrc, input, output, types @ ..] = words else {
         return Err(ConfKind::Count);
     };
-    let pts = match types {
+    let payload_types = match types {
         [] => Some(USUAL_TYPES),
-        [t140, red] => pts_of(t140, red),
+        [t140, red] => payload_types_of(t140, red),
         _ => return Err(ConfKind::Count),
     };
     let words = LegWords {
@@ -217,5 +217,5 @@ pub(crate) fn read_leg<'a>(
         input,
         output,
     };
-    read_words(form, above, line, &words, pts)
+    read_words(form, above, line, &words, payload_types)
 }

@@ -1,7 +1,7 @@
 //! Reads conferences.
 #![tactic(auto)]
 
-mod conf_reader;
+mod conference_reader;
 mod crowds;
 mod drafts;
 mod entries;
@@ -12,7 +12,7 @@ mod plan_lines;
 mod service_lines;
 mod stay_lines;
 
-pub use conf_reader::read_conf;
+pub use conference_reader::read_conf;
 pub use file_lines::ConfFault;
 pub use file_spec::{ConfKind, Form};
 

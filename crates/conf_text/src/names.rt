@@ -2,7 +2,7 @@
 ghost use Rattle.std.specs.Prelude.{◌≡◌};
 ghost use Rattle.std.specs.List.{list_all};
 ghost use Rattle.std.specs.Char.{is_ascii_alphanumeric};
-ghost use Rattle.file_spec.specs.Conf.{is_name, is_name_octet, is_path, aware_of};
+ghost use Rattle.file_spec.specs.Conference.{is_name, is_name_octet, is_path, aware_of};
 ghost use Rattle.file_spec.specs.Services.{is_operator_word};
 
 use conference::is_name_octet;

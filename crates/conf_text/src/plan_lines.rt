@@ -1,6 +1,6 @@
 //! The lines of a plan.
 ghost use Rattle.std.specs.Prelude.{◌≡◌};
-ghost use Rattle.file_spec.specs.Conf.{delay, delay_of, plan, plan_of, plan_word};
+ghost use Rattle.file_spec.specs.Conference.{delay, delay_of, plan, plan_of, plan_word};
 ghost use Rattle.conf_text.specs.Lines.{above_of, texts_of};
 
 use crate::ConfKind;
@@ -11,7 +11,7 @@ use file_lines::number_of;
 use file_spec::limits::{LONGEST_DELAY, MOST_PLAN_LINES};
 use file_spec::{PlanLine, What};
 
-#[tactic(auto, unfolding(file_spec::specs::Conf::plan_of))]
+#[tactic(auto, unfolding(file_spec::specs::Conference::plan_of))]
 fn read_event(
     above: &Draft,
     name: &str,

@@ -1,6 +1,6 @@
 //! The lines of what is asked beside the mixing.
 ghost use Rattle.std.specs.Prelude.{◌≡◌};
-ghost use Rattle.file_spec.specs.Conf.{counts, operator, operator_of, prefix, service_word};
+ghost use Rattle.file_spec.specs.Conference.{counts, operator, operator_of, prefix, service_word};
 ghost use Rattle.conf_text.specs.Lines.{above_of, texts_of};
 
 use crate::ConfKind;
@@ -11,7 +11,7 @@ use crate::names::{is_word, names_path};
 use file_spec::limits::{LEAST_GONE, MOST_GONE};
 use file_spec::{OperatorLine, OperatorWord, RecordPrefix, ServiceLine};
 
-#[tactic(auto, unfolding(file_spec::specs::Conf::operator_of))]
+#[tactic(auto, unfolding(file_spec::specs::Conference::operator_of))]
 fn read_operator_at(above: &Draft, port: &str, word: &str) -> Result<OperatorLine, ConfKind>
     ensures { result ≡ operator_of (above_of above.now) port.now word.now }
 {

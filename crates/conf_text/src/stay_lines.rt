@@ -1,14 +1,14 @@
 //! The lines of generations and of stays.
 ghost use Rattle.std.specs.Prelude.{◌≡◌, ◌<◌, ◌==◌, bytes_eq, length, IfOk, IfSome};
 ghost use Rattle.std.specs.List.{list_any, position};
-ghost use Rattle.file_spec.specs.Conf.{gens, gens_of, stay, stay_of};
+ghost use Rattle.file_spec.specs.Conference.{generations, generations_of, stay, stay_of};
 ghost use Rattle.conf_text.specs.Lines.{above_of, texts_of};
 
 use crate::ConfKind;
 use crate::drafts::Draft;
 use file_lines::number_of;
-use file_spec::limits::{LAST_MOMENT, MOST_GENS};
-use file_spec::{GensLine, LegLine, Stay, StayLine};
+use file_spec::limits::{LAST_MOMENT, MOST_GENERATIONS};
+use file_spec::{GenerationsLine, LegLine, Stay, StayLine};
 
 fn place_of(legs: &[LegLine], name: &str) -> Option<usize>
     ensures value { result ≡ position (λ l. bytes_eq l.name name.now) legs.now }
@@ -34,25 +34,25 @@ fn is_told(places: &[u8], place: u8) -> bool
     places.iter().any(|other| *other == place)
 }
 
-#[tactic(auto, unfolding(file_spec::specs::Conf::gens_of))]
-fn read_count(above: &Draft, name: &str, count: &str) -> Result<GensLine, ConfKind>
-    ensures exact { result ≡ gens_of (above_of above.now) name.now count.now }
+#[tactic(auto, unfolding(file_spec::specs::Conference::generations_of))]
+fn read_count(above: &Draft, name: &str, count: &str) -> Result<GenerationsLine, ConfKind>
+    ensures exact { result ≡ generations_of (above_of above.now) name.now count.now }
     ensures place { IfOk result (λ line. line.leg < length above.now.legs) }
 {
     let leg = leg_place(above, name).ok_or(ConfKind::Name)?;
-    let gens = number_of(count, MOST_GENS).ok_or(ConfKind::Number)?;
-    if is_told(above.gens.as_slice(), leg) {
+    let generations = number_of(count, MOST_GENERATIONS).ok_or(ConfKind::Number)?;
+    if is_told(above.generations.as_slice(), leg) {
         return Err(ConfKind::Twice);
     }
-    Ok(GensLine {
+    Ok(GenerationsLine {
         leg,
-        gens: gens as u8,
+        generations: generations as u8,
     })
 }
 
 /// The generations of a line, from the words after the first.
-pub(crate) fn read_gens(above: &Draft, words: &[&str]) -> Result<GensLine, ConfKind>
-    ensures exact { result ≡ gens (above_of above.now) (texts_of words.now) }
+pub(crate) fn read_generations(above: &Draft, words: &[&str]) -> Result<GenerationsLine, ConfKind>
+    ensures exact { result ≡ generations (above_of above.now) (texts_of words.now) }
     ensures place { IfOk result (λ line. line.leg < length above.now.legs) }
 {
     match words {
@@ -61,7 +61,7 @@ pub(crate) fn read_gens(above: &Draft, words: &[&str]) -> Result<GensLine, ConfK
     }
 }
 
-#[tactic(auto, unfolding(file_spec::specs::Conf::stay_of))]
+#[tactic(auto, unfolding(file_spec::specs::Conference::stay_of))]
 fn read_moments(above: &Draft, name: &str, from: &str, until: &str) -> Result<StayLine, ConfKind>
     ensures exact { result ≡ stay_of (above_of above.now) name.now from.now until.now }
     ensures place { IfOk result (λ line. line.leg < length above.now.legs) }

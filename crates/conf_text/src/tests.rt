@@ -1,7 +1,7 @@
 //! Conferences: what their lines say, their defaults, and each refusal.
 use crate::{ConfFault, ConfKind, Form, read_conf};
 use conference::{PlanLine, Stay, What};
-use rtt_base::Pts;
+use rtt_base::PayloadTypes;
 use std::alloc::{AllocError, Global};
 use std::process::Abort;
 use std::test::Fail;
@@ -66,8 +66,8 @@ fn check_no_text(
 fn a_conference_of_all_kinds_of_lines(rt: HostRuntime) -> Result<(), Fail> {
     let file =
         b"# two of us\nmixer 9000 100 5000\r\n\n  leg Ann aware 1001 ann.in ann.out  \nleg Bob unaware 1002 ann.in bob.out 96 0127\ntick 20\nspacing 500\nwait 0\nturns 17\nrelabel 60000\ngens Bob 0\nstay Ann 300 14400000\nlose Bob 4294967295\ndelay Ann 3 60000\ntwice Ann 3";
-    let conf = read_conf(rt.alloc(), file, Form::Files)?;
-    let legs = conf.legs.as_slice();
+    let conference = read_conf(rt.alloc(), file, Form::Files)?;
+    let legs = conference.legs.as_slice();
     assert_eq!(rt; legs.len(), 2);
     assert_eq!(rt;
         (legs[0].line, legs[0].aware, legs[0].ssrc),
@@ -76,13 +76,13 @@ fn a_conference_of_all_kinds_of_lines(rt: HostRuntime) -> Result<(), Fail> {
     assert_eq!(rt; legs[0].name.as_str(), "Ann");
     assert_eq!(rt; legs[0].input.as_str(), "ann.in");
     assert_eq!(rt; legs[0].output.as_str(), "ann.out");
-    assert_eq!(rt; legs[0].pts, Pts { t140: 98, red: 100 });
+    assert_eq!(rt; legs[0].payload_types, PayloadTypes { t140: 98, red: 100 });
     assert_eq!(rt;
         (legs[1].line, legs[1].aware, legs[1].ssrc),
         (5, false, 1002)
     );
     assert_eq!(rt; legs[1].name.as_str(), "Bob");
-    assert_eq!(rt; (legs[0].gens, legs[1].gens), (2, 0));
+    assert_eq!(rt; (legs[0].generations, legs[1].generations), (2, 0));
     assert_eq!(rt;
         legs[0].stay,
         Stay {
@@ -97,17 +97,17 @@ fn a_conference_of_all_kinds_of_lines(rt: HostRuntime) -> Result<(), Fail> {
             until: None
         }
     );
-    assert_eq!(rt; legs[1].pts, Pts { t140: 96, red: 127 });
+    assert_eq!(rt; legs[1].payload_types, PayloadTypes { t140: 96, red: 127 });
     assert_eq!(rt;
-        (conf.tick, conf.spacing, conf.wait, conf.turns),
+        (conference.tick, conference.spacing, conference.wait, conference.turns),
         (20, 500, 0, 17)
     );
-    assert_eq!(rt; conf.relabel, Some(60_000));
+    assert_eq!(rt; conference.relabel, Some(60_000));
     assert_eq!(rt;
-        (conf.mixer.ssrc, conf.mixer.seq, conf.mixer.stamp),
+        (conference.mixer.ssrc, conference.mixer.seq, conference.mixer.timestamp),
         (9000, 100, 5000)
     );
-    let plan = conf.plan.as_slice();
+    let plan = conference.plan.as_slice();
     assert_eq!(rt; plan.len(), 3);
     assert_eq!(rt;
         plan[0],
@@ -139,17 +139,17 @@ fn a_conference_of_all_kinds_of_lines(rt: HostRuntime) -> Result<(), Fail> {
 #[test]
 fn what_is_not_said_has_its_default(rt: HostRuntime) -> Result<(), Fail> {
     let file = b"leg A aware 1 5004 h:1\nleg B aware 2 5006 h:2\nmixer 0 0 0";
-    let conf = read_conf(rt.alloc(), file, Form::Links)?;
+    let conference = read_conf(rt.alloc(), file, Form::Links)?;
     assert_eq!(rt;
-        (conf.tick, conf.spacing, conf.wait, conf.turns),
+        (conference.tick, conference.spacing, conference.wait, conference.turns),
         (100, 300, 1000, 5_000_000)
     );
-    assert_eq!(rt; conf.relabel, None);
-    assert!(rt; conf.plan.is_empty());
-    assert_eq!(rt; conf.service.gone, None);
-    assert!(rt; conf.service.operator.is_none());
-    assert!(rt; conf.service.recorded.is_none());
-    assert_eq!(rt; conf.legs.as_slice().len(), 2);
+    assert_eq!(rt; conference.relabel, None);
+    assert!(rt; conference.plan.is_empty());
+    assert_eq!(rt; conference.service.gone, None);
+    assert!(rt; conference.service.operator.is_none());
+    assert!(rt; conference.service.recorded.is_none());
+    assert_eq!(rt; conference.legs.as_slice().len(), 2);
     Ok(())
 }
 
@@ -157,10 +157,10 @@ fn what_is_not_said_has_its_default(rt: HostRuntime) -> Result<(), Fail> {
 fn the_legs_that_are_named_are_followed(rt: HostRuntime) -> Result<(), Fail> {
     let file =
         b"leg A aware 1 5004 h:1\nleg B aware 2 5006 h:2\nleg C aware 3 5008 h:3\nfollow C\nfollow A\nmixer 0 0 0";
-    let conf = read_conf(rt.alloc(), file, Form::Links)?;
+    let conference = read_conf(rt.alloc(), file, Form::Links)?;
     let followed = [true, false, true];
-    assert_eq!(rt; conf.legs.as_slice().len(), followed.len());
-    for (leg, wanted) in conf.legs.as_slice().iter().zip(&followed) {
+    assert_eq!(rt; conference.legs.as_slice().len(), followed.len());
+    for (leg, wanted) in conference.legs.as_slice().iter().zip(&followed) {
         assert_eq!(rt; leg.follow, *wanted);
     }
     Ok(())
@@ -170,9 +170,9 @@ fn the_legs_that_are_named_are_followed(rt: HostRuntime) -> Result<(), Fail> {
 fn what_is_asked_of_links(rt: HostRuntime) -> Result<(), Fail> {
     let file =
         b"gone 86400000\nleg A aware 1 5004 h:1\noperator 065535 aZ345678\nleg B aware 2 5006 h:2\nmixer 0 0 0";
-    let conf = read_conf(rt.alloc(), file, Form::Links)?;
-    assert_eq!(rt; conf.service.gone, Some(86_400_000));
-    let operator = conf.service.operator.ok_or("no operator")?;
+    let conference = read_conf(rt.alloc(), file, Form::Links)?;
+    assert_eq!(rt; conference.service.gone, Some(86_400_000));
+    let operator = conference.service.operator.ok_or("no operator")?;
     assert_eq!(rt; operator.port, 65_535);
     assert_eq!(rt; operator.word.as_str(), "aZ345678");
     Ok(())
@@ -532,8 +532,8 @@ tick 20;twice party0 7 => line 4101: PlanMany\n\
 #[test]
 fn a_plan_has_at_most_4096_lines(rt: HostRuntime) -> Result<(), Fail> {
     let file = plan_lines(rt.alloc(), 4096)?;
-    let conf = read_conf(rt.alloc(), file.as_bytes(), Form::Files)?;
-    assert_eq!(rt; conf.plan.len(), 4096);
+    let conference = read_conf(rt.alloc(), file.as_bytes(), Form::Files)?;
+    assert_eq!(rt; conference.plan.len(), 4096);
     check_rows(
         &rt,
         rt.alloc(),

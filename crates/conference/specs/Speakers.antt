@@ -1,7 +1,7 @@
 -- Those to whom a terminal listens (profile).
 use Rattle.std.specs.Prelude.{ℕ, List, map, IsTrue, All}
-use Rattle.file_spec.specs.declared.conf_lines.LegLine.{LegLine}
-use Rattle.file_spec.specs.Conf.{is_name}
+use Rattle.file_spec.specs.declared.conference_lines.LegLine.{LegLine}
+use Rattle.file_spec.specs.Conference.{is_name}
 
 -- each leg has a name
 abbrev pub AreNamed : List LegLine → Type 0

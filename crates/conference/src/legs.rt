@@ -1,13 +1,13 @@
 //! The legs of a conference.
 ghost use Rattle.std.specs.Prelude.{◌≡◌, ◌<◌, length};
-ghost use Rattle.file_spec.specs.Conf.{change_leg, with_follow, with_gens, with_stay};
+ghost use Rattle.file_spec.specs.Conference.{change_leg, with_follow, with_generations, with_stay};
 ghost use Rattle.conference.specs.Changes.{with_name};
 
 use file_spec::{LegLine, Stay};
-use rtt_base::{Growing, Name};
+use rtt_base::{GrowingList, Name};
 
 /// Legs in the file's order.
-pub type Legs = Growing<LegLine>;
+pub type Legs = GrowingList<LegLine>;
 
 /// Gives a leg another name.
 pub fn set_name(legs: &mut Legs, leg: usize, name: Name)
@@ -18,11 +18,11 @@ pub fn set_name(legs: &mut Legs, leg: usize, name: Name)
 }
 
 /// Tells how many redundant generations the terminal of a leg is sent.
-pub fn set_gens(legs: &mut Legs, leg: usize, gens: u8)
+pub fn set_generations(legs: &mut Legs, leg: usize, generations: u8)
     requires { leg < length legs.old }
-    ensures { legs.new ≡ change_leg (with_gens gens) leg legs.old }
+    ensures { legs.new ≡ change_leg (with_generations generations) leg legs.old }
 {
-    legs.item_mut(leg).gens = gens;
+    legs.item_mut(leg).generations = generations;
 }
 
 /// Tells when a leg stays.

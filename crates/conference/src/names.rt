@@ -1,7 +1,7 @@
 //! The names of legs.
 ghost use Rattle.std.specs.Prelude.{◌≡◌, IsTrue, bytes_eq};
 ghost use Rattle.std.specs.List.{list_any};
-ghost use Rattle.file_spec.specs.Conf.{is_name, is_name_octet};
+ghost use Rattle.file_spec.specs.Conference.{is_name, is_name_octet};
 
 use file_spec::LegLine;
 use rtt_base::Name;

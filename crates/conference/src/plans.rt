@@ -1,13 +1,13 @@
 //! What becomes of the packets of a conference.
 ghost use Rattle.std.specs.Prelude.{◌≡◌};
 ghost use Rattle.std.specs.List.{list_any};
-ghost use Rattle.file_spec.specs.Conf.{is_same_packet, is_same_word};
+ghost use Rattle.file_spec.specs.Conference.{is_same_packet, is_same_word};
 
 use file_spec::{PlanLine, What};
-use rtt_base::Growing;
+use rtt_base::GrowingList;
 
 /// Plan lines in the file's order.
-pub type Plan = Growing<PlanLine>;
+pub type Plan = GrowingList<PlanLine>;
 
 fn is_same_event(one: What, other: What) -> bool
     ensures { result ≡ is_same_word one other }

@@ -5,7 +5,7 @@ use Rattle.std.specs.Str.{is_utf8}
 use Rattle.std.proofs.lemmas.Str.{IsUtf8-nil, IsUtf8-from_is_utf8}
 use Rattle.std.proofs.lemmas.Bool.{and_parts}
 use Rattle.rtt_base.specs.declared.blocks.TextBlock.{TextBlock}
-use Rattle.rtt_base.specs.declared.text_packets.Pts.{Pts}
+use Rattle.rtt_base.specs.declared.text_packets.PayloadTypes.{PayloadTypes}
 use Rattle.wire_spec.specs.declared.faults.TextFault.{TextFault}
 use Rattle.wire_spec.specs.declared.faults.TextFault.TheVariants as text_faults
 use Rattle.wire_spec.specs.declared.faults.RedFault.TheVariants as red_faults
@@ -46,14 +46,14 @@ texts_ok hs octets bs e =
     checked_ok (blocks_at hs octets) bs (past_refusal (nat_lt (older_size hs + MOST_TEXT_OCTETS) (length octets)) red_faults.Long _ bs
     (past_refusal (nat_lt (length octets) (older_size hs)) red_faults.Cut _ bs e))
 
-red_ok : (octets : List ℕ) (pt : ℕ) (pts : Pts) (bs : List TextBlock) → red octets pt pts ≡ Ok bs → all_utf8 bs ≡ true
+red_ok : (octets : List ℕ) (pt : ℕ) (payload_types : PayloadTypes) (bs : List TextBlock) → red octets pt payload_types ≡ Ok bs → all_utf8 bs ≡ true
 unfolding red
-red_ok octets pt pts bs e = go (pt == pts.t140) e
+red_ok octets pt payload_types bs e = go (pt == payload_types.t140) e
   where
-    go : (t : Bool) → cond t (texts_at [] octets) (cond (pt == pts.red) (headers_at 8 pts.t140 octets >>= λ hs. texts_at hs.headers hs.texts) (Err red_faults.WrongType)) ≡ Ok bs → all_utf8 bs ≡ true
+    go : (t : Bool) → cond t (texts_at [] octets) (cond (pt == payload_types.red) (headers_at 8 payload_types.t140 octets >>= λ hs. texts_at hs.headers hs.texts) (Err red_faults.WrongType)) ≡ Ok bs → all_utf8 bs ≡ true
     go true f = texts_ok [] octets bs f
     go false f =
-        let h = bind_ok (headers_at 8 pts.t140 octets) (λ hs. texts_at hs.headers hs.texts) bs (past_acceptance (pt == pts.red) red_faults.WrongType _ bs f) in
+        let h = bind_ok (headers_at 8 payload_types.t140 octets) (λ hs. texts_at hs.headers hs.texts) bs (past_acceptance (pt == payload_types.red) red_faults.WrongType _ bs f) in
         texts_ok h.0.headers h.0.texts bs h.2
 
 texts_of : (bs : List TextBlock) → all_utf8 bs ≡ true → AreTextBlocks (redundant bs) × IsUtf8 (primary_text bs)
@@ -64,16 +64,16 @@ texts_of (b ∷ c ∷ bs) e =
     let rest = texts_of (c ∷ bs) parts.1 in
     ((IsUtf8-from_is_utf8 b.text parts.0, rest.0), rest.1)
 
-short_ok : (octets : List ℕ) (asked : Option ℕ) (pts : Pts) (p : Packet) → text_of_short octets asked pts ≡ Ok p → IsTextPacket p
+short_ok : (octets : List ℕ) (asked : Option ℕ) (payload_types : PayloadTypes) (p : Packet) → text_of_short octets asked payload_types ≡ Ok p → IsTextPacket p
 unfolding text_of_short
-short_ok octets asked pts p e =
-    let a = bind_ok (refused_as header_fault (rtp octets)) (λ reading. accepted asked reading >>= λ r. refused_as blocks_fault (red r.payload r.pt pts) >>= λ blocks. Ok (text_packet r blocks)) p e in
-    let b = bind_ok (accepted asked a.0) (λ r. refused_as blocks_fault (red r.payload r.pt pts) >>= λ blocks. Ok (text_packet r blocks)) p a.2 in
-    let c = bind_ok (refused_as blocks_fault (red b.0.payload b.0.pt pts)) (λ blocks. Ok (text_packet b.0 blocks)) p b.2 in
+short_ok octets asked payload_types p e =
+    let a = bind_ok (refused_as header_fault (rtp octets)) (λ reading. accepted asked reading >>= λ r. refused_as blocks_fault (red r.payload r.pt payload_types) >>= λ blocks. Ok (text_packet r blocks)) p e in
+    let b = bind_ok (accepted asked a.0) (λ r. refused_as blocks_fault (red r.payload r.pt payload_types) >>= λ blocks. Ok (text_packet r blocks)) p a.2 in
+    let c = bind_ok (refused_as blocks_fault (red b.0.payload b.0.pt payload_types)) (λ blocks. Ok (text_packet b.0 blocks)) p b.2 in
     let same : text_packet b.0 c.0 ≡ p = cc in
-    let texts = texts_of c.0 (red_ok b.0.payload b.0.pt pts c.0 (refused_ok blocks_fault _ c.0 c.1)) in
+    let texts = texts_of c.0 (red_ok b.0.payload b.0.pt payload_types c.0 (refused_ok blocks_fault _ c.0 c.1)) in
     rw (← same) (record { older = texts.0; primary = texts.1 })
 
-pub accepted_text : (octets : List ℕ) (asked : Option ℕ) (pts : Pts) (p : Packet) → text_of octets asked pts ≡ Ok p → IsTextPacket p
+pub accepted_text : (octets : List ℕ) (asked : Option ℕ) (payload_types : PayloadTypes) (p : Packet) → text_of octets asked payload_types ≡ Ok p → IsTextPacket p
 unfolding text_of
-accepted_text octets asked pts p e = short_ok octets asked pts p (past_refusal (nat_lt MOST_PACKET_OCTETS (length octets)) text_faults.Long _ p e)
+accepted_text octets asked payload_types p e = short_ok octets asked payload_types p (past_refusal (nat_lt MOST_PACKET_OCTETS (length octets)) text_faults.Long _ p e)

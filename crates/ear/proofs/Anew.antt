@@ -11,7 +11,7 @@ use Rattle.source_receiver.specs.Each.{sources_count}
 use Rattle.source_receiver.specs.Pieces.{is_heard, left_of}
 use Rattle.source_receiver.specs.Stands.{Stands, latest_number}
 use Rattle.source_receiver.proofs.Blockwise.{heard_left}
-use Rattle.ear.specs.declared.confs.EarConf.{EarConf}
+use Rattle.ear.specs.declared.settings.EarSettings.{EarSettings}
 use Rattle.ear.specs.declared.ears.Ear.{Ear}
 use Rattle.ear.specs.Hears.{BeginsAnew, Gave, IsGiving, texts_left}
 
@@ -22,15 +22,15 @@ one_source e is = elim (cases_eq (sources_count e.receiver) 1) [ inl same ↦ sa
     one : IsGiving e → sources_count e.receiver ≡ 1
     one i = sym (length-map e.receiver.listed.items (λ l. l.source)) ∙ ap (λ (xs : List ℕ). length xs) i.4.hears.stands.listed
 
-pub begins : (old new : Ear) (ssrc : ℕ) → new.conf ≡ record old.conf { ssrc = ssrc } → ((story : Story) → Tracks old.tracker story → Tracks new.tracker (begun story.wait))
+pub begins : (old new : Ear) (ssrc : ℕ) → new.settings ≡ record old.settings { ssrc = ssrc } → ((story : Story) → Tracks old.buffer story → Tracks new.buffer (begun story.wait))
     → Stands new.receiver (ssrc ∷ []) [] → latest_number new.receiver ≡ None → is_heard new.piece ≡ true → BeginsAnew old new ssrc
-begins old new ssrc is tracks stands latest heard conf source story gave g =
-    let none : texts_left new ≡ [] = heard_left new.piece new.tracker.current heard in
+begins old new ssrc is tracks stands latest heard settings source story gave g =
+    let none : texts_left new ≡ [] = heard_left new.piece new.buffer.current heard in
     record {
       hears = record {
-        asked = is ∙ ap (λ (k : EarConf). record { ssrc = ssrc; pts = k.pts; wait = k.wait }) g.hears.asked;
+        asked = is ∙ ap (λ (k : EarSettings). record { ssrc = ssrc; payload_types = k.payload_types; wait = k.wait }) g.hears.asked;
         wait = refl;
-        tracks = subst (λ (w : ℕ). Tracks new.tracker (begun w)) g.hears.wait (tracks story g.hears.tracks);
+        tracks = subst (λ (w : ℕ). Tracks new.buffer (begun w)) g.hears.wait (tracks story g.hears.tracks);
         stands = stands;
         latest = latest;
         texts = tt;

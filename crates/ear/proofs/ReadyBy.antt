@@ -19,7 +19,7 @@ use Rattle.stream_spec.specs.Fronts.{is_ready_by}
 use Rattle.stream_spec.proofs.ReadyBy.{by_early, by_late, by_front}
 use Rattle.stream_spec.proofs.Lists.{in_filter, filter_in}
 use Rattle.gap_tracker.specs.Stories.{Story, Given, dues, ready_dues, is_due}
-use Rattle.ear.specs.declared.confs.EarConf.{EarConf}
+use Rattle.ear.specs.declared.settings.EarSettings.{EarSettings}
 use Rattle.ear.specs.Hears.{told, IsToldOf, ready_packet, ready_packets, ready_chunks, story_chunks}
 use Rattle.ear.proofs.Given.{dues_rise, ready_stamped}
 
@@ -41,16 +41,16 @@ rest_fails p xs zs e z i = false_from_ne_true (p z) (λ t. subst (In z) none (fi
         (ap (λ ys. ys ++ filter p zs) (sym (filter_twice p xs)) ∙ (sym (filter-append p (filter p xs) zs) ∙ (sym (ap (filter p) e) ∙ sym (append-nil (filter p xs)))))
 
 -- ---- of a story
-pub chunks_due : (conf : EarConf) (source : ℕ) (story : Story) → story.wait ≡ conf.wait → story_chunks conf source story ≡ chunks_by 0 (ready_packets (dues story)) source
-chunks_due conf source story w =
+pub chunks_due : (settings : EarSettings) (source : ℕ) (story : Story) → story.wait ≡ settings.wait → story_chunks settings source story ≡ chunks_by 0 (ready_packets (dues story)) source
+chunks_due settings source story w =
     ap (λ n. chunks n 0 story.past source) (sym w)
     ∙ (all_by story.wait 0 story.past source
     ∙ ap (λ us. chunks_by 0 us source) (sym (ready_stamped story.wait (numbered story.past) (used story.wait (numbered story.past)))))
 
-pub chunks_ready : (conf : EarConf) (source : ℕ) (story : Story) (rest : List Given) → story.wait ≡ conf.wait → dues story ≡ ready_dues story ++ rest
-    → chunks_by 0 (ready_packets (ready_dues story)) source ≡ ready_chunks conf source story
-chunks_ready conf source story rest w o =
-    sym (ap (filter (is_ready_by story.moment)) (chunks_due conf source story w ∙ ap (λ us. chunks_by 0 us source) parts)
+pub chunks_ready : (settings : EarSettings) (source : ℕ) (story : Story) (rest : List Given) → story.wait ≡ settings.wait → dues story ≡ ready_dues story ++ rest
+    → chunks_by 0 (ready_packets (ready_dues story)) source ≡ ready_chunks settings source story
+chunks_ready settings source story rest w o =
+    sym (ap (filter (is_ready_by story.moment)) (chunks_due settings source story w ∙ ap (λ us. chunks_by 0 us source) parts)
     ∙ (by_late story.moment 0 source (ready_packets rest) (ready_packets (ready_dues story)) (subst RisingNumbers parts (dues_rise story)) (later rest (λ g i. i))
     ∙ by_early story.moment 0 source (ready_packets (ready_dues story)) (sooner (ready_dues story) (λ g i. i))))
   where
@@ -70,12 +70,12 @@ chunks_ready conf source story rest w o =
         let soon = leb-true g.ready story.moment (in_filter (is_due story.moment) g (dues story) (f g (inl refl))).1 in omega (arith, ap (λ (u : Numbered). u.time) e)
     sooner (g ∷ gs) f v (inr i) = sooner gs (λ h j. f h (inr j)) v i
 
-pub chunks_front : (conf : EarConf) (source : ℕ) (story : Story) (given rest : List Given) → story.wait ≡ conf.wait → dues story ≡ given ++ rest
-    → (more : List Chunk) × (story_chunks conf source story ≡ chunks_by 0 (ready_packets given) source ++ more)
-chunks_front conf source story given rest w o =
+pub chunks_front : (settings : EarSettings) (source : ℕ) (story : Story) (given rest : List Given) → story.wait ≡ settings.wait → dues story ≡ given ++ rest
+    → (more : List Chunk) × (story_chunks settings source story ≡ chunks_by 0 (ready_packets given) source ++ more)
+chunks_front settings source story given rest w o =
     let parts : ready_packets (dues story) ≡ ready_packets given ++ ready_packets rest = ap ready_packets o ∙ map-append ready_packet given rest in
     let f = by_front 0 source (ready_packets rest) (ready_packets given) (subst RisingNumbers parts (dues_rise story)) in
-    (f.0, chunks_due conf source story w ∙ (ap (λ us. chunks_by 0 us source) parts ∙ f.1))
+    (f.0, chunks_due settings source story w ∙ (ap (λ us. chunks_by 0 us source) parts ∙ f.1))
 
 -- what is heard of all used packets
 pub heard_dues : (story : Story) (s : ℕ) → heard_by (ready_packets (dues story)) s ≡ heard story.wait story.past s

@@ -12,23 +12,23 @@ use Rattle.stream_spec.specs.ChunksBy.{chunks_by}
 use Rattle.gap_tracker.specs.Stories.{Story, Given, begun, came, ended, dues, ready_dues}
 use Rattle.gap_tracker.specs.Tracks.{Tracks}
 use Rattle.gap_tracker.specs.States.{has_ready}
-use Rattle.gap_tracker.specs.States as tracker
+use Rattle.gap_tracker.specs.States as buffer
 use Rattle.source_receiver.specs.Stands.{Stands, latest_number}
 use Rattle.source_receiver.specs.Pieces.{left_of, is_heard}
-use Rattle.ear.specs.declared.confs.EarConf.{EarConf}
+use Rattle.ear.specs.declared.settings.EarSettings.{EarSettings}
 use Rattle.ear.specs.declared.ears.Ear.{Ear}
 
 -- ---- what is seen of an ear
 
-abbrev pub conf_of : Ear → EarConf
-conf_of e = e.conf
+abbrev pub settings_of : Ear → EarSettings
+settings_of e = e.settings
 
 -- how many packets came
 abbrev pub arrival_count : Ear → ℕ
-arrival_count e = tracker.arrival_count e.tracker
+arrival_count e = buffer.arrival_count e.buffer
 
 abbrev pub is_finished : Ear → Bool
-is_finished e = tracker.is_finished e.tracker
+is_finished e = buffer.is_finished e.buffer
 
 -- nothing is left of the packet given last
 abbrev pub is_clear : Ear → Bool
@@ -36,17 +36,17 @@ is_clear e = is_heard e.piece
 
 -- all that is settled by now was given
 abbrev pub is_quiet : Ear → Bool
-is_quiet e = not (has_ready e.tracker) && is_clear e
+is_quiet e = not (has_ready e.buffer) && is_clear e
 
 -- the texts of the packet given last that are still to be heard
 abbrev pub texts_left : Ear → List (List ℕ)
-texts_left e = left_of e.piece (tracker.current_of e.tracker)
+texts_left e = left_of e.piece (buffer.current_of e.buffer)
 
 -- ---- what it was told
 
 -- the packet of the stream that these octets are, or why they are none
-abbrev pub text_for : EarConf → List ℕ → Result Packet TextFault
-text_for conf octets = text_of octets (Some conf.ssrc) conf.pts
+abbrev pub text_for : EarSettings → List ℕ → Result Packet TextFault
+text_for settings octets = text_of octets (Some settings.ssrc) settings.payload_types
 
 -- an octet string that is a packet of text comes at `now`; nothing else hands in a moment
 abbrev pub told : Story → ℕ → Result Packet TextFault → Story
@@ -76,72 +76,72 @@ last_after last [] = last
 last_after last (u ∷ us) = last_after (Some u.number) us
 
 -- The ear listens to these sources. Its tracker was told and gave what the story says, and its receiver took that.
-pub record Hears (e : Ear) (conf : EarConf) (sources : List ℕ) (story : Story) : Type 0 where
-  pub asked : e.conf ≡ conf
-  pub wait : story.wait ≡ conf.wait
-  pub tracks : Tracks e.tracker story
+pub record Hears (e : Ear) (settings : EarSettings) (sources : List ℕ) (story : Story) : Type 0 where
+  pub asked : e.settings ≡ settings
+  pub wait : story.wait ≡ settings.wait
+  pub tracks : Tracks e.buffer story
   pub stands : Stands e.receiver sources (ready_packets story.given)
   pub latest : latest_number e.receiver ≡ last_after None (ready_packets story.given)
   pub texts : AreTextArrivals story.past
 
 -- The ear listens to one source and gave these chunks, oldest first. With what is left of the packet given last they
 -- are the chunks of all packets given. Their source is 0: whose they are is set by who mixes.
-pub record Gave (e : Ear) (conf : EarConf) (source : ℕ) (story : Story) (gave : List Chunk) : Type 0 where
-  pub hears : Hears e conf (source ∷ []) story
+pub record Gave (e : Ear) (settings : EarSettings) (source : ℕ) (story : Story) (gave : List Chunk) : Type 0 where
+  pub hears : Hears e settings (source ∷ []) story
   pub chunks : gave ++ map (chunk 0 e.ready) (texts_left e) ≡ chunks_by 0 (ready_packets story.given) source
   pub texts : AreHeardTexts (texts_left e)
 
 abbrev pub IsGiving : Ear → Type 0
-IsGiving e = (conf : EarConf) × (source : ℕ) × (story : Story) × (gave : List Chunk) × Gave e conf source story gave
+IsGiving e = (settings : EarSettings) × (source : ℕ) × (story : Story) × (gave : List Chunk) × Gave e settings source story gave
 
 -- the ear gave them, having taken some of the packets that are ready
-abbrev pub GaveSome : Ear → EarConf → ℕ → Story → List Chunk → Type 0
-GaveSome e conf source story gave = (given : List Given) × Gave e conf source (record story { given = given }) gave
+abbrev pub GaveSome : Ear → EarSettings → ℕ → Story → List Chunk → Type 0
+GaveSome e settings source story gave = (given : List Given) × Gave e settings source (record story { given = given }) gave
 
 -- whatever it gave before, it hears this source now, of which nothing came yet
 abbrev pub BeginsAnew : Ear → Ear → ℕ → Type 0
 BeginsAnew old new ssrc =
-    (conf : EarConf) (source : ℕ) (story : Story) (gave : List Chunk)
-    → Gave old conf source story gave → Gave new (record conf { ssrc = ssrc }) ssrc (begun conf.wait) []
+    (settings : EarSettings) (source : ℕ) (story : Story) (gave : List Chunk)
+    → Gave old settings source story gave → Gave new (record settings { ssrc = ssrc }) ssrc (begun settings.wait) []
 
 -- ---- by when it gave it
 
 -- all chunks of the source, by what came so far
-abbrev pub story_chunks : EarConf → ℕ → Story → List Chunk
-story_chunks conf source story = chunks conf.wait 0 story.past source
+abbrev pub story_chunks : EarSettings → ℕ → Story → List Chunk
+story_chunks settings source story = chunks settings.wait 0 story.past source
 
 -- those of them that are ready by the greatest moment
-abbrev pub ready_chunks : EarConf → ℕ → Story → List Chunk
-ready_chunks conf source story = filter (is_ready_by story.moment) (story_chunks conf source story)
+abbrev pub ready_chunks : EarSettings → ℕ → Story → List Chunk
+ready_chunks settings source story = filter (is_ready_by story.moment) (story_chunks settings source story)
 
 -- ---- what calls make of it
 
 -- what came is another, and what was given stays, of which nothing is left
-pub record Becomes (old new : Ear) (f : EarConf → Story → Story) : Type 0 where
-  pub hears : (conf : EarConf) (sources : List ℕ) (story : Story) → Hears old conf sources story → Hears new conf sources (f conf story)
-  pub gave : (conf : EarConf) (source : ℕ) (story : Story) (gave : List Chunk) → Gave old conf source story gave → Gave new conf source (f conf story) gave
+pub record Becomes (old new : Ear) (f : EarSettings → Story → Story) : Type 0 where
+  pub hears : (settings : EarSettings) (sources : List ℕ) (story : Story) → Hears old settings sources story → Hears new settings sources (f settings story)
+  pub gave : (settings : EarSettings) (source : ℕ) (story : Story) (gave : List Chunk) → Gave old settings source story gave → Gave new settings source (f settings story) gave
   pub clear : is_clear new ≡ true
 
 -- a chunk was given
 abbrev pub GivesChunk : Ear → Ear → Chunk → Type 0
-GivesChunk old new c = (conf : EarConf) (source : ℕ) (story : Story) (gave : List Chunk) → Gave old conf source story gave → GaveSome new conf source story (gave ++ c ∷ [])
+GivesChunk old new c = (settings : EarSettings) (source : ℕ) (story : Story) (gave : List Chunk) → Gave old settings source story gave → GaveSome new settings source story (gave ++ c ∷ [])
 
 -- none was given
 abbrev pub GivesNone : Ear → Ear → Type 0
-GivesNone old new = (conf : EarConf) (source : ℕ) (story : Story) (gave : List Chunk) → Gave old conf source story gave → GaveSome new conf source story gave
+GivesNone old new = (settings : EarSettings) (source : ℕ) (story : Story) (gave : List Chunk) → Gave old settings source story gave → GaveSome new settings source story gave
 
 -- exactly the chunks that are ready by the greatest moment were given
 abbrev pub GaveReady : Ear → Type 0
-GaveReady e = (conf : EarConf) (source : ℕ) (story : Story) (gave : List Chunk) → Gave e conf source story gave → gave ≡ ready_chunks conf source story
+GaveReady e = (settings : EarSettings) (source : ℕ) (story : Story) (gave : List Chunk) → Gave e settings source story gave → gave ≡ ready_chunks settings source story
 
 -- what was given is a front of all chunks
 abbrev pub GaveFront : Ear → Type 0
-GaveFront e = (conf : EarConf) (source : ℕ) (story : Story) (gave : List Chunk) → Gave e conf source story gave → (rest : List Chunk) × (story_chunks conf source story ≡ gave ++ rest)
+GaveFront e = (settings : EarSettings) (source : ℕ) (story : Story) (gave : List Chunk) → Gave e settings source story gave → (rest : List Chunk) × (story_chunks settings source story ≡ gave ++ rest)
 
 -- each used packet is ready by the end, and so is each chunk
-pub record IsReadyAtEnd (conf : EarConf) (story : Story) : Type 0 where
+pub record IsReadyAtEnd (settings : EarSettings) (story : Story) : Type 0 where
   pub packets : ready_dues (ended story) ≡ dues story
-  pub chunks : (source : ℕ) → ready_chunks conf source (ended story) ≡ story_chunks conf source story
+  pub chunks : (source : ℕ) → ready_chunks settings source (ended story) ≡ story_chunks settings source story
 
 abbrev pub AllReady : Ear → Type 0
-AllReady e = (conf : EarConf) (sources : List ℕ) (story : Story) → Hears e conf sources story → IsReadyAtEnd conf story
+AllReady e = (settings : EarSettings) (sources : List ℕ) (story : Story) → Hears e settings sources story → IsReadyAtEnd settings story

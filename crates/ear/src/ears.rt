@@ -3,18 +3,18 @@ ghost use Rattle.std.specs.Prelude.{◌≡◌, ◌≢◌, ℕ, ◌+◌, ◌≤�
 ghost use Rattle.wire_spec.specs.Packets.{Packet, has_text};
 ghost use Rattle.stream_spec.specs.Ready.{chunk_of, chunk as heard_chunk};
 ghost use Rattle.gap_tracker.specs.Stories.{Story, begun, went, ended};
-ghost use Rattle.ear.specs.declared.confs.EarConf.{EarConf};
+ghost use Rattle.ear.specs.declared.settings.EarSettings.{EarSettings};
 ghost use Rattle.ear.specs.declared.answers.PlainAnswer.{PlainAnswer};
-ghost use Rattle.ear.specs.Hears.{conf_of, arrival_count, is_finished, is_clear, is_quiet, text_for, told, Hears, Gave, IsGiving, BeginsAnew, Becomes, GivesChunk, GivesNone, GaveReady, GaveFront, AllReady};
+ghost use Rattle.ear.specs.Hears.{settings_of, arrival_count, is_finished, is_clear, is_quiet, text_for, told, Hears, Gave, IsGiving, BeginsAnew, Becomes, GivesChunk, GivesNone, GaveReady, GaveFront, AllReady};
 ghost use Rattle.ear.specs.Each.{GathersEach, IsHearingEach};
 ghost use Rattle.ear.specs.Plain.{IsTextFor, HearsPlain, GivesPlain};
 ghost use Rattle.rtt_base.specs.declared.limits.TheConstants.{END_OF_MOMENTS, LONGEST_WAIT, MOST_ARRIVALS, MOST_SOURCES};
 
-use crate::{EarConf, PlainAnswer};
-use gap_tracker::Tracker;
+use crate::{EarSettings, PlainAnswer};
+use gap_tracker::ReorderBuffer;
 use red_blocks::{read_text, view_text};
 use rtt_base::{Chunk, NoMemory};
-use source_receiver::{Piece, Receiver, SourceText};
+use source_receiver::{TextCursor, Receiver, SourceText};
 use std::alloc::Global;
 use wire_spec::TextFault;
 
@@ -25,12 +25,12 @@ use wire_spec::TextFault;
 /// Times are in milliseconds. A time before the greatest one so far stands for that one.
 #[derive(Drop)]
 pub struct Ear {
-    conf: EarConf,
+    settings: EarSettings,
     /// Its current packet is the one that is read, or heard.
-    tracker: Tracker,
+    buffer: ReorderBuffer,
     receiver: Receiver,
     /// What is still to be heard of that packet.
-    piece: Piece,
+    piece: TextCursor,
     /// When it was ready.
     ready: u64,
 }
@@ -49,22 +49,22 @@ fn write_chunk(chunk: &mut Chunk, ready: u64, text: &[u8])
 impl Ear {
     /// An ear to which nothing came yet, for the text of these sources: 1 to 64, all different. It takes all memory
     /// that it needs; only `gather_each` and `hear_plain` take more, for what they append.
-    pub fn new(alloc: Global, conf: EarConf, sources: &[u32]) -> Result<Ear, NoMemory>
-        requires wait { conf.wait ≤ LONGEST_WAIT }
+    pub fn new(alloc: Global, settings: EarSettings, sources: &[u32]) -> Result<Ear, NoMemory>
+        requires wait { settings.wait ≤ LONGEST_WAIT }
         requires some { 0 < length sources.now }
         requires few { length sources.now ≤ MOST_SOURCES }
         requires differ { AllPairs (λ a b. a ≢ b) sources.now }
-        ensures hears { IfOk result (λ ear. Hears ear conf sources.now (begun conf.wait)) }
-        ensures gave { IfOk result (λ ear. (source : ℕ) → sources.now ≡ source ∷ [] → Gave ear conf source (begun conf.wait) []) }
+        ensures hears { IfOk result (λ ear. Hears ear settings sources.now (begun settings.wait)) }
+        ensures gave { IfOk result (λ ear. (source : ℕ) → sources.now ≡ source ∷ [] → Gave ear settings source (begun settings.wait) []) }
         ensures quiet { IfOk result (λ ear. is_quiet ear ≡ Bool.true) }
         ensures arrivals { IfOk result (λ ear. arrival_count ear ≡ 0) }
         ensures open { IfOk result (λ ear. is_finished ear ≡ Bool.false) }
     {
         Ok(Ear {
-            conf,
-            tracker: Tracker::new(alloc, conf.wait)?,
+            settings,
+            buffer: ReorderBuffer::new(alloc, settings.wait)?,
             receiver: Receiver::new(alloc, sources)?,
-            piece: Piece::none(),
+            piece: TextCursor::none(),
             ready: 0,
         })
     }
@@ -74,15 +74,15 @@ impl Ear {
     pub fn restart(&mut self, ssrc: u32)
         requires { ∥ IsGiving self.old ∥₁ }
         ensures begins { BeginsAnew self.old self.new ssrc }
-        ensures conf { conf_of self.new ≡ record (conf_of self.old) { ssrc = ssrc } }
+        ensures settings { settings_of self.new ≡ record (settings_of self.old) { ssrc = ssrc } }
         ensures quiet { is_quiet self.new ≡ Bool.true }
         ensures arrivals { arrival_count self.new ≡ 0 }
         ensures open { is_finished self.new ≡ Bool.false }
     {
-        self.conf.ssrc = ssrc;
-        self.tracker.restart();
+        self.settings.ssrc = ssrc;
+        self.buffer.restart();
         self.receiver.restart(ssrc);
-        self.piece = Piece::none();
+        self.piece = TextCursor::none();
     }
 
     /// Takes a packet that came at `now`. What is no packet of text of the stream is refused, and hands in no time.
@@ -91,22 +91,22 @@ impl Ear {
         requires now { now < END_OF_MOMENTS }
         requires quiet { is_quiet self.old ≡ Bool.true }
         requires few { arrival_count self.old < MOST_ARRIVALS }
-        ensures ok { OnOk result ((p : Packet) × (text_for (conf_of self.old) octets.now ≡ Ok p)) }
-        ensures err { IfErr result (λ fault. text_for (conf_of self.old) octets.now ≡ Err fault) }
-        ensures becomes { Becomes self.old self.new (λ conf story. told story now (text_for conf octets.now)) }
+        ensures ok { OnOk result ((p : Packet) × (text_for (settings_of self.old) octets.now ≡ Ok p)) }
+        ensures err { IfErr result (λ fault. text_for (settings_of self.old) octets.now ≡ Err fault) }
+        ensures becomes { Becomes self.old self.new (λ settings story. told story now (text_for settings octets.now)) }
         ensures quiet { OnErr result (is_quiet self.new ≡ Bool.true) }
-        ensures conf { conf_of self.new ≡ conf_of self.old }
+        ensures settings { settings_of self.new ≡ settings_of self.old }
         ensures arrivals { arrival_count self.new ≤ arrival_count self.old + 1 }
         ensures finished { is_finished self.new ≡ is_finished self.old }
     {
         match read_text(
             octets,
-            Some(self.conf.ssrc),
-            self.conf.pts,
-            self.tracker.packet_mut(),
+            Some(self.settings.ssrc),
+            self.settings.payload_types,
+            self.buffer.packet_mut(),
         ) {
             Ok(()) => {
-                let _taken = self.tracker.arrive(now);
+                let _taken = self.buffer.arrive(now);
                 Ok(())
             }
             Err(fault) => Err(fault),
@@ -117,26 +117,26 @@ impl Ear {
     pub fn expire(&mut self, now: u64)
         requires now { now < END_OF_MOMENTS }
         requires quiet { is_quiet self.old ≡ Bool.true }
-        ensures becomes { Becomes self.old self.new (λ conf story. went story now) }
-        ensures conf { conf_of self.new ≡ conf_of self.old }
+        ensures becomes { Becomes self.old self.new (λ settings story. went story now) }
+        ensures settings { settings_of self.new ≡ settings_of self.old }
         ensures arrivals { arrival_count self.new ≡ arrival_count self.old }
         ensures finished { is_finished self.new ≡ is_finished self.old }
     {
-        self.tracker.expire(now);
+        self.buffer.expire(now);
     }
 
     /// Lets the wait go by after the greatest moment so far, so that all that came is given.
     pub fn finish(&mut self)
         requires quiet { is_quiet self.old ≡ Bool.true }
         requires once { is_finished self.old ≡ Bool.false }
-        ensures becomes { Becomes self.old self.new (λ conf story. ended story) }
+        ensures becomes { Becomes self.old self.new (λ settings story. ended story) }
         // Each chunk is ready by then.
         ensures all { AllReady self.old }
-        ensures conf { conf_of self.new ≡ conf_of self.old }
+        ensures settings { settings_of self.new ≡ settings_of self.old }
         ensures arrivals { arrival_count self.new ≡ arrival_count self.old }
         ensures finished { is_finished self.new ≡ Bool.true }
     {
-        self.tracker.finish();
+        self.buffer.finish();
     }
 
     /// Puts the next text that is heard of the source in place of what is in `chunk`, and tells whether there was one.
@@ -151,20 +151,20 @@ impl Ear {
         ensures utf8 { result ≡ Bool.true → IsUtf8 chunk.new.text }
         ensures source { result ≡ Bool.true → chunk.new.source ≡ 0 }
         ensures quiet { result ≡ Bool.false → is_quiet self.new ≡ Bool.true }
-        ensures conf { conf_of self.new ≡ conf_of self.old }
+        ensures settings { settings_of self.new ≡ settings_of self.old }
         ensures arrivals { arrival_count self.new ≡ arrival_count self.old }
         ensures finished { is_finished self.new ≡ is_finished self.old }
     {
         loop {
-            if self.piece.next(self.tracker.packet(), &mut chunk.text) {
+            if self.piece.next(self.buffer.packet(), &mut chunk.text) {
                 chunk.source = 0;
                 chunk.ready = self.ready;
                 return true;
             }
-            let Some(due) = self.tracker.next() else {
+            let Some(due) = self.buffer.next() else {
                 return false;
             };
-            self.piece = self.receiver.take_piece(due.number, self.tracker.packet());
+            self.piece = self.receiver.take_piece(due.number, self.buffer.packet());
             self.ready = due.ready;
         }
     }
@@ -177,14 +177,14 @@ impl Ear {
         requires few { arrival_count self.old ≤ MOST_ARRIVALS }
         ensures gathers { IfOk result (λ used. GathersEach self.old self.new used heard.old heard.new) }
         ensures quiet { OnOk result (is_quiet self.new ≡ Bool.true) }
-        ensures conf { OnOk result (conf_of self.new ≡ conf_of self.old) }
+        ensures settings { OnOk result (settings_of self.new ≡ settings_of self.old) }
         ensures arrivals { OnOk result (arrival_count self.new ≡ arrival_count self.old) }
         ensures finished { OnOk result (is_finished self.new ≡ is_finished self.old) }
     {
         let mut used = 0;
-        while let Some(due) = self.tracker.next() {
+        while let Some(due) = self.buffer.next() {
             self.receiver
-                .take_each(due.number, self.tracker.packet(), heard)?;
+                .take_each(due.number, self.buffer.packet(), heard)?;
             used += 1;
         }
         Ok(used)
@@ -206,24 +206,24 @@ impl Ear {
         requires quiet { is_quiet self.old ≡ Bool.true }
         requires few { arrival_count self.old < MOST_ARRIVALS }
         ensures hears { IfOk result (λ plain. IsTrue plain → HearsPlain self.old self.new now octets.now heard.old heard.new) }
-        ensures packet { IfOk result (λ plain. IsTrue plain → IsTextFor (conf_of self.old) octets.now) }
+        ensures packet { IfOk result (λ plain. IsTrue plain → IsTextFor (settings_of self.old) octets.now) }
         ensures unchanged { IfOk result (λ plain. plain ≡ Bool.false → self.new ≡ self.old) }
         ensures untold { IfOk result (λ plain. plain ≡ Bool.false → heard.new ≡ heard.old) }
         ensures quiet { OnOk result (is_quiet self.new ≡ Bool.true) }
-        ensures conf { OnOk result (conf_of self.new ≡ conf_of self.old) }
+        ensures settings { OnOk result (settings_of self.new ≡ settings_of self.old) }
         ensures arrivals { OnOk result (arrival_count self.new ≤ arrival_count self.old + 1) }
         ensures finished { OnOk result (is_finished self.new ≡ is_finished self.old) }
     {
-        let Some(view) = view_text(octets, Some(self.conf.ssrc), self.conf.pts) else {
+        let Some(view) = view_text(octets, Some(self.settings.ssrc), self.settings.payload_types) else {
             return Ok(false);
         };
-        let Some(number) = self.tracker.next_in_order(view.seq) else {
+        let Some(number) = self.buffer.next_in_order(view.seq) else {
             return Ok(false);
         };
         if !self.receiver.take_plain(number, &view, heard)? {
             return Ok(false);
         }
-        let _ready = self.tracker.give_at_once(now, number);
+        let _ready = self.buffer.give_at_once(now, number);
         Ok(true)
     }
 
@@ -241,20 +241,20 @@ impl Ear {
         ensures text { result ≡ PlainAnswer.Chunk → has_text chunk.new.text ≡ Bool.true }
         ensures utf8 { result ≡ PlainAnswer.Chunk → IsUtf8 chunk.new.text }
         ensures quiet { is_quiet self.new ≡ Bool.true }
-        ensures conf { conf_of self.new ≡ conf_of self.old }
+        ensures settings { settings_of self.new ≡ settings_of self.old }
         ensures arrivals { arrival_count self.new ≤ arrival_count self.old + 1 }
         ensures finished { is_finished self.new ≡ is_finished self.old }
     {
-        let Some(view) = view_text(octets, Some(self.conf.ssrc), self.conf.pts) else {
+        let Some(view) = view_text(octets, Some(self.settings.ssrc), self.settings.payload_types) else {
             return PlainAnswer::NotPlain;
         };
-        let Some(number) = self.tracker.next_in_order(view.seq) else {
+        let Some(number) = self.buffer.next_in_order(view.seq) else {
             return PlainAnswer::NotPlain;
         };
         if !self.receiver.take_plain_piece(number, &view) {
             return PlainAnswer::NotPlain;
         }
-        let ready = self.tracker.give_at_once(now, number);
+        let ready = self.buffer.give_at_once(now, number);
         if view.primary.is_empty() {
             return PlainAnswer::Nothing;
         }
@@ -266,6 +266,6 @@ impl Ear {
     pub fn arrivals(&self) -> u64
         ensures { result ≡ arrival_count self.now }
     {
-        self.tracker.arrivals()
+        self.buffer.arrivals()
     }
 }

@@ -2,11 +2,11 @@
 #![tactic(auto)]
 
 mod answers;
-mod confs;
+mod settings;
 mod ears;
 mod keep_alives;
 
 pub use answers::PlainAnswer;
-pub use confs::EarConf;
+pub use settings::EarSettings;
 pub use ears::Ear;
 pub use keep_alives::is_blank;

@@ -1,6 +1,6 @@
 //! A gateway on the mixer.
 ghost use Rattle.std.specs.Prelude.{◌≡◌, ◌+◌, ◌<◌, ◌≤◌, ◌^◌, true, false, Some, length, slice_get, IfOk};
-ghost use Rattle.conference.specs.Conferences.{conf_of};
+ghost use Rattle.conference.specs.Conferences.{meaning_of};
 ghost use Rattle.mixer_turn.specs.Making.{source_counts};
 ghost use Rattle.mixer_turn.specs.Posts.{ArePosts, IsPost};
 ghost use Rattle.mixer_turn.specs.States.{legs_of, sources_of};
@@ -9,8 +9,8 @@ ghost use Rattle.example_gateway.specs.Outputs.{counts_of};
 ghost use Rattle.file_spec.specs.declared.limits.TheConstants.{MOST_LEGS, MOST_TURNS};
 
 use crate::legs::Leg;
-use aware_output::Output;
-use conference::Conf;
+use aware_output::Packetizer;
+use conference::Conference;
 use file_spec::limits::MOST_TURNS;
 use mixer_posts::{sources_to, stream_to};
 use mixer_turn::{Batch, Mixer, Post};
@@ -31,7 +31,7 @@ pub struct Gateway {
     /// What the last turn sent.
     batch: Batch,
     /// What writes the packets to each leg's terminal.
-    outputs: Vec<Output>,
+    outputs: Vec<Packetizer>,
     ghost few: { length legs.items ≤ MOST_LEGS },
     ghost heard: { length legs.items ≡ legs_of mixer },
     ghost written: { counts_of outputs.items ≡ sources_of mixer },
@@ -41,17 +41,17 @@ impl Gateway {
     ghost use Rattle.example_gateway.specs.Gateways.{legs_in, turns_in};
 
     /// The gateway of this conference, all of whose legs came, and of none of whom anything came yet.
-    pub fn new(alloc: Global, conf: &Conf) -> Result<Gateway, NoMemory>
-        ensures legs { IfOk result (λ gateway. legs_in gateway ≡ length conf.now.legs) }
+    pub fn new(alloc: Global, conference: &Conference) -> Result<Gateway, NoMemory>
+        ensures legs { IfOk result (λ gateway. legs_in gateway ≡ length conference.now.legs) }
         ensures turns { IfOk result (λ gateway. turns_in gateway ≡ 0) }
     {
-        let mut mixer = Mixer::new(alloc, conf)?;
+        let mut mixer = Mixer::new(alloc, conference)?;
         let mut legs = Vec::new(alloc);
         let mut outputs = Vec::new(alloc);
-        for leg in 0..conf.legs.len() {
+        for leg in 0..conference.legs.len() {
             mixer.admit(leg, true);
-            legs.push(Leg::new(alloc, conf, leg)?)?;
-            outputs.push(output_to(alloc, conf, leg)?)?;
+            legs.push(Leg::new(alloc, conference, leg)?)?;
+            outputs.push(output_to(alloc, conference, leg)?)?;
         }
         Ok(Gateway {
             legs,
@@ -100,12 +100,13 @@ impl Gateway {
 }
 
 /// What writes the packets to the terminal of the leg with this number.
-fn output_to(alloc: Global, conf: &Conf, leg: usize) -> Result<Output, NoMemory>
-    requires { leg < length conf.now.legs }
-    ensures { IfOk result (λ output. slice_get (source_counts (conf_of conf.now)) leg ≡ Some (length output.speakers)) }
+fn output_to(alloc: Global, conference: &Conference, leg: usize) -> Result<Packetizer, NoMemory>
+    requires { leg < length conference.now.legs }
+    ensures { IfOk result (λ output. slice_get (source_counts (meaning_of conference.now)) leg
+        ≡ Some (length output.speakers)) }
 {
-    let sources = sources_to(alloc, conf, leg)?;
-    Output::new(alloc, stream_to(conf, leg), sources.as_slice())
+    let sources = sources_to(alloc, conference, leg)?;
+    Packetizer::new(alloc, stream_to(conference, leg), sources.as_slice())
 }
 
 /// Lets time go on to `now` for each of these legs.
@@ -122,7 +123,7 @@ fn expire_all(legs: &mut [Leg], now: u64, mixer: &mut Mixer)
 }
 
 /// Writes the packet of this post, and sends it.
-fn send<T: Terminals>(post: &Post, outputs: &mut [Output], terminals: &mut T)
+fn send<T: Terminals>(post: &Post, outputs: &mut [Packetizer], terminals: &mut T)
     requires { IsPost (counts_of outputs.old) post.now }
     ensures { counts_of outputs.new ≡ counts_of outputs.old }
 {
@@ -136,7 +137,7 @@ fn send<T: Terminals>(post: &Post, outputs: &mut [Output], terminals: &mut T)
 }
 
 /// Sends what these posts are, one after the other.
-fn send_all<T: Terminals>(posts: &[Post], outputs: &mut [Output], terminals: &mut T)
+fn send_all<T: Terminals>(posts: &[Post], outputs: &mut [Packetizer], terminals: &mut T)
     requires { ArePosts (counts_of outputs.old) posts.now }
     ensures { counts_of outputs.new ≡ counts_of outputs.old }
 {

@@ -6,8 +6,8 @@ ghost use Rattle.mixer_turn.specs.States.{legs_of};
 ghost use Rattle.example_gateway.specs.Mixers.{IsSame};
 ghost use Rattle.rtt_base.specs.declared.limits.TheConstants.{END_OF_MOMENTS};
 
-use conference::Conf;
-use ear::{Ear, EarConf, is_blank};
+use conference::Conference;
+use ear::{Ear, EarSettings, is_blank};
 use mixer_turn::Mixer;
 use rtt_base::limits::MOST_ARRIVALS;
 use rtt_base::{Chunk, Full, NoMemory};
@@ -26,7 +26,7 @@ pub(crate) struct Leg {
 
 /// What became of the next text of a leg.
 #[derive(Clone, Copy, Debug, PartialEq, Eq)]
-enum Offered {
+enum OfferAnswer {
     /// There is none.
     Nothing,
     /// The mixer took it, or it is a keep-alive.
@@ -37,14 +37,14 @@ enum Offered {
 
 impl Leg {
     /// The leg with this number, of which nothing came.
-    pub(crate) fn new(alloc: Global, conf: &Conf, leg: usize) -> Result<Leg, NoMemory>
-        requires { leg < length conf.now.legs }
+    pub(crate) fn new(alloc: Global, conference: &Conference, leg: usize) -> Result<Leg, NoMemory>
+        requires { leg < length conference.now.legs }
     {
-        let line = &conf.legs.as_slice()[leg];
-        let ear = EarConf {
+        let line = &conference.legs.as_slice()[leg];
+        let ear = EarSettings {
             ssrc: line.ssrc,
-            pts: line.pts,
-            wait: u64::from(conf.wait),
+            payload_types: line.payload_types,
+            wait: u64::from(conference.wait),
         };
         Ok(Leg {
             ear: Ear::new(alloc, ear, &[ear.ssrc])?,
@@ -65,20 +65,20 @@ impl Leg {
     }
 
     /// Offers the next text.
-    fn offer(&mut self, leg: u8, mixer: &mut Mixer) -> Offered
+    fn offer(&mut self, leg: u8, mixer: &mut Mixer) -> OfferAnswer
         requires leg { leg < legs_of mixer.old }
-        ensures quiet { result ≡ Offered.Nothing → is_quiet self.new.ear ≡ true }
+        ensures quiet { result ≡ OfferAnswer.Nothing → is_quiet self.new.ear ≡ true }
         ensures same { IsSame mixer.old mixer.new }
     {
         if !self.listen() {
-            return Offered::Nothing;
+            return OfferAnswer::Nothing;
         }
         self.next.source = leg;
         self.waits = !is_blank(self.next.text.as_slice()) && mixer.offer(&self.next).is_err();
         if self.waits {
-            Offered::Waits
+            OfferAnswer::Waits
         } else {
-            Offered::Taken
+            OfferAnswer::Taken
         }
     }
 }
@@ -92,9 +92,9 @@ impl Leg {
     {
         for _ in 0..u64::MAX {
             match self.offer(leg, mixer) {
-                Offered::Nothing => return true,
-                Offered::Taken => {}
-                Offered::Waits => return false,
+                OfferAnswer::Nothing => return true,
+                OfferAnswer::Taken => {}
+                OfferAnswer::Waits => return false,
             }
         }
         false

@@ -14,7 +14,7 @@ const TWO: &[u8] =
 const HI: &[u8] =
     b"\x80\xE4\x00\x07\x00\x00\x03\xE8\x00\x00\x03\xE9\xE2\x09\x60\x00\xE2\x04\xB0\x00\x62Hi";
 
-const MARK: &[u8] =
+const EXCLAMATION: &[u8] =
     b"\x80\x64\x00\x08\x00\x00\x05\x14\x00\x00\x03\xE9\xE2\x09\x60\x00\xE2\x04\xB0\x02\x62Hi!";
 
 /// The packets to Bob's terminal: Ann's text, then her next one with the first repeated, then both repeated, then the second
@@ -33,12 +33,12 @@ const FOURTH: &[u8] =
 
 /// What a turn sent to Bob's terminal, and whether it sent something to Ann's.
 #[derive(Drop)]
-struct Sent {
+struct TurnSent {
     to_bob: Packet,
     to_ann: bool,
 }
 
-impl Terminals for Sent {
+impl Terminals for TurnSent {
     fn send(&mut self, leg: usize, packet: &[u8]) {
         if leg == 1 {
             let _ = self.to_bob.append(packet);
@@ -56,7 +56,7 @@ fn type_at(rt: &impl Abort, gateway: &mut Gateway, now: u32, datagram: &[u8]) {
 
 /// A turn sends Bob's terminal this packet, or nothing, and Ann's nothing.
 fn expect_at(rt: &impl Abort, gateway: &mut Gateway, now: u32, packet: &[u8]) {
-    let mut sent = Sent {
+    let mut sent = TurnSent {
         to_bob: Packet::new(),
         to_ann: false,
     };
@@ -74,11 +74,11 @@ fn expect_alone_at(rt: &impl Abort, gateway: &mut Gateway, now: u32, packet: &[u
 
 #[test]
 fn what_ann_types_is_sent_to_bob_and_repeated(rt: HostRuntime) -> Result<(), Fail> {
-    let conf = read_conf(rt.alloc(), TWO, Form::Links)?;
-    let mut gateway = Gateway::new(rt.alloc(), &conf)?;
+    let conference = read_conf(rt.alloc(), TWO, Form::Links)?;
+    let mut gateway = Gateway::new(rt.alloc(), &conference)?;
     type_at(&rt, &mut gateway, 90, HI);
     expect_alone_at(&rt, &mut gateway, 100, FIRST);
-    type_at(&rt, &mut gateway, 390, MARK);
+    type_at(&rt, &mut gateway, 390, EXCLAMATION);
     expect_alone_at(&rt, &mut gateway, 400, SECOND);
     expect_alone_at(&rt, &mut gateway, 700, THIRD);
     expect_alone_at(&rt, &mut gateway, 1000, FOURTH);

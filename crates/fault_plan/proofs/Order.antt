@@ -8,11 +8,11 @@ use Rattle.std.specs.List.Sorted.{IsPermutation, IsSorted}
 use Rattle.std.proofs.lemmas.Bool.Decides.{nat_tests}
 use Rattle.std.proofs.lemmas.List.Sorted.{sum_by-IsPermutation}
 use Rattle.std.proofs.lemmas.List.Sums.{sum_by-cons}
-use Rattle.file_spec.specs.declared.conf_lines.PlanLine.{PlanLine}
+use Rattle.file_spec.specs.declared.conference_lines.PlanLine.{PlanLine}
 use Rattle.stream_spec.specs.Lists.{In}
 use Rattle.mixer_spec.specs.Arrives.{Copy, arrives, InOrder, is_same, is_sooner, times_in}
 use Rattle.mixer_spec.proofs.OneOrder.{only_law}
-use Rattle.fault_plan.specs.declared.arriving.Arrival.{Arrival}
+use Rattle.fault_plan.specs.declared.copies.Arrival.{Arrival}
 use Rattle.fault_plan.specs.Arriving.{AreCopies, copies_of, copy_of}
 
 -- how the code compares two arrivals

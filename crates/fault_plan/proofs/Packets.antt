@@ -2,9 +2,9 @@
 use Rattle.std.proofs.Common.{◌≡◌, ℕ, ◌+◌, ◌<◌, ◌≤◌, List, [], ◌∷◌, ◌++◌, length, drop, get_or, refl, ap, ◌∙◌, arith, add-one, drop-cons}
 use Rattle.std.specs.Prelude.{suc}
 use Rattle.std.proofs.Math.ListN.{drop_of_length-le}
-use Rattle.file_spec.specs.declared.conf_lines.PlanLine.{PlanLine}
+use Rattle.file_spec.specs.declared.conference_lines.PlanLine.{PlanLine}
 use Rattle.mixer_spec.specs.Arrives.{Copy, all_copies, copies, lines_of, times_in}
-use Rattle.fault_plan.specs.declared.arriving.Arrival.{Arrival}
+use Rattle.fault_plan.specs.declared.copies.Arrival.{Arrival}
 use Rattle.fault_plan.specs.Arriving.{copies_of, copy_of, times_of}
 
 times-append : (c : Copy) (xs ys : List Copy) → times_in c (xs ++ ys) ≡ times_in c xs + times_in c ys

@@ -5,8 +5,8 @@ use Rattle.std.specs.List.Sorted.{IsNonDecreasing}
 use Rattle.std.proofs.lemmas.List.{reverse-append}
 use Rattle.std.proofs.lemmas.Bool.{cases_lt}
 use Rattle.std.proofs.lemmas.Bool.Decides.{nat_tests}
-use Rattle.file_spec.specs.declared.conf_lines.PlanLine.{PlanLine}
-use Rattle.file_spec.specs.declared.conf_lines.What.{What}
+use Rattle.file_spec.specs.declared.conference_lines.PlanLine.{PlanLine}
+use Rattle.file_spec.specs.declared.conference_lines.What.{What}
 use Rattle.wire_spec.specs.Packets.{Arrival}
 use Rattle.mixer_spec.specs.Arrives.{Copy, all_copies, arrival, arrivals, arrivals_of_copies, arrives, copies, lines_of, one_at, times_in}
 use Rattle.mixer_spec.proofs.OneOrder.{only_law}

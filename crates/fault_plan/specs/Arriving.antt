@@ -1,8 +1,8 @@
 -- Arrivals as the definition has them (profile).
 use Rattle.std.specs.Prelude.{◌≡◌, ℕ, ◌<◌, ◌^◌, List, map}
-use Rattle.file_spec.specs.declared.conf_lines.PlanLine.{PlanLine}
+use Rattle.file_spec.specs.declared.conference_lines.PlanLine.{PlanLine}
 use Rattle.mixer_spec.specs.Arrives.{Copy, all_copies, times_in}
-use Rattle.fault_plan.specs.declared.arriving.Arrival.{Arrival}
+use Rattle.fault_plan.specs.declared.copies.Arrival.{Arrival}
 
 abbrev pub copy_of : Arrival → Copy
 copy_of a = record { at = a.at; index = a.index }

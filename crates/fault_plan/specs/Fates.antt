@@ -1,8 +1,8 @@
 -- What the lines of a plan make of a packet together (profile).
 use Rattle.std.specs.Prelude.{◌≡◌, ◌<◌, ℕ, List, length, slice_index_or}
 use Rattle.std.specs.List.{list_any}
-use Rattle.file_spec.specs.declared.conf_lines.PlanLine.{PlanLine}
-use Rattle.file_spec.specs.declared.conf_lines.What.{What}
+use Rattle.file_spec.specs.declared.conference_lines.PlanLine.{PlanLine}
+use Rattle.file_spec.specs.declared.conference_lines.What.{What}
 use Rattle.mixer_spec.specs.Arrives.{delay, doubles, lines_of, loses}
 use Rattle.fault_plan.specs.declared.fates.Fate.{Fate}
 

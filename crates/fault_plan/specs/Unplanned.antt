@@ -1,6 +1,6 @@
 -- Terminals of which a plan does not speak.
 use Rattle.std.specs.Prelude.{◌≢◌, ℕ, List}
-use Rattle.file_spec.specs.declared.conf_lines.PlanLine.{PlanLine}
+use Rattle.file_spec.specs.declared.conference_lines.PlanLine.{PlanLine}
 use Rattle.stream_spec.specs.Lists.{In}
 
 -- no line is of the terminal t

@@ -1,7 +1,7 @@
 //! What becomes of each packet.
 ghost use Rattle.std.specs.Prelude.{◌≡◌, List, [], ◌∷◌, vec_len, IfOk};
-ghost use Rattle.file_spec.specs.declared.conf_lines.PlanLine.{PlanLine};
-ghost use Rattle.file_spec.specs.declared.conf_lines.What.{What};
+ghost use Rattle.file_spec.specs.declared.conference_lines.PlanLine.{PlanLine};
+ghost use Rattle.file_spec.specs.declared.conference_lines.What.{What};
 ghost use Rattle.fault_plan.specs.Fates.{fate_of, AreFates};
 
 use file_spec::{PlanLine, What};
@@ -34,7 +34,7 @@ impl Fate {
 }
 
 /// Marks the packet of a line that stands above the others, where it is one of this terminal.
-fn mark(fates: &mut [Fate], line: PlanLine, terminal: u8)
+fn apply(fates: &mut [Fate], line: PlanLine, terminal: u8)
     ensures { (lines : List PlanLine) → AreFates lines terminal fates.old → AreFates (line ∷ lines) terminal fates.new }
 {
     let place = line.packet as usize;
@@ -55,7 +55,7 @@ pub(crate) fn fates_of(
 {
     let mut fates = vec![in alloc; Fate::default(); packets]?;
     for line in plan.iter().rev() {
-        mark(&mut fates, *line, terminal);
+        apply(&mut fates, *line, terminal);
     }
     Ok(fates)
 }

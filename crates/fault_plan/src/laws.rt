@@ -1,7 +1,7 @@
 //! Laws of plans.
 ghost use Rattle.std.specs.Prelude.{◌≡◌, ◌≢◌, ℕ, List, map, reverse};
 ghost use Rattle.std.specs.List.Sorted.{IsNonDecreasing};
-ghost use Rattle.file_spec.specs.declared.conf_lines.PlanLine.{PlanLine};
+ghost use Rattle.file_spec.specs.declared.conference_lines.PlanLine.{PlanLine};
 ghost use Rattle.wire_spec.specs.Packets.{Arrival};
 ghost use Rattle.mixer_spec.specs.Arrives.{arrivals};
 ghost use Rattle.fault_plan.specs.Unplanned.{IsUnplanned};

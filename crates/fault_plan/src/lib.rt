@@ -1,10 +1,10 @@
 //! What comes to a terminal of the packets that were sent to it, by the plan of a conference.
 #![tactic(auto)]
 
-mod arriving;
+mod copies;
 mod fates;
 pub mod laws;
 #[cfg(test)]
 mod tests;
 
-pub use arriving::{Arrival, arrivals};
+pub use copies::{Arrival, arrivals};

@@ -7,4 +7,4 @@ mod numerals;
 
 pub use faults::ConfFault;
 pub use lines::{next_line, says_nothing, text_of};
-pub use numerals::{number_before_space, number_from, number_of, pts_of};
+pub use numerals::{number_before_space, number_from, number_of, payload_types_of};

@@ -2,12 +2,12 @@
 
 ghost use Rattle.std.specs.Prelude.{◌≡◌, ◌≤◌, true, IfSome};
 ghost use Rattle.std.specs.Char.{is_ascii_digit, digit_value};
-ghost use Rattle.file_spec.specs.Numbers.{number, number_between, pts};
+ghost use Rattle.file_spec.specs.Numbers.{number, number_between, payload_types};
 ghost use Rattle.file_spec.specs.Sound.{IsBetween};
 ghost use Rattle.file_lines.specs.Fronts.{AreInFront, number_and_rest, number_and_octets};
 
 use file_spec::limits::{FIRST_TYPE, LAST_TYPE};
-use rtt_base::Pts;
+use rtt_base::PayloadTypes;
 
 /// The digits at the front of a text, at most ten of them.
 #[derive(Clone, Copy)]
@@ -93,12 +93,12 @@ pub fn number_from(text: &str, least: u32, most: u32) -> Option<u32>
 }
 
 /// The two payload types, if both are of the dynamic ones (RFC 3551, section 3).
-pub fn pts_of(t140: &str, red: &str) -> Option<Pts>
-    ensures { result ≡ pts t140.now red.now }
+pub fn payload_types_of(t140: &str, red: &str) -> Option<PayloadTypes>
+    ensures { result ≡ payload_types t140.now red.now }
 {
     let t140 = number_from(t140, FIRST_TYPE, LAST_TYPE)?;
     let red = number_from(red, FIRST_TYPE, LAST_TYPE)?;
-    Some(Pts {
+    Some(PayloadTypes {
         t140: t140 as u8,
         red: red as u8,
     })

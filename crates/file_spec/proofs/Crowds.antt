@@ -5,8 +5,8 @@ use Rattle.std.specs.List.{list_any}
 use Rattle.std.proofs.lemmas.Bool.{cases_Bool, true≢false, and_parts, or_parts, or_cases, leb-true, le-leb, ltb-true, ltb-false, lt-ltb, cases_lt}
 use Rattle.std.proofs.lemmas.List.Sums.{length-filter}
 use Rattle.file_spec.specs.declared.limits.TheConstants.{MOST_STAYING}
-use Rattle.file_spec.specs.declared.conf_lines.Stay.{Stay}
-use Rattle.file_spec.specs.declared.conf_lines.LegLine.{LegLine}
+use Rattle.file_spec.specs.declared.conference_lines.Stay.{Stay}
+use Rattle.file_spec.specs.declared.conference_lines.LegLine.{LegLine}
 use Rattle.file_spec.specs.Stays.{is_before_end, stays_at, staying, is_crowd, NeverCrowd, HasCrowd}
 
 -- each of the legs

@@ -3,16 +3,16 @@ use Rattle.std.proofs.Common.{◌≡◌, ℕ, ◌+◌, Bool, true, false, Option
 use Rattle.std.specs.Prelude.{not, nat_lt, if◌then◌else◌, Result, Ok, Err, codes, bytes_eq, ◌==◌, is_some}
 use Rattle.std.specs.Str.{is_utf8}
 use Rattle.std.specs.Str.Lines.{lines}
-use Rattle.file_spec.specs.declared.limits.TheConstants.{FEWEST_LEGS, LEAST_TICK, MOST_TICK, LEAST_SPACING, MOST_SPACING, LEAST_RELABEL, MOST_RELABEL, LEAST_GONE, MOST_GONE, MOST_TURNS, MOST_CONF_OCTETS, USUAL_GENS}
+use Rattle.file_spec.specs.declared.limits.TheConstants.{FEWEST_LEGS, LEAST_TICK, MOST_TICK, LEAST_SPACING, MOST_SPACING, LEAST_RELABEL, MOST_RELABEL, LEAST_GONE, MOST_GONE, MOST_TURNS, MOST_CONFERENCE_OCTETS, USUAL_GENERATIONS}
 use Rattle.file_spec.specs.declared.kinds.ConfKind.{ConfKind}
 use Rattle.file_spec.specs.declared.kinds.ConfKind.TheVariants.{NotText, Few, Crowd, Large, Name, Number, Twice, Clash, Word}
-use Rattle.file_spec.specs.declared.conf_lines.Form.{Form}
-use Rattle.file_spec.specs.declared.conf_lines.Form.TheVariants.{Files, Links}
-use Rattle.file_spec.specs.declared.conf_lines.MixerLine.{MixerLine}
-use Rattle.file_spec.specs.declared.conf_lines.GensLine.{GensLine}
-use Rattle.file_spec.specs.declared.conf_lines.StayLine.{StayLine}
-use Rattle.file_spec.specs.declared.conf_lines.LegLine.{LegLine}
-use Rattle.file_spec.specs.declared.conf_lines.PlanLine.{PlanLine}
+use Rattle.file_spec.specs.declared.conference_lines.Form.{Form}
+use Rattle.file_spec.specs.declared.conference_lines.Form.TheVariants.{Files, Links}
+use Rattle.file_spec.specs.declared.conference_lines.MixerLine.{MixerLine}
+use Rattle.file_spec.specs.declared.conference_lines.GenerationsLine.{GenerationsLine}
+use Rattle.file_spec.specs.declared.conference_lines.StayLine.{StayLine}
+use Rattle.file_spec.specs.declared.conference_lines.LegLine.{LegLine}
+use Rattle.file_spec.specs.declared.conference_lines.PlanLine.{PlanLine}
 use Rattle.file_spec.specs.declared.services.OperatorLine.{OperatorLine}
 use Rattle.file_spec.specs.declared.services.ServiceLine.{ServiceLine}
 use Rattle.file_spec.specs.declared.services.ServiceLine.TheVariants as service
@@ -21,14 +21,14 @@ use Rattle.file_spec.specs.Steps.{unless}
 use Rattle.file_spec.specs.Lines.{Line, words, told, at_line, read_lines}
 use Rattle.file_spec.specs.Stays.{is_crowd}
 use Rattle.file_spec.specs.Services.{is_operator_word}
-use Rattle.file_spec.specs.Conf.{Above, Conf, Entry, Leg, Gens, Stays, Tick, Spacing, Wait, Turns, Relabel, Mixer, Plan, Follows, Serves, says, time_or_other, stay_or_plan, follow_or_service, follow, counts, counts_or_other, of_form, service_word, operator, operator_of, prefix, port, is_same_port, nothing, with_entry, setting, mixer, leg, gens, stay, plan_word, entry, is_blank, and_line, whole, complete, conf, mixer_of, leg_of, new_leg, has_names, has_port, aware_of, whole_stay}
+use Rattle.file_spec.specs.Conference.{Above, Conference, Entry, Leg, Generations, Stays, Tick, Spacing, Wait, Turns, Relabel, Mixer, Plan, Follows, Serves, says, time_or_other, stay_or_plan, follow_or_service, follow, counts, counts_or_other, of_form, service_word, operator, operator_of, prefix, port, is_same_port, nothing, with_entry, setting, mixer, leg, generations, stay, plan_word, entry, is_blank, and_line, whole, complete, conference_from, mixer_of, leg_of, new_leg, has_names, has_port, aware_of, whole_stay}
 use Rattle.rtt_base.proofs.Steps.{bind_ok}
 use Rattle.file_spec.proofs.Passed.{unless_ok, ok_or_ok}
 use Rattle.rtt_base.specs.declared.limits.TheConstants.{LONGEST_WAIT}
 use Rattle.std.specs.List.{list_any}
 use Rattle.std.proofs.lemmas.Bool.{not-false}
 use Rattle.std.specs.Option.{ok_or}
-use Rattle.rtt_base.specs.declared.text_packets.Pts.{Pts}
+use Rattle.rtt_base.specs.declared.text_packets.PayloadTypes.{PayloadTypes}
 use Rattle.file_spec.specs.Numbers.{number, most_ssrc}
 
 pub at_ok : {A : Type 0} (n : ℕ) (r : Result A ConfKind) (x : A) → at_line n r ≡ Ok x → r ≡ Ok x
@@ -42,14 +42,14 @@ pub record MixerRead (above : Above) (ssrc seq : List ℕ) (x : MixerLine) : Typ
   pub first : ok_or (number 65535 seq) Number ≡ Ok x.seq
   pub differs : list_any (λ l. l.ssrc == x.ssrc) above.legs ≡ false
 
-pub mixer_read : (above : Above) (ssrc seq stamp : List ℕ) (x : MixerLine) → mixer_of above ssrc seq stamp ≡ Ok x → MixerRead above ssrc seq x
+pub mixer_read : (above : Above) (ssrc seq timestamp : List ℕ) (x : MixerLine) → mixer_of above ssrc seq timestamp ≡ Ok x → MixerRead above ssrc seq x
 unfolding mixer_of
-mixer_read above ssrc seq stamp x e =
+mixer_read above ssrc seq timestamp x e =
     let a = bind_ok (ok_or (number most_ssrc ssrc) Number) _ x e in
     let b = bind_ok (ok_or (number 65535 seq) Number) _ x a.2 in
-    let c = bind_ok (ok_or (number 4294967295 stamp) Number) _ x b.2 in
-    let d = bind_ok (unless (is_some above.mixer) Twice (record { ssrc = a.0; seq = b.0; stamp = c.0 })) _ x c.2 in
-    let u = unless_ok (is_some above.mixer) Twice (record { ssrc = a.0; seq = b.0; stamp = c.0 }) d.0 d.1 in
+    let c = bind_ok (ok_or (number 4294967295 timestamp) Number) _ x b.2 in
+    let d = bind_ok (unless (is_some above.mixer) Twice (record { ssrc = a.0; seq = b.0; timestamp = c.0 })) _ x c.2 in
+    let u = unless_ok (is_some above.mixer) Twice (record { ssrc = a.0; seq = b.0; timestamp = c.0 }) d.0 d.1 in
     let v = unless_ok (list_any (λ l. l.ssrc == a.0) above.legs) Clash d.0 x d.2 in
     subst (MixerRead above ssrc seq) (u.1 ∙ v.1) (record { source = a.1; first = b.1; differs = v.0 })
 
@@ -75,18 +75,18 @@ operator_read above at word x e =
     })
 
 -- what a line of a leg is read as
-pub record LegRead (form : Form) (above : Above) (name ssrc input output : List ℕ) (types : Option Pts) (x : LegLine) : Type 0 where
+pub record LegRead (form : Form) (above : Above) (name ssrc input output : List ℕ) (types : Option PayloadTypes) (x : LegLine) : Type 0 where
   pub line : LegLine
   pub names : unless (not (has_names form name input output)) Name name ≡ Ok line.name
   pub source : ok_or (number most_ssrc ssrc) Number ≡ Ok line.ssrc
   pub comes : unless (not (has_port form input)) Number input ≡ Ok line.input
-  pub types_are : ok_or types Number ≡ Ok line.pts
-  pub repeats : line.gens ≡ USUAL_GENS
+  pub types_are : ok_or types Number ≡ Ok line.payload_types
+  pub repeats : line.generations ≡ USUAL_GENERATIONS
   pub stays : line.stay ≡ whole_stay
   pub alone : line.follow ≡ false
   pub is : new_leg form above line ≡ Ok x
 
-pub leg_read : (form : Form) (above : Above) (n : ℕ) (name mode ssrc input output : List ℕ) (types : Option Pts) (x : LegLine) → leg_of form above n name mode ssrc input output types ≡ Ok x → LegRead form above name ssrc input output types x
+pub leg_read : (form : Form) (above : Above) (n : ℕ) (name mode ssrc input output : List ℕ) (types : Option PayloadTypes) (x : LegLine) → leg_of form above n name mode ssrc input output types ≡ Ok x → LegRead form above name ssrc input output types x
 unfolding leg_of
 leg_read form above n name mode ssrc input output types x e =
     let a = bind_ok (ok_or (aware_of mode) Word) _ x e in
@@ -95,7 +95,7 @@ leg_read form above n name mode ssrc input output types x e =
     let d = bind_ok (unless (not (has_port form input)) Number input) _ x c.2 in
     let f = bind_ok (ok_or types Number) _ x d.2 in
     record {
-      line = record { line = n; name = b.0; aware = a.0; ssrc = c.0; input = d.0; output = output; pts = f.0; gens = USUAL_GENS; stay = whole_stay; follow = false };
+      line = record { line = n; name = b.0; aware = a.0; ssrc = c.0; input = d.0; output = output; payload_types = f.0; generations = USUAL_GENERATIONS; stay = whole_stay; follow = false };
       names = b.1;
       source = c.1;
       comes = d.1;
@@ -133,7 +133,7 @@ service_holds P above h word more e q = go (bytes_eq word (codes "gone")) (bytes
 pub record HoldsOf (P : Entry → Type 0) (form : Form) (above : Above) (n : ℕ) : Type 0 where
   pub each_leg : (ws : List (List ℕ)) (x : LegLine) → leg form above n ws ≡ Ok x → P (Leg x)
   pub each_mixer : (ws : List (List ℕ)) (x : MixerLine) → mixer above ws ≡ Ok x → P (Mixer x)
-  pub each_gens : (ws : List (List ℕ)) (x : GensLine) → gens above ws ≡ Ok x → P (Gens x)
+  pub each_generations : (ws : List (List ℕ)) (x : GenerationsLine) → generations above ws ≡ Ok x → P (Generations x)
   pub each_stay : form ≡ Files → (ws : List (List ℕ)) (x : StayLine) → stay above ws ≡ Ok x → P (Stays x)
   pub each_plan : form ≡ Files → (word : List ℕ) (ws : List (List ℕ)) (x : PlanLine) → plan_word above word ws ≡ Ok x → P (Plan x)
   pub each_tick : (ws : List (List ℕ)) (x : ℕ) → setting LEAST_TICK MOST_TICK above.tick ws ≡ Ok x → P (Tick x)
@@ -192,10 +192,10 @@ module _ (P : Entry → Type 0) (form : Form) (above : Above) (n : ℕ) (h : Hol
   entry_holds [] e q = absurd (cc q)
   entry_holds (word ∷ more) e q = go (bytes_eq word (codes "leg")) (bytes_eq word (codes "mixer")) (bytes_eq word (codes "gens")) q
     where
-      go : (a b c : Bool) → (if a then says Leg (leg form above n more) else (if b then says Mixer (mixer above more) else (if c then says Gens (gens above more) else time_or_other form above word more))) ≡ Ok e → P e
+      go : (a b c : Bool) → (if a then says Leg (leg form above n more) else (if b then says Mixer (mixer above more) else (if c then says Generations (generations above more) else time_or_other form above word more))) ≡ Ok e → P e
       go true b c q = says_holds P Leg (leg form above n more) e (h.each_leg more) q
       go false true c q = says_holds P Mixer (mixer above more) e (h.each_mixer more) q
-      go false false true q = says_holds P Gens (gens above more) e (h.each_gens more) q
+      go false false true q = says_holds P Generations (generations above more) e (h.each_generations more) q
       go false false false q = time_holds word more e q
 
 -- what a line says is added to what the lines above say
@@ -215,8 +215,8 @@ lines_keep P form step above last (line ∷ more) e k =
 
 -- what the lines of a conference that is read say, of which this holds
 pub lines_of : (P : Above → Type 0) (form : Form) → ((above later : Above) (line : Line) → and_line form above line ≡ Ok later → P above → P later) → P nothing
-    → (octets : List ℕ) (c : Conf) → conf form octets ≡ Ok c → (above : Above) × P above × (complete above above.mixer ≡ Ok c)
-lines_of P form step none octets c e = go (nat_lt MOST_CONF_OCTETS (length octets)) e
+    → (octets : List ℕ) (c : Conference) → conference_from form octets ≡ Ok c → (above : Above) × P above × (complete above above.mixer ≡ Ok c)
+lines_of P form step none octets c e = go (nat_lt MOST_CONFERENCE_OCTETS (length octets)) e
   where
     go : (b : Bool) → (if b then Err (record { line = 0; kind = Large }) else (read_lines (and_line form) nothing (told is_blank 1 (lines octets)) >>= λ above. at_line (length (lines octets) + 1) (complete above above.mixer))) ≡ Ok c
         → (above : Above) × P above × (complete above above.mixer ≡ Ok c)
@@ -226,7 +226,7 @@ lines_of P form step none octets c e = go (nat_lt MOST_CONF_OCTETS (length octet
         (a.0, lines_keep P form step nothing a.0 (told is_blank 1 (lines octets)) a.1 none, at_ok (length (lines octets) + 1) (complete a.0 a.0.mixer) c a.2)
 
 -- what is complete has a mixer, legs enough and room for them
-pub completed : (above : Above) (m : Option MixerLine) (c : Conf) → complete above m ≡ Ok c
+pub completed : (above : Above) (m : Option MixerLine) (c : Conference) → complete above m ≡ Ok c
     → (x : MixerLine) × (m ≡ Some x) × (nat_lt (length above.legs) FEWEST_LEGS ≡ false) × (is_crowd above.legs ≡ false) × (whole above x ≡ c)
 completed above None c e = absurd (cc e)
 completed above (Some m) c e =

@@ -9,19 +9,19 @@ use Rattle.std.proofs.lemmas.List.Elements.{All-nil, All-push}
 use Rattle.std.proofs.lemmas.List.Folds.{list_any_at}
 use Rattle.std.proofs.lemmas.List.Quantifiers.{all_pairs_push, position-Some}
 use Rattle.std.proofs.lemmas.Slice.Eq.{bytes_eq-Decides}
-use Rattle.rtt_base.specs.declared.text_packets.Pts.{Pts}
-use Rattle.file_spec.specs.declared.limits.TheConstants.{FEWEST_LEGS, MOST_LEGS, LEAST_TICK, MOST_TICK, USUAL_TICK, LEAST_SPACING, MOST_SPACING, USUAL_SPACING, LEAST_RELABEL, MOST_RELABEL, LEAST_GONE, MOST_GONE, MOST_TURNS, MOST_GENS, USUAL_GENS, MOST_PLAN_LINES, LONGEST_DELAY, FIRST_TYPE, LAST_TYPE, LAST_MOMENT}
+use Rattle.rtt_base.specs.declared.text_packets.PayloadTypes.{PayloadTypes}
+use Rattle.file_spec.specs.declared.limits.TheConstants.{FEWEST_LEGS, MOST_LEGS, LEAST_TICK, MOST_TICK, USUAL_TICK, LEAST_SPACING, MOST_SPACING, USUAL_SPACING, LEAST_RELABEL, MOST_RELABEL, LEAST_GONE, MOST_GONE, MOST_TURNS, MOST_GENERATIONS, USUAL_GENERATIONS, MOST_PLAN_LINES, LONGEST_DELAY, FIRST_TYPE, LAST_TYPE, LAST_MOMENT}
 use Rattle.file_spec.specs.declared.kinds.ConfKind.TheVariants.{Word, Name, Number, Many, PlanMany, Twice, Clash}
-use Rattle.file_spec.specs.declared.conf_lines.Form.{Form}
-use Rattle.file_spec.specs.declared.conf_lines.Form.TheVariants.{Files, Links}
-use Rattle.file_spec.specs.declared.conf_lines.MixerLine.{MixerLine}
-use Rattle.file_spec.specs.declared.conf_lines.Stay.{Stay}
-use Rattle.file_spec.specs.declared.conf_lines.GensLine.{GensLine}
-use Rattle.file_spec.specs.declared.conf_lines.StayLine.{StayLine}
-use Rattle.file_spec.specs.declared.conf_lines.LegLine.{LegLine}
-use Rattle.file_spec.specs.declared.conf_lines.PlanLine.{PlanLine}
-use Rattle.file_spec.specs.declared.conf_lines.What.{What}
-use Rattle.file_spec.specs.declared.conf_lines.What.TheVariants as what
+use Rattle.file_spec.specs.declared.conference_lines.Form.{Form}
+use Rattle.file_spec.specs.declared.conference_lines.Form.TheVariants.{Files, Links}
+use Rattle.file_spec.specs.declared.conference_lines.MixerLine.{MixerLine}
+use Rattle.file_spec.specs.declared.conference_lines.Stay.{Stay}
+use Rattle.file_spec.specs.declared.conference_lines.GenerationsLine.{GenerationsLine}
+use Rattle.file_spec.specs.declared.conference_lines.StayLine.{StayLine}
+use Rattle.file_spec.specs.declared.conference_lines.LegLine.{LegLine}
+use Rattle.file_spec.specs.declared.conference_lines.PlanLine.{PlanLine}
+use Rattle.file_spec.specs.declared.conference_lines.What.{What}
+use Rattle.file_spec.specs.declared.conference_lines.What.TheVariants as what
 use Rattle.file_spec.specs.declared.services.OperatorLine.{OperatorLine}
 use Rattle.file_spec.specs.declared.services.Service.{Service}
 use Rattle.file_spec.specs.declared.services.ServiceLine.{ServiceLine}
@@ -29,9 +29,9 @@ use Rattle.file_spec.specs.declared.services.ServiceLine.TheVariants as service
 use Rattle.rtt_base.specs.Steps.{◌>>=◌}
 use Rattle.file_spec.specs.Steps.{unless}
 use Rattle.file_spec.specs.Lines.{Line}
-use Rattle.file_spec.specs.Numbers.{number, most_ssrc, number_between, payload_type, pts}
+use Rattle.file_spec.specs.Numbers.{number, most_ssrc, number_between, payload_type, payload_types}
 use Rattle.file_spec.specs.Stays.{IsStay, is_crowd}
-use Rattle.file_spec.specs.Conf.{Above, Conf, Entry, Leg, Gens, Stays, Tick, Spacing, Wait, Turns, Relabel, Mixer, Plan, Follows, Serves, nothing, with_entry, change_leg, with_gens, with_stay, with_follow, setting, mixer, mixer_of, is_mixers, is_name, has_names, has_port, shares_own, shares_path, clashes, most_legs, new_leg, aware_of, whole_stay, usual_types, leg_of, leg, place_of, gens_of, gens, stay_of, stay, is_same_packet, plan_of, plan, delay_of, delay, plan_word, counts, service_word, operator, port, is_same_port, is_operators, and_line, whole, conf, prefix, is_path}
+use Rattle.file_spec.specs.Conference.{Above, Conference, Entry, Leg, Generations, Stays, Tick, Spacing, Wait, Turns, Relabel, Mixer, Plan, Follows, Serves, nothing, with_entry, change_leg, with_generations, with_stay, with_follow, setting, mixer, mixer_of, is_mixers, is_name, has_names, has_port, shares_own, shares_path, clashes, most_legs, new_leg, aware_of, whole_stay, usual_types, leg_of, leg, place_of, generations_of, generations, stay_of, stay, is_same_packet, plan_of, plan, delay_of, delay, plan_word, counts, service_word, operator, port, is_same_port, is_operators, and_line, whole, conference_from, prefix, is_path}
 use Rattle.file_spec.specs.Sound.{IsBetween}
 use Rattle.file_spec.specs.Services.{with_service}
 use Rattle.file_spec.specs.Kept.{IsLeg, Differ, AreLegs, IsMixerFor, IsShort, IsTick, IsSpacing, IsWait, AreTurns, IsRelabel, IsGone, IsOperatorFor, IsServiceFor, Keeps, IsConference}
@@ -66,7 +66,7 @@ IsNewService above service.Counts = Unit {0}
 
 abbrev IsNew : Above → Entry → Type 0
 IsNew above (Leg l) = IsNewLeg above l
-IsNew above (Gens g) = g.gens ≤ MOST_GENS
+IsNew above (Generations g) = g.generations ≤ MOST_GENERATIONS
 IsNew above (Stays s) = IsStay s.stay
 IsNew above (Tick n) = IsTick n
 IsNew above (Spacing n) = IsSpacing n
@@ -176,7 +176,7 @@ changed_legs change leaves k ls legs = record {
   differ = λ i j d l h. changed_pair change leaves ls k i j d (legs.differ i j d l (shorter change k ls j h));
 }
 
-changed : (above : Above) (change : LegLine → LegLine) → Leaves change → (k : ℕ) (gs ss : List ℕ) → Keeps above → Keeps (record above { legs = change_leg change k above.legs; gens = gs; stays = ss })
+changed : (above : Above) (change : LegLine → LegLine) → Leaves change → (k : ℕ) (gs ss : List ℕ) → Keeps above → Keeps (record above { legs = change_leg change k above.legs; generations = gs; stays = ss })
 changed above change leaves k gs ss kept = record {
   legs = changed_legs change leaves k above.legs kept.legs;
   tick = kept.tick;
@@ -205,19 +205,19 @@ changed above change leaves k gs ss kept = record {
   };
 }
 
-gens_leave : (n : ℕ) → n ≤ MOST_GENS → Leaves (with_gens n)
-gens_leave n few = record { name = λ l. refl; ssrc = λ l. refl; input = λ l. refl; output = λ l. refl; leg = λ l is. record { name = is.name; types = is.types; gens = few; stay = is.stay } }
+generations_leave : (n : ℕ) → n ≤ MOST_GENERATIONS → Leaves (with_generations n)
+generations_leave n few = record { name = λ l. refl; ssrc = λ l. refl; input = λ l. refl; output = λ l. refl; leg = λ l is. record { name = is.name; types = is.types; generations = few; stay = is.stay } }
 
 stay_leaves : (s : Stay) → IsStay s → Leaves (with_stay s)
-stay_leaves s stays = record { name = λ l. refl; ssrc = λ l. refl; input = λ l. refl; output = λ l. refl; leg = λ l is. record { name = is.name; types = is.types; gens = is.gens; stay = stays } }
+stay_leaves s stays = record { name = λ l. refl; ssrc = λ l. refl; input = λ l. refl; output = λ l. refl; leg = λ l is. record { name = is.name; types = is.types; generations = is.generations; stay = stays } }
 
 follow_leaves : Leaves with_follow
-follow_leaves = record { name = λ l. refl; ssrc = λ l. refl; input = λ l. refl; output = λ l. refl; leg = λ l is. record { name = is.name; types = is.types; gens = is.gens; stay = is.stay } }
+follow_leaves = record { name = λ l. refl; ssrc = λ l. refl; input = λ l. refl; output = λ l. refl; leg = λ l is. record { name = is.name; types = is.types; generations = is.generations; stay = is.stay } }
 
 more : (above : Above) (said : Entry) → Keeps above → IsNew above said → Keeps (with_entry above said)
 more above (Leg l) k new = leg_more above l k new
-more above (Gens g) k new = changed above (with_gens g.gens) (gens_leave g.gens new) g.leg _ above.stays k
-more above (Stays s) k new = changed above (with_stay s.stay) (stay_leaves s.stay new) s.leg above.gens _ k
+more above (Generations g) k new = changed above (with_generations g.generations) (generations_leave g.generations new) g.leg _ above.stays k
+more above (Stays s) k new = changed above (with_stay s.stay) (stay_leaves s.stay new) s.leg above.generations _ k
 more above (Tick n) k new = record { legs = k.legs; tick = λ m e. subst IsTick (some_same n m e) new; spacing = k.spacing; wait = k.wait; turns = k.turns; relabel = k.relabel; mixer = k.mixer; plan = k.plan; service = k.service }
 more above (Spacing n) k new = record { legs = k.legs; tick = k.tick; spacing = λ m e. subst IsSpacing (some_same n m e) new; wait = k.wait; turns = k.turns; relabel = k.relabel; mixer = k.mixer; plan = k.plan; service = k.service }
 more above (Wait n) k new = record { legs = k.legs; tick = k.tick; spacing = k.spacing; wait = λ m e. subst IsWait (some_same n m e) new; turns = k.turns; relabel = k.relabel; mixer = k.mixer; plan = k.plan; service = k.service }
@@ -225,7 +225,7 @@ more above (Turns n) k new = record { legs = k.legs; tick = k.tick; spacing = k.
 more above (Relabel n) k new = record { legs = k.legs; tick = k.tick; spacing = k.spacing; wait = k.wait; turns = k.turns; relabel = λ m e. subst IsRelabel (some_same n m e) new; mixer = k.mixer; plan = k.plan; service = k.service }
 more above (Mixer x) k new = record { legs = k.legs; tick = k.tick; spacing = k.spacing; wait = k.wait; turns = k.turns; relabel = k.relabel; mixer = λ m e. subst (IsMixerFor above.legs) (some_same x m e) new; plan = k.plan; service = k.service }
 more above (Plan p) k new = plan_more above p k new
-more above (Follows n) k new = changed above with_follow follow_leaves n above.gens above.stays k
+more above (Follows n) k new = changed above with_follow follow_leaves n above.generations above.stays k
 more above (Serves s) k new = record { legs = k.legs; tick = k.tick; spacing = k.spacing; wait = k.wait; turns = k.turns; relabel = k.relabel; mixer = k.mixer; plan = k.plan; service = service_more above s k new }
 
 -- ---- tests of the lines above
@@ -268,24 +268,24 @@ named : (form : Form) (name input output : List ℕ) → has_names form name inp
 named Files name input output e = (and_parts (is_name name) _ e).0
 named Links name input output e = (and_parts (is_name name) _ e).0
 
-own_types : (form : Form) (l : LegLine) → shares_own form l ≡ false → l.pts.t140 ≢ l.pts.red
-own_types Files l e = no_number l.pts.t140 l.pts.red (or_parts (l.pts.t140 == l.pts.red) (bytes_eq l.output l.input) e).0
-own_types Links l e = no_number l.pts.t140 l.pts.red e
+own_types : (form : Form) (l : LegLine) → shares_own form l ≡ false → l.payload_types.t140 ≢ l.payload_types.red
+own_types Files l e = no_number l.payload_types.t140 l.payload_types.red (or_parts (l.payload_types.t140 == l.payload_types.red) (bytes_eq l.output l.input) e).0
+own_types Links l e = no_number l.payload_types.t140 l.payload_types.red e
 
 most_is : (form : Form) (n : ℕ) → n < most_legs form → n < MOST_LEGS
 most_is Files n h = h
 most_is Links n h = omega arith
 
 -- two dynamic types, which may still be the same
-record AreDynamic (types : Pts) : Type 0 where
+record AreDynamic (types : PayloadTypes) : Type 0 where
   t140 : IsBetween FIRST_TYPE LAST_TYPE types.t140
   red : IsBetween FIRST_TYPE LAST_TYPE types.red
 
 -- what the tests of the words alone have let through
 record IsWorded (l : LegLine) : Type 0 where
   name : is_name l.name ≡ true
-  types : AreDynamic l.pts
-  gens : l.gens ≤ MOST_GENS
+  types : AreDynamic l.payload_types
+  generations : l.generations ≤ MOST_GENERATIONS
   stay : IsStay l.stay
 
 -- what `new_leg` has let through
@@ -305,7 +305,7 @@ new_ok form above l x worded e =
       leg = record {
         name = worded.name;
         types = record { t140 = worded.types.t140; red = worded.types.red; differ = own_types form l r.0 };
-        gens = worded.gens;
+        generations = worded.generations;
         stay = worded.stay;
       };
       differ = λ i dd h. record {
@@ -320,22 +320,22 @@ new_ok form above l x worded e =
 always : IsStay whole_stay
 always = record { from = omega arith; until = λ n e. absurd (cc e); some = λ n e. absurd (cc e) }
 
-leg_of_ok : (form : Form) (above : Above) (n : ℕ) (name mode ssrc input output : List ℕ) (types : Option Pts) (x : LegLine) → ((p : Pts) → types ≡ Some p → AreDynamic p) → leg_of form above n name mode ssrc input output types ≡ Ok x → IsNewLeg above x
+leg_of_ok : (form : Form) (above : Above) (n : ℕ) (name mode ssrc input output : List ℕ) (types : Option PayloadTypes) (x : LegLine) → ((p : PayloadTypes) → types ≡ Some p → AreDynamic p) → leg_of form above n name mode ssrc input output types ≡ Ok x → IsNewLeg above x
 leg_of_ok form above n name mode ssrc input output types x dynamic e =
     let r = leg_read form above n name mode ssrc input output types x e in
     let u = unless_ok (not (has_names form name input output)) Name name r.line.name r.names in
     new_ok form above r.line x
     (record {
       name = subst (λ (text : List ℕ). is_name text ≡ true) u.1 (named form name input output (not-false (has_names form name input output) u.0));
-      types = dynamic r.line.pts (ok_or_ok types Number r.line.pts r.types_are);
-      gens = omega (arith, r.repeats);
+      types = dynamic r.line.payload_types (ok_or_ok types Number r.line.payload_types r.types_are);
+      generations = omega (arith, r.repeats);
       stay = subst IsStay (sym r.stays) always;
     }) r.is
 
-usual : (p : Pts) → Some usual_types ≡ Some p → AreDynamic p
+usual : (p : PayloadTypes) → Some usual_types ≡ Some p → AreDynamic p
 usual p e = subst AreDynamic (some_same usual_types p e) (record { t140 = record { low = omega arith; high = omega arith }; red = record { low = omega arith; high = omega arith } })
 
-written : (t140 red : List ℕ) (p : Pts) → pts t140 red ≡ Some p → AreDynamic p
+written : (t140 red : List ℕ) (p : PayloadTypes) → payload_types t140 red ≡ Some p → AreDynamic p
 written t140 red p e =
     let a = then_some (payload_type t140) _ p e in
     let b = then_some (payload_type red) _ p a.2 in
@@ -349,24 +349,24 @@ leg_ok form above n (a ∷ b ∷ c ∷ []) x e = absurd (cc e)
 leg_ok form above n (a ∷ b ∷ c ∷ d ∷ []) x e = absurd (cc e)
 leg_ok form above n (a ∷ b ∷ c ∷ d ∷ f ∷ []) x e = leg_of_ok form above n a b c d f (Some usual_types) x usual e
 leg_ok form above n (a ∷ b ∷ c ∷ d ∷ f ∷ g ∷ []) x e = absurd (cc e)
-leg_ok form above n (a ∷ b ∷ c ∷ d ∷ f ∷ g ∷ h ∷ []) x e = leg_of_ok form above n a b c d f (pts g h) x (written g h) e
+leg_ok form above n (a ∷ b ∷ c ∷ d ∷ f ∷ g ∷ h ∷ []) x e = leg_of_ok form above n a b c d f (payload_types g h) x (written g h) e
 leg_ok form above n (a ∷ b ∷ c ∷ d ∷ f ∷ g ∷ h ∷ i ∷ more) x e = absurd (cc e)
 
 -- ---- generations and stays
-gens_of_ok : (above : Above) (name count : List ℕ) (x : GensLine) → gens_of above name count ≡ Ok x → x.gens ≤ MOST_GENS
-unfolding gens_of
-gens_of_ok above name count x e =
+generations_of_ok : (above : Above) (name count : List ℕ) (x : GenerationsLine) → generations_of above name count ≡ Ok x → x.generations ≤ MOST_GENERATIONS
+unfolding generations_of
+generations_of_ok above name count x e =
     let a = bind_ok (place_of above name) _ x e in
-    let b = bind_ok (ok_or (number MOST_GENS count) Number) _ x a.2 in
-    let u = unless_ok (list_any (λ other. other == a.0) above.gens) Twice (record { leg = a.0; gens = b.0 }) x b.2 in
-    let n = number_most MOST_GENS count b.0 (ok_or_ok (number MOST_GENS count) Number b.0 b.1) in
-    subst (λ (y : GensLine). y.gens ≤ MOST_GENS) u.1 n
+    let b = bind_ok (ok_or (number MOST_GENERATIONS count) Number) _ x a.2 in
+    let u = unless_ok (list_any (λ other. other == a.0) above.generations) Twice (record { leg = a.0; generations = b.0 }) x b.2 in
+    let n = number_most MOST_GENERATIONS count b.0 (ok_or_ok (number MOST_GENERATIONS count) Number b.0 b.1) in
+    subst (λ (y : GenerationsLine). y.generations ≤ MOST_GENERATIONS) u.1 n
 
-gens_ok : (above : Above) (ws : List (List ℕ)) (x : GensLine) → gens above ws ≡ Ok x → x.gens ≤ MOST_GENS
-gens_ok above [] x e = absurd (cc e)
-gens_ok above (a ∷ []) x e = absurd (cc e)
-gens_ok above (a ∷ b ∷ []) x e = gens_of_ok above a b x e
-gens_ok above (a ∷ b ∷ c ∷ more) x e = absurd (cc e)
+generations_ok : (above : Above) (ws : List (List ℕ)) (x : GenerationsLine) → generations above ws ≡ Ok x → x.generations ≤ MOST_GENERATIONS
+generations_ok above [] x e = absurd (cc e)
+generations_ok above (a ∷ []) x e = absurd (cc e)
+generations_ok above (a ∷ b ∷ []) x e = generations_of_ok above a b x e
+generations_ok above (a ∷ b ∷ c ∷ more) x e = absurd (cc e)
 
 stay_of_ok : (above : Above) (name from until : List ℕ) (x : StayLine) → stay_of above name from until ≡ Ok x → IsStay x.stay
 unfolding stay_of
@@ -394,9 +394,9 @@ stay_ok above (a ∷ b ∷ c ∷ []) x e = stay_of_ok above a b c x e
 stay_ok above (a ∷ b ∷ c ∷ d ∷ more) x e = absurd (cc e)
 
 -- ---- the mixer
-mixer_of_ok : (above : Above) (ssrc seq stamp : List ℕ) (x : MixerLine) → mixer_of above ssrc seq stamp ≡ Ok x → IsMixerFor above.legs x
-mixer_of_ok above ssrc seq stamp x e =
-    let r = mixer_read above ssrc seq stamp x e in
+mixer_of_ok : (above : Above) (ssrc seq timestamp : List ℕ) (x : MixerLine) → mixer_of above ssrc seq timestamp ≡ Ok x → IsMixerFor above.legs x
+mixer_of_ok above ssrc seq timestamp x e =
+    let r = mixer_read above ssrc seq timestamp x e in
     let n = number_most 65535 seq x.seq (ok_or_ok (number 65535 seq) Number x.seq r.first) in
     record { seq = omega arith; differs = no_ssrc above.legs x.ssrc r.differs }
 
@@ -423,7 +423,7 @@ plan_of_ok above name packet happens x short e =
     subst (IsNewPlan above) (u.1 ∙ v.1) (record { room = leb-false MOST_PLAN_LINES (length above.plan) u.0; terminal = at.0; delay = short c.0 (ok_or_ok happens Number c.0 c.1); others = others })
   where
     a_leg : LegLine
-    a_leg = record { line = 0; name = []; aware = false; ssrc = 0; input = []; output = []; pts = record { t140 = 0; red = 0 }; gens = 0; stay = whole_stay; follow = false }
+    a_leg = record { line = 0; name = []; aware = false; ssrc = 0; input = []; output = []; payload_types = record { t140 = 0; red = 0 }; generations = 0; stay = whole_stay; follow = false }
 
 plan_ok : (above : Above) (w : What) (ws : List (List ℕ)) (x : PlanLine) → IsShort w → plan above w ws ≡ Ok x → IsNewPlan above x
 plan_ok above w [] x short e = absurd (cc e)
@@ -496,7 +496,7 @@ entry_ok : (form : Form) (above : Above) (n : ℕ) → HoldsOf (IsNew above) for
 entry_ok form above n = record {
   each_leg = leg_ok form above n;
   each_mixer = mixer_ok above;
-  each_gens = gens_ok above;
+  each_generations = generations_ok above;
   each_stay = λ q. stay_ok above;
   each_plan = λ q. plan_word_ok above;
   each_tick = setting_ok LEAST_TICK MOST_TICK above.tick;
@@ -547,7 +547,7 @@ whole_keeps above m k said two room = record {
   service = k.service;
 }
 
-pub accepted_keeps : (form : Form) (octets : List ℕ) (c : Conf) → conf form octets ≡ Ok c → IsConference c
+pub accepted_keeps : (form : Form) (octets : List ℕ) (c : Conference) → conference_from form octets ≡ Ok c → IsConference c
 accepted_keeps form octets c e =
     let a = lines_of Keeps form (line_keeps form) nothing_keeps octets c e in
     let d = completed a.0 a.0.mixer c a.2 in

@@ -1,4 +1,4 @@
-mod ConfExamples
+mod ConferenceExamples
 pub mod Crowds
 mod NumberExamples
 pub mod KeptLines

@@ -7,7 +7,7 @@ use Rattle.std.specs.Str.{byte}
 use Rattle.std.proofs.lemmas.Bool.{and_parts, or_cases, leb-true, eqb-true}
 use Rattle.std.proofs.lemmas.Str.{IsUtf8-append, IsUtf8-nil, IsUtf8-from_ascii}
 use Rattle.file_spec.specs.declared.limits.TheConstants.{LONGEST_NAME}
-use Rattle.file_spec.specs.Conf.{is_name_octet, is_name}
+use Rattle.file_spec.specs.Conference.{is_name_octet, is_name}
 
 octet_ascii : (c : ℕ) → is_name_octet c ≡ true → c < 128
 octet_ascii c e = elim (or_cases (is_ascii_alphanumeric c) (c == byte "." || (c == byte "_" || c == byte "-")) e) [

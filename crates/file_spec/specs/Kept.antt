@@ -1,32 +1,32 @@
 -- What a conference keeps that a file describes (profile).
 use Rattle.std.specs.Prelude.{◌≡◌, ◌≢◌, ◌<◌, ◌≤◌, ℕ, false, Some, IsTrue, List, length, All, AllPairs}
 use Rattle.std.specs.Option.{ForSome}
-use Rattle.rtt_base.specs.declared.text_packets.Pts.{Pts}
-use Rattle.file_spec.specs.declared.limits.TheConstants.{FEWEST_LEGS, MOST_LEGS, LEAST_TICK, MOST_TICK, LEAST_SPACING, MOST_SPACING, LEAST_RELABEL, MOST_RELABEL, LEAST_GONE, MOST_GONE, MOST_TURNS, MOST_GENS, MOST_PLAN_LINES, LONGEST_DELAY, FIRST_TYPE, LAST_TYPE}
-use Rattle.file_spec.specs.declared.conf_lines.LegLine.{LegLine}
-use Rattle.file_spec.specs.declared.conf_lines.MixerLine.{MixerLine}
-use Rattle.file_spec.specs.declared.conf_lines.PlanLine.{PlanLine}
-use Rattle.file_spec.specs.declared.conf_lines.What.{What}
-use Rattle.file_spec.specs.declared.conf_lines.What.TheVariants.{Delay}
+use Rattle.rtt_base.specs.declared.text_packets.PayloadTypes.{PayloadTypes}
+use Rattle.file_spec.specs.declared.limits.TheConstants.{FEWEST_LEGS, MOST_LEGS, LEAST_TICK, MOST_TICK, LEAST_SPACING, MOST_SPACING, LEAST_RELABEL, MOST_RELABEL, LEAST_GONE, MOST_GONE, MOST_TURNS, MOST_GENERATIONS, MOST_PLAN_LINES, LONGEST_DELAY, FIRST_TYPE, LAST_TYPE}
+use Rattle.file_spec.specs.declared.conference_lines.LegLine.{LegLine}
+use Rattle.file_spec.specs.declared.conference_lines.MixerLine.{MixerLine}
+use Rattle.file_spec.specs.declared.conference_lines.PlanLine.{PlanLine}
+use Rattle.file_spec.specs.declared.conference_lines.What.{What}
+use Rattle.file_spec.specs.declared.conference_lines.What.TheVariants.{Delay}
 use Rattle.file_spec.specs.declared.services.OperatorLine.{OperatorLine}
 use Rattle.file_spec.specs.declared.services.Service.{Service}
-use Rattle.file_spec.specs.Conf.{Above, Conf, is_name, is_path, is_same_packet, port}
+use Rattle.file_spec.specs.Conference.{Above, Conference, is_name, is_path, is_same_packet, port}
 use Rattle.file_spec.specs.Services.{is_operator_word}
 use Rattle.file_spec.specs.Sound.{IsBetween}
 use Rattle.file_spec.specs.Stays.{IsStay, NeverCrowd}
 use Rattle.rtt_base.specs.declared.limits.TheConstants.{LONGEST_WAIT}
 
 -- two dynamic payload types (RFC 3551, section 3)
-pub record AreTwoTypes (pts : Pts) : Type 0 where
-  pub t140 : IsBetween FIRST_TYPE LAST_TYPE pts.t140
-  pub red : IsBetween FIRST_TYPE LAST_TYPE pts.red
-  pub differ : pts.t140 ≢ pts.red
+pub record AreTwoTypes (payload_types : PayloadTypes) : Type 0 where
+  pub t140 : IsBetween FIRST_TYPE LAST_TYPE payload_types.t140
+  pub red : IsBetween FIRST_TYPE LAST_TYPE payload_types.red
+  pub differ : payload_types.t140 ≢ payload_types.red
 
 -- a leg by itself: its name has 1 to 32 letters, digits, `.`, `_` and `-`
 pub record IsLeg (leg : LegLine) : Type 0 where
   pub name : IsTrue (is_name leg.name)
-  pub types : AreTwoTypes leg.pts
-  pub gens : leg.gens ≤ MOST_GENS
+  pub types : AreTwoTypes leg.payload_types
+  pub generations : leg.generations ≤ MOST_GENERATIONS
   pub stay : IsStay leg.stay
 
 -- two legs beside each other
@@ -97,7 +97,7 @@ pub record Keeps (above : Above) : Type 0 where
   pub service : IsServiceFor above.legs above.service
 
 -- what the whole keeps
-pub record IsConference (c : Conf) : Type 0 where
+pub record IsConference (c : Conference) : Type 0 where
   pub two : FEWEST_LEGS ≤ length c.legs
   pub legs : AreLegs c.legs
   pub room : NeverCrowd c.legs

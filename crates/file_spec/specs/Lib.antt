@@ -1,4 +1,4 @@
-pub mod Conf
+pub mod Conference
 pub mod Kept
 pub mod Lines
 pub mod Numbers

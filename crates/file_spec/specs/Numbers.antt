@@ -4,7 +4,7 @@ use Rattle.std.specs.List.{list_all}
 use Rattle.std.specs.Char.{is_ascii_digit}
 use Rattle.std.specs.Str.Parse.{digits_value}
 use Rattle.file_spec.specs.declared.limits.TheConstants.{FIRST_TYPE, LAST_TYPE}
-use Rattle.rtt_base.specs.declared.text_packets.Pts.{Pts}
+use Rattle.rtt_base.specs.declared.text_packets.PayloadTypes.{PayloadTypes}
 
 abbrev pub is_number : List ℕ → Bool
 is_number text = nat_lt 0 (length text) && (nat_le (length text) 10 && list_all is_ascii_digit text)
@@ -25,5 +25,5 @@ most_ssrc = 4294967295
 abbrev pub payload_type : List ℕ → Option ℕ
 payload_type text = number_between FIRST_TYPE LAST_TYPE text
 
-abbrev pub pts : List ℕ → List ℕ → Option Pts
-pts t140 red = option_and_then (λ t. option_and_then (λ r. Some (record { t140 = t; red = r })) (payload_type red)) (payload_type t140)
+abbrev pub payload_types : List ℕ → List ℕ → Option PayloadTypes
+payload_types t140 red = option_and_then (λ t. option_and_then (λ r. Some (record { t140 = t; red = r })) (payload_type red)) (payload_type t140)

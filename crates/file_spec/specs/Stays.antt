@@ -3,8 +3,8 @@ use Rattle.std.specs.Prelude.{◌≤◌, ◌<◌, ℕ, Bool, true, nat_lt, nat_l
 use Rattle.std.specs.List.{list_any}
 use Rattle.std.specs.Option.{ForSome}
 use Rattle.file_spec.specs.declared.limits.TheConstants.{MOST_STAYING, LAST_MOMENT}
-use Rattle.file_spec.specs.declared.conf_lines.Stay.{Stay}
-use Rattle.file_spec.specs.declared.conf_lines.LegLine.{LegLine}
+use Rattle.file_spec.specs.declared.conference_lines.Stay.{Stay}
+use Rattle.file_spec.specs.declared.conference_lines.LegLine.{LegLine}
 
 -- the moment t is before this end
 abbrev pub is_before_end : ℕ → Option ℕ → Bool

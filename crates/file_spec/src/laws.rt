@@ -1,8 +1,8 @@
 //! What holds of conferences. No code stands here.
 ghost use Rattle.std.specs.Prelude.{◌≡◌, ℕ, List, Ok, true, false};
-ghost use Rattle.file_spec.specs.declared.conf_lines.Form.{Form};
-ghost use Rattle.file_spec.specs.declared.conf_lines.LegLine.{LegLine};
-ghost use Rattle.file_spec.specs.Conf.{Conf, conf};
+ghost use Rattle.file_spec.specs.declared.conference_lines.Form.{Form};
+ghost use Rattle.file_spec.specs.declared.conference_lines.LegLine.{LegLine};
+ghost use Rattle.file_spec.specs.Conference.{Conference, conference_from};
 ghost use Rattle.file_spec.specs.Kept.{IsConference};
 ghost use Rattle.file_spec.specs.Stays.{HasCrowd, NeverCrowd, is_crowd};
 
@@ -10,7 +10,7 @@ ghost use Rattle.file_spec.specs.Stays.{HasCrowd, NeverCrowd, is_crowd};
 /// differ, each stay is not empty, at no moment too many legs stay, the plan is about packets to its legs, and an operator
 /// is heard at no leg's port.
 pub fn accepted_conferences_keep()
-    ensures { (form : Form) (octets : List ℕ) (c : Conf) → conf form octets ≡ Ok c → IsConference c }
+    ensures { (form : Form) (octets : List ℕ) (c : Conference) → conference_from form octets ≡ Ok c → IsConference c }
 {}
 
 /// Legs are tested for a crowd at the moments at which one comes. This finds each crowd, and nothing else.

@@ -34,9 +34,9 @@ pub const MOST_GONE: u32 = 86_400_000;
 /// How many turns the mixer may take: at least one.
 pub const MOST_TURNS: u32 = 5_000_000;
 /// How many redundant generations a terminal is sent.
-pub const MOST_GENS: u32 = 3;
+pub const MOST_GENERATIONS: u32 = 3;
 
-pub const USUAL_GENS: u8 = 2;
+pub const USUAL_GENERATIONS: u8 = 2;
 
 /// The most lines of a plan.
 pub const MOST_PLAN_LINES: usize = 4096;
@@ -64,7 +64,7 @@ pub const SHORTEST_WORD: usize = 8;
 
 pub const LONGEST_WORD: usize = 64;
 /// The greatest size of a conference file.
-pub const MOST_CONF_OCTETS: usize = 262_144;
+pub const MOST_CONFERENCE_OCTETS: usize = 262_144;
 /// The greatest size of a script.
 pub const MOST_SCRIPT_OCTETS: usize = 1_048_576;
 /// The longest text of a script line, its escapes read.

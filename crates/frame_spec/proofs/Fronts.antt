@@ -4,7 +4,7 @@ use Rattle.std.specs.Prelude.{◌≢◌}
 use Rattle.std.proofs.lemmas.Bool.{false≢true}
 use Rattle.std.proofs.lemmas.List.{take-append-le, drop-append-le}
 use Rattle.frame_spec.specs.declared.frames.Frame.{Frame}
-use Rattle.frame_spec.specs.declared.frames.FrameFault.{FrameFault}
+use Rattle.frame_spec.specs.declared.frames.FrameRefusal.{FrameRefusal}
 use Rattle.frame_spec.specs.declared.kinds.FrameKind.{FrameKind}
 use Rattle.frame_spec.specs.declared.kinds.FrameKind.TheVariants.{EndsInside}
 use Rattle.frame_spec.specs.declared.limits.TheConstants.{FRAME_HEAD_OCTETS, MOST_FRAMES_OCTETS}
@@ -84,10 +84,10 @@ pub long_front : (front rest : List ℕ) → MOST_FRAMES_OCTETS + FRAME_HEAD_OCT
 long_front front rest l = same_reading (length front) start front rest (omega arith) (omega arith) (omega (arith, l))
 
 -- ---- octets that have a fault whatever follows
-no_fault : (fault : FrameFault) → lasting None ≡ Some fault → ⊥
-no_fault fault e = false≢true (ap (λ (o : Option FrameFault). is_some o) e)
+no_fault : (fault : FrameRefusal) → lasting None ≡ Some fault → ⊥
+no_fault fault e = false≢true (ap (λ (o : Option FrameRefusal). is_some o) e)
 
-same_lasting : (n : ℕ) (p : Place) (xs ys : List ℕ) (fault : FrameFault) → length xs ≤ n → lasting (reading_from p xs).fault ≡ Some fault → reading_from p (xs ++ ys) ≡ reading_from p xs
+same_lasting : (n : ℕ) (p : Place) (xs ys : List ℕ) (fault : FrameRefusal) → length xs ≤ n → lasting (reading_from p xs).fault ≡ Some fault → reading_from p (xs ++ ys) ≡ reading_from p xs
 same_lasting n p [] ys fault few e = absurd (no_fault fault (sym (ap (λ (r : Reading). lasting r.fault) (nothing_left p)) ∙ e))
 same_lasting zero p (x ∷ xs) ys fault few e = absurd (omega (arith, few))
 same_lasting (suc n) p (x ∷ xs) ys fault few e = same_by_step p (x ∷ xs) ys (omega arith)
@@ -96,5 +96,5 @@ same_lasting (suc n) p (x ∷ xs) ys fault few e = same_by_step p (x ∷ xs) ys 
     let shorter = (behind_of p (x ∷ xs) q).shorter in
     same_lasting n (place_behind p (frame_of (x ∷ xs))) (drop (FRAME_HEAD_OCTETS + length_of (x ∷ xs)) (x ∷ xs)) ys fault (omega (arith, shorter, few)) (sym (ap (λ (r : Reading). lasting r.fault) (read_on p (x ∷ xs) (omega arith) q)) ∙ e))
 
-pub fault_lasts : (octets more : List ℕ) (fault : FrameFault) → lasting_fault octets ≡ Some fault → read_frames (octets ++ more) ≡ read_frames octets
+pub fault_lasts : (octets more : List ℕ) (fault : FrameRefusal) → lasting_fault octets ≡ Some fault → read_frames (octets ++ more) ≡ read_frames octets
 fault_lasts octets more fault e = same_lasting (length octets) start octets more fault (omega arith) e

@@ -6,7 +6,7 @@ use Rattle.std.specs.Str.{is_utf8}
 use Rattle.std.specs.Int.{w16, w32, to_be_bytes, from_be_bytes}
 use Rattle.rtt_base.specs.declared.limits.TheConstants.{MOST_TEXT_OCTETS}
 use Rattle.frame_spec.specs.declared.frames.Frame.{Frame}
-use Rattle.frame_spec.specs.declared.frames.FrameFault.{FrameFault}
+use Rattle.frame_spec.specs.declared.frames.FrameRefusal.{FrameRefusal}
 use Rattle.frame_spec.specs.declared.kinds.FrameKind.{FrameKind}
 use Rattle.frame_spec.specs.declared.kinds.FrameKind.TheVariants.{Time, Length, TooLarge, NotText, EndsInside}
 use Rattle.frame_spec.specs.declared.limits.TheConstants.{FRAME_HEAD_OCTETS, END_OF_FRAME_MOMENTS, MOST_FRAMES_OCTETS}
@@ -84,7 +84,7 @@ frame_fault p octets =
 -- the end, the next frame with its place behind it and the octets there, or the fault that stands in its place
 pub data Step : Type 0 where
   End : Step
-  Broken : (fault : FrameFault) → Step
+  Broken : (fault : FrameRefusal) → Step
   Next : (frame : Frame) (place : Place) (rest : List ℕ) → Step
 
 abbrev pub place_behind : Place → Frame → Place
@@ -101,7 +101,7 @@ frame_step p octets = if length octets == 0 then End else step_or p octets (fram
 -- the frames, oldest first, and the fault that ends them, if one does
 pub record Reading : Type 0 where
   pub frames : List Frame
-  pub fault : Option FrameFault
+  pub fault : Option FrameRefusal
 
 abbrev pub with_frame : Frame → Reading → Reading
 with_frame f r = record { frames = f ∷ r.frames; fault = r.fault }
@@ -132,7 +132,7 @@ Frames octets fs = read_frames octets ≡ record { frames = fs; fault = None }
 -- ---- what is known of octets that others may follow
 
 -- a frame that is begun may still become whole
-abbrev pub unless_ends_inside : FrameFault → Option FrameFault
+abbrev pub unless_ends_inside : FrameRefusal → Option FrameRefusal
 unless_ends_inside fault = elim fault.kind [
   | Time ↦ Some fault
   | Length ↦ Some fault
@@ -143,10 +143,10 @@ unless_ends_inside fault = elim fault.kind [
   | FrameKind.ManyFrames ↦ Some fault
 ]
 
-abbrev pub lasting : Option FrameFault → Option FrameFault
+abbrev pub lasting : Option FrameRefusal → Option FrameRefusal
 lasting None = None
 lasting (Some fault) = unless_ends_inside fault
 
 -- the fault that these octets have, whatever follows them
-abbrev pub lasting_fault : List ℕ → Option FrameFault
+abbrev pub lasting_fault : List ℕ → Option FrameRefusal
 lasting_fault octets = lasting (read_frames octets).fault

@@ -13,7 +13,7 @@ pub struct Frame {
 /// Why octets are read no further as frames, or why the frames of a file are not sent or not written.
 #[derive(Clone, Copy, Debug, PartialEq, Eq, Error)]
 #[error("byte {offset}: {kind}")]
-pub struct FrameFault {
+pub struct FrameRefusal {
     /// The first octet of the frame, counted from 0; the number of octets of all frames for `ManyFrames`.
     pub offset: u64,
     pub kind: FrameKind,

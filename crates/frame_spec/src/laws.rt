@@ -2,7 +2,7 @@
 ghost use Rattle.std.specs.Prelude.{◌≡◌, ◌≤◌, ◌+◌, ◌++◌, ℕ, List, Some, length};
 ghost use Rattle.frame_spec.specs.declared.limits.TheConstants.{FRAME_HEAD_OCTETS, MOST_FRAMES_OCTETS};
 ghost use Rattle.frame_spec.specs.declared.frames.Frame.{Frame};
-ghost use Rattle.frame_spec.specs.declared.frames.FrameFault.{FrameFault};
+ghost use Rattle.frame_spec.specs.declared.frames.FrameRefusal.{FrameRefusal};
 ghost use Rattle.frame_spec.specs.Frames.{AreFrames, Frames, frames_written, lasting_fault, read_frames};
 
 /// What is read of any octets are frames: in order, and of at most 1048576 octets together.
@@ -22,5 +22,5 @@ pub fn long_fronts_decide()
 
 /// Octets with a fault that lasts are read the same whatever follows them.
 pub fn faults_last()
-    ensures { (octets more : List ℕ) (fault : FrameFault) → lasting_fault octets ≡ Some fault → read_frames (octets ++ more) ≡ read_frames octets }
+    ensures { (octets more : List ℕ) (fault : FrameRefusal) → lasting_fault octets ≡ Some fault → read_frames (octets ++ more) ≡ read_frames octets }
 {}

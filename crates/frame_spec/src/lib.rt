@@ -6,5 +6,5 @@ mod kinds;
 pub mod laws;
 pub mod limits;
 
-pub use frames::{Frame, FrameFault};
+pub use frames::{Frame, FrameRefusal};
 pub use kinds::FrameKind;

@@ -4,7 +4,7 @@ use Rattle.std.specs.Prelude.{◌==◌, ◌&&◌, ◌||◌, nat_lt, nat_le}
 use Rattle.std.proofs.lemmas.Bool.{cases_Bool, cases_lt, true≢false, eqb-true, lt-ltb, le-ltb, le-leb, and_from, and_left, and_right, or_cases, or_left, or_right, not_from_false, false_from_ne_true}
 use Rattle.stream_spec.specs.Lists.{In}
 use Rattle.stream_spec.specs.Numbering.{Numbered, first_number, has_number, is_given_up, in_time, by_number, used}
-use Rattle.gap_tracker.specs.Holding.{Holds}
+use Rattle.gap_tracker.specs.Holding.{HoldsNumbers}
 use Rattle.stream_spec.proofs.Lists.{in_append, in_right}
 use Rattle.stream_spec.proofs.Matched.{used_in}
 use Rattle.stream_spec.proofs.Rising.{by_number_in, used_more}
@@ -12,7 +12,7 @@ use Rattle.stream_spec.proofs.GivingUp.{has_in, in_has, up_later, up_more}
 use Rattle.gap_tracker.specs.declared.answers.Taken.{Taken}
 use Rattle.gap_tracker.specs.declared.answers.Taken.TheVariants.{Before, Old, Repeat, Ready, Held}
 use Rattle.gap_tracker.specs.Stories.{Given, all_settled, is_settled, taken_as, is_used}
-use Rattle.gap_tracker.specs.States.{State, next_latest, IsRefused}
+use Rattle.gap_tracker.specs.States.{State, next_latest, PacketIsRefused}
 use Rattle.gap_tracker.specs.Tracks.{Holding}
 use Rattle.gap_tracker.proofs.Settling.{still_front}
 
@@ -60,7 +60,7 @@ module _ (wait : ℕ) (past : List Numbered) (t : ℕ) where
   not_used : (n : ℕ) → has_number past n ≡ false → has_number (used wait past) n ≡ false
   not_used n gone = false_from_ne_true (has_number (used wait past) n) (λ q. let r = has_in n (used wait past) q in true≢false (sym (in_has n past r.0 (used_in wait past r.0 r.1) r.2) ∙ gone))
 
-  pub settled_tells : (first front : ℕ) (out held : List Numbered) → Holds wait past t first front out held → has_number past front ≡ false → is_given_up wait past t front ≡ false → (n : ℕ) → first ≤ n → is_settled wait past t n ≡ nat_lt n front
+  pub settled_tells : (first front : ℕ) (out held : List Numbered) → HoldsNumbers wait past t first front out held → has_number past front ≡ false → is_given_up wait past t front ≡ false → (n : ℕ) → first ≤ n → is_settled wait past t n ≡ nat_lt n front
   settled_tells first front out held h gone waits n l = elim (cases_lt n front) [
     | inl lt ↦ rw (h.first_is n, lt-ltb n front lt) (all_done first (suc n - first) (λ k a b. done k a (omega arith)))
     | inr ge ↦ rw (h.first_is n, le-ltb n front ge) (one_open first (suc n - first) front h.begun (omega arith) (rw (not_used front gone, waits) refl))
@@ -97,14 +97,14 @@ module _ (s : State) (past : List Numbered) (given : List Given) (e : Numbered) 
   not_below : Holding s past given → s.first ≤ e.number → nat_lt e.number (first_number e.number past) ≡ false
   not_below h l = rw (h.holds.first_is e.number) (le-ltb e.number s.first l)
 
-  pub refused_why : Holding s past given → (taken : Taken) → IsRefused s e.number taken → ((e.number < s.front) ⊎ (has_number s.held e.number ≡ true)) × (is_used taken ≡ false)
+  pub refused_why : Holding s past given → (taken : Taken) → PacketIsRefused s e.number taken → ((e.number < s.front) ⊎ (has_number s.held e.number ≡ true)) × (is_used taken ≡ false)
   refused_why h Before r = (inl (let b = h.holds.begun in omega arith), refl)
   refused_why h Old r = (inl r.1, refl)
   refused_why h Repeat r = (inr r.2, refl)
   refused_why h Ready r = absurd r
   refused_why h Held r = absurd r
 
-  pub refused_answer : e.time ≡ s.moment → next_latest s ≡ None → Holding s past given → (taken : Taken) → IsRefused s e.number taken → taken_as s.wait past e ≡ taken
+  pub refused_answer : e.time ≡ s.moment → next_latest s ≡ None → Holding s past given → (taken : Taken) → PacketIsRefused s e.number taken → taken_as s.wait past e ≡ taken
   refused_answer m still h Before r = is_before (nat_lt e.number (first_number e.number past)) _ (rw (h.holds.first_is e.number) (lt-ltb e.number s.first r))
   refused_answer m still h Old r = is_old (nat_lt e.number (first_number e.number past)) (is_settled s.wait past e.time e.number) _ (not_below h r.0) (settled_at m still h r.0 ∙ lt-ltb e.number s.front r.1)
   refused_answer m still h Repeat r = is_repeat (nat_lt e.number (first_number e.number past)) (is_settled s.wait past e.time e.number) (has_number (used s.wait past) e.number) _ (not_below h r.0) (settled_at m still h r.0 ∙ le-ltb e.number s.front r.1)

@@ -7,7 +7,7 @@ use Rattle.rtt_base.specs.declared.text_packets.TextPacket.{TextPacket}
 use Rattle.gap_tracker.specs.Pools.{Pool, no_packet, packet_at, current_packet, with_current, turned_to, IsRenewed, one_if, times}
 use Rattle.gap_tracker.specs.States.{with_packet, put_current, settled_first, GivesFirst}
 use Rattle.gap_tracker.specs.Views.{numbered_in, settled_in, held_place, settled_place, places_of, AreSmall}
-use Rattle.gap_tracker.specs.Insides.{state_of, named_places, AreApart, IsSound}
+use Rattle.gap_tracker.specs.Insides.{state_of, named_places, AreApart, HoldIsSound}
 use Rattle.gap_tracker.specs.declared.holds.Hold.TheInside.{Inside}
 use Rattle.gap_tracker.specs.declared.holds.HeldPacket.{HeldPacket}
 use Rattle.gap_tracker.specs.declared.holds.SettledPacket.{SettledPacket}
@@ -129,12 +129,12 @@ written_state h w apart =
 abbrev changed_to : Inside → Pool → List HeldPacket → List SettledPacket → ℕ → ℕ → Inside
 changed_to h q held settled front latest = record h { pool = q; held = held; settled = settled; front = front; latest = latest }
 
-kept_sound : (h : Inside) (q : Pool) (held : List HeldPacket) (settled : List SettledPacket) (front latest : ℕ) → IsSound h → AreApart (changed_to h q held settled front latest)
-    → suc (length settled + length held + length q.spare) ≡ length q.packets → length settled + length held ≤ 65 → length q.packets ≤ 66 → AreSmall held → (h.arrivals ≡ 0 → length held ≡ 0) → IsSound (changed_to h q held settled front latest)
+kept_sound : (h : Inside) (q : Pool) (held : List HeldPacket) (settled : List SettledPacket) (front latest : ℕ) → HoldIsSound h → AreApart (changed_to h q held settled front latest)
+    → suc (length settled + length held + length q.spare) ≡ length q.packets → length settled + length held ≤ 65 → length q.packets ≤ 66 → AreSmall held → (h.arrivals ≡ 0 → length held ≡ 0) → HoldIsSound (changed_to h q held settled front latest)
 kept_sound h q held settled front latest i apart all room few small begun =
     record { apart = apart; all = all; room = room; few = few; wait = i.wait; moment = i.moment; early = i.early; arrivals = i.arrivals; top = i.top; small = small; begun = begun }
 
-pub written_sound : (h : Inside) (w : TextPacket) → IsSound h → IsSound (record h { pool = with_current h.pool w })
+pub written_sound : (h : Inside) (w : TextPacket) → HoldIsSound h → HoldIsSound (record h { pool = with_current h.pool w })
 written_sound h w i =
     let same = length-set h.pool.packets h.pool.current w in
     kept_sound h (with_current h.pool w) h.held h.settled h.front h.latest i
@@ -229,7 +229,7 @@ put_state h q at n apart r =
         ap (λ xs. map settled_place settled ++ xs) (map_put held_place held at x) ∙ (append_put (map settled_place settled) (map held_place held) at x.place
         ∙ ap (λ m. insert (places_of settled held) (m + at) x.place) (length-map settled settled_place))
 
-pub put_sound : (h : Inside) (q : Pool) (at n : ℕ) → IsSound h → IsRenewed h.pool q → length (state_of h).settled + length (state_of h).held ≤ 64 → 0 < h.arrivals → n < 2 ^ 60 → IsSound (held_with h q at n)
+pub put_sound : (h : Inside) (q : Pool) (at n : ℕ) → HoldIsSound h → IsRenewed h.pool q → length (state_of h).settled + length (state_of h).held ≤ 64 → 0 < h.arrivals → n < 2 ^ 60 → HoldIsSound (held_with h q at n)
 put_sound h q at n i r free came small =
     let room = kept_lengths h 64 free in
     let x : HeldPacket = record { number = n; time = h.moment; place = h.pool.current } in
@@ -253,7 +253,7 @@ settle_state h x rest latest e =
     let y : SettledPacket = record { number = x.number; ready = latest; place = x.place } in
     rw (settle_places h x rest latest e, map-append (settled_in h.pool.packets) h.settled (y ∷ []), e) refl
 
-pub settle_sound : (h : Inside) (x : HeldPacket) (rest : List HeldPacket) (latest : ℕ) → h.held ≡ x ∷ rest → IsSound h → IsSound (settled_with h x rest latest)
+pub settle_sound : (h : Inside) (x : HeldPacket) (rest : List HeldPacket) (latest : ℕ) → h.held ≡ x ∷ rest → HoldIsSound h → HoldIsSound (settled_with h x rest latest)
 settle_sound h x rest latest e i =
     let y : SettledPacket = record { number = x.number; ready = latest; place = x.place } in
     let one : length h.held ≡ suc (length rest) = ap length e in
@@ -303,7 +303,7 @@ once_state h q n latest apart r =
     places_once = places_settle h.settled (record { number = n; ready = latest; place = h.pool.current }) h.held ∙ (append_put (map settled_place h.settled) (map held_place h.held) 0 h.pool.current
         ∙ ap (λ m. insert (places_of h.settled h.held) (m + 0) h.pool.current) (length-map h.settled settled_place))
 
-pub once_sound : (h : Inside) (q : Pool) (n latest : ℕ) → IsSound h → IsRenewed h.pool q → length (state_of h).settled ≤ 64 → (state_of h).held ≡ [] → IsSound (once_with h q n latest)
+pub once_sound : (h : Inside) (q : Pool) (n latest : ℕ) → HoldIsSound h → IsRenewed h.pool q → length (state_of h).settled ≤ 64 → (state_of h).held ≡ [] → HoldIsSound (once_with h q n latest)
 once_sound h q n latest i r free none =
     let y : SettledPacket = record { number = n; ready = latest; place = h.pool.current } in
     let empty : length (state_of h).held ≡ 0 = ap length none in
@@ -323,7 +323,7 @@ given_gives h x rest e = (ap (map (settled_in h.pool.packets)) e, refl)
 pub given_packet : (h : Inside) (x : SettledPacket) (rest : List SettledPacket) → h.settled ≡ x ∷ rest → (state_of h).packets ≡ packet_at h.pool.packets x.place ∷ (state_of (given_with h x rest)).packets
 given_packet h x rest e = ap (λ xs. map (packet_at h.pool.packets) (places_of xs h.held)) e
 
-pub given_sound : (h : Inside) (x : SettledPacket) (rest : List SettledPacket) → h.settled ≡ x ∷ rest → IsSound h → IsSound (given_with h x rest)
+pub given_sound : (h : Inside) (x : SettledPacket) (rest : List SettledPacket) → h.settled ≡ x ∷ rest → HoldIsSound h → HoldIsSound (given_with h x rest)
 given_sound h x rest e i =
     let one : length h.settled ≡ suc (length rest) = ap length e in
     let more = length-append h.pool.spare (h.pool.current ∷ []) in
@@ -338,5 +338,5 @@ given_sound h x rest e i =
         let d = ap (λ xs. times p (places_of xs h.held)) e in
         omega (arith, a, b, c, d, i.apart p)
 
-pub given_room : (h : Inside) → IsSound h → 0 < length h.settled → length h.pool.spare < 65
+pub given_room : (h : Inside) → HoldIsSound h → 0 < length h.settled → length h.pool.spare < 65
 given_room h i some = let a = i.all in let f = i.few in omega (arith, a, f, some)

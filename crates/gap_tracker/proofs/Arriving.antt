@@ -11,7 +11,7 @@ use Rattle.gap_tracker.specs.States.{State, next_latest, put_at, IsPlace}
 use Rattle.gap_tracker.specs.Tracks.{Holding}
 use Rattle.gap_tracker.proofs.Settling.{still_few, still_front}
 use Rattle.gap_tracker.proofs.Places.{put_is, not_held}
-use Rattle.gap_tracker.specs.Holding.{Holds, Timed}
+use Rattle.gap_tracker.specs.Holding.{HoldsNumbers, Timed}
 use Rattle.gap_tracker.proofs.Keeping.{arrive, ignore, begin}
 use Rattle.stream_spec.proofs.GivingUp.{distinct_split, one}
 use Rattle.gap_tracker.proofs.Timing.{timed_more, end_by_crowd}
@@ -21,7 +21,7 @@ pub few : (s : State) → next_latest s ≡ None → length s.held ≤ 64
 few s still = still_few s.wait [] s.moment 0 s.front [] s.latest s.held still
 
 -- ---- ready times stay
-module _ (wait : ℕ) (past : List Numbered) (t first front latest : ℕ) (out held : List Numbered) (h : Holds wait past t first front out held) where
+module _ (wait : ℕ) (past : List Numbered) (t first front latest : ℕ) (out held : List Numbered) (h : HoldsNumbers wait past t first front out held) where
   pub out_above : (u : Numbered) → In u out → first ≤ u.number
   out_above u i =
       let j = subst (λ (us : List Numbered). In u us) (sym h.used_is) (in_left u out held i) in
@@ -44,7 +44,7 @@ module _ (wait : ℕ) (past : List Numbered) (t first front latest : ℕ) (out h
       go (u ∷ us) f = rw (f u (inl refl)) (ap (λ gs. due_at wait (e ∷ past) u ∷ gs) (go us (λ v i. f v (inr i))))
 
   -- with more than 64 above it the front was given up at this arrival
-  pub crowded : (e : Numbered) (held' : List Numbered) → is_given_up wait past e.time front ≡ false → Holds wait (e ∷ past) e.time first front out held' → 64 < length held' → has_number (e ∷ past) front ≡ false → end_of wait (e ∷ past) front ≡ e.time
+  pub crowded : (e : Numbered) (held' : List Numbered) → is_given_up wait past e.time front ≡ false → HoldsNumbers wait (e ∷ past) e.time first front out held' → 64 < length held' → has_number (e ∷ past) front ≡ false → end_of wait (e ∷ past) front ≡ e.time
   crowded e held' waits h' l gone =
       let split = distinct_split front (e ∷ past) in
       let none : one (has_number (e ∷ past) front) ≡ 0 = ap one gone in
@@ -56,8 +56,8 @@ module _ (s : State) (past : List Numbered) (given : List Given) (e : Numbered) 
   more_falling : e.time ≡ s.moment → Holding s past given → Falling (e ∷ past)
   more_falling m h = ((λ u i. let c = h.holds.came u i in omega arith), h.falling)
 
-  at_arrival : e.time ≡ s.moment → (h : Holding s past given) → Holds s.wait past e.time s.first s.front h.out s.held
-  at_arrival m h = subst (λ (t : ℕ). Holds s.wait past t s.first s.front h.out s.held) (sym m) h.holds
+  at_arrival : e.time ≡ s.moment → (h : Holding s past given) → HoldsNumbers s.wait past e.time s.first s.front h.out s.held
+  at_arrival m h = subst (λ (t : ℕ). HoldsNumbers s.wait past t s.first s.front h.out s.held) (sym m) h.holds
 
   more_timed : e.time ≡ s.moment → Holding s past given → Timed s.wait (e ∷ past) s.moment s.first s.front s.latest
   more_timed m h = subst (λ (t : ℕ). Timed s.wait (e ∷ past) t s.first s.front s.latest) m (timed_more s.wait e past s.moment s.first s.front s.latest (omega arith) h.holds.begun h.timed)
@@ -76,7 +76,7 @@ module _ (s : State) (past : List Numbered) (given : List Given) (e : Numbered) 
         r.0,
         record {
           out = h.out;
-          holds = subst (λ (t : ℕ). Holds s.wait (e ∷ past) t s.first s.front h.out s.held) m r.1;
+          holds = subst (λ (t : ℕ). HoldsNumbers s.wait (e ∷ past) t s.first s.front h.out s.held) m r.1;
           falling = more_falling m h;
           timed = more_timed m h;
           settled_is = more_settled m h;
@@ -92,13 +92,13 @@ module _ (s : State) (past : List Numbered) (given : List Given) (e : Numbered) 
       let fresh = not_held e.number s.held place h.holds.rising p in
       let r = arrive s.wait past s.first s.front h.out s.held e (at_arrival m h) (waits m still h) l fresh in
       let put : by_number e s.held ≡ insert s.held place e = put_is e s.held place h.holds.rising p in
-      let holds : Holds s.wait (e ∷ past) e.time s.first s.front h.out (insert s.held place e) = subst (λ (us : List Numbered). Holds s.wait (e ∷ past) e.time s.first s.front h.out us) put r.1 in
+      let holds : HoldsNumbers s.wait (e ∷ past) e.time s.first s.front h.out (insert s.held place e) = subst (λ (us : List Numbered). HoldsNumbers s.wait (e ∷ past) e.time s.first s.front h.out us) put r.1 in
       let u = few s still in
       let long : length (insert s.held place e) ≡ suc (length s.held) = ap length (sym put) ∙ length_by_number e s.held in (
         r.0,
         record {
           out = h.out;
-          holds = subst (λ (t : ℕ). Holds s.wait (e ∷ past) t s.first s.front h.out (insert s.held place e)) m holds;
+          holds = subst (λ (t : ℕ). HoldsNumbers s.wait (e ∷ past) t s.first s.front h.out (insert s.held place e)) m holds;
           falling = more_falling m h;
           timed = more_timed m h;
           settled_is = more_settled m h;
@@ -117,7 +117,7 @@ module _ (s : State) (past : List Numbered) (given : List Given) (e : Numbered) 
       let same : e.number - e.number ≡ 0 = omega arith in
       record {
         out = [];
-        holds = rw put (subst (λ (t : ℕ). Holds s.wait (e ∷ []) t e.number e.number [] (e ∷ [])) m (begin s.wait e));
+        holds = rw put (subst (λ (t : ℕ). HoldsNumbers s.wait (e ∷ []) t e.number e.number [] (e ∷ [])) m (begin s.wait e));
         falling = ((λ u i. absurd i), tt);
         timed = record { latest_is = rw (same, latest) refl; by_now = λ n a b. absurd (omega arith) };
         settled_is = settled;

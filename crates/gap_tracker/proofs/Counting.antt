@@ -8,7 +8,7 @@ use Rattle.stream_spec.specs.Numbering.{Numbered, numbered, greatest, first_numb
 use Rattle.gap_tracker.specs.declared.answers.Taken.{Taken}
 use Rattle.gap_tracker.specs.declared.answers.Taken.TheVariants.{Before as TooEarly, Old, Repeat, Ready, Held}
 use Rattle.gap_tracker.specs.Stories.{Story, Given, arrived, arriving, came, went, answer, is_in_time, is_settled, taken_as, is_used}
-use Rattle.gap_tracker.specs.States.{State, latest_from, next_latest, passed, counted, put_at, IsRefused, IsPlace}
+use Rattle.gap_tracker.specs.States.{State, latest_from, next_latest, passed, counted, put_at, PacketIsRefused, IsPlace}
 use Rattle.gap_tracker.specs.Views.{next_number}
 use Rattle.gap_tracker.specs.Tracks.{Holding, Waiting, Phase, Before, Within, Follows, Tracks}
 use Rattle.gap_tracker.proofs.Settling.{still_front}
@@ -76,13 +76,13 @@ pub record Refused (s : State) (story : Story) (n : ℕ) (p : Packet) (taken : T
   pub answer_is : taken ≡ taken_as story.wait (numbered story.past) (arriving story p)
   pub used_is : is_used taken ≡ in_time story.wait (arriving story p) (numbered story.past)
 
-pub refused_step : (s : State) (story : Story) (n : ℕ) (p : Packet) (taken : Taken) → Tracks s story → n ≡ number_after (numbered story.past) p.seq → IsRefused (counted s n) n taken → Refused s story n p taken
+pub refused_step : (s : State) (story : Story) (n : ℕ) (p : Packet) (taken : Taken) → Tracks s story → n ≡ number_after (numbered story.past) p.seq → PacketIsRefused (counted s n) n taken → Refused s story n p taken
 refused_step s story n p taken k q r = go k.follows.phase
   where
     go : Phase s story → Refused s story n p taken
-    go (Before w) = absurd (none taken (subst (λ (t : State). IsRefused t n taken) (counted_first s n (no_past s story k.follows w)) r))
+    go (Before w) = absurd (none taken (subst (λ (t : State). PacketIsRefused t n taken) (counted_first s n (no_past s story k.follows w)) r))
       where
-        none : (taken : Taken) → IsRefused (record s { arrivals = s.arrivals + 1; first = n; front = n; top = max s.top n }) n taken → ⊥
+        none : (taken : Taken) → PacketIsRefused (record s { arrivals = s.arrivals + 1; first = n; front = n; top = max s.top n }) n taken → ⊥
         none TooEarly l = omega arith
         none Old l = omega (arith, l.1)
         none Repeat l = true≢false (sym (ap (λ us. has_number us n) (sym w.held) ∙ l.2))
@@ -93,7 +93,7 @@ refused_step s story n p taken k q r = go k.follows.phase
         let is = counted_later s n b in
         let e = now_coming s n p in
         let eq = coming_is s story n p k.follows q in
-        let r' = subst (λ (t : State). IsRefused t n taken) is r in
+        let r' = subst (λ (t : State). PacketIsRefused t n taken) is r in
         let why = refused_why s (numbered story.past) story.given e h taken (same taken r') in
         let by = pass_by s (numbered story.past) story.given e (s.arrivals + 1) (max s.top n) refl k.still why.0 h in
         record {
@@ -105,7 +105,7 @@ refused_step s story n p taken k q r = go k.follows.phase
           used_is = why.1 ∙ (sym by.0 ∙ (ap (λ x. in_time s.wait x (numbered story.past)) eq ∙ ap (λ w. in_time w (arriving story p) (numbered story.past)) k.follows.wait));
         }
       where
-        same : (taken : Taken) → IsRefused (record s { arrivals = s.arrivals + 1; top = max s.top n }) n taken → IsRefused s n taken
+        same : (taken : Taken) → PacketIsRefused (record s { arrivals = s.arrivals + 1; top = max s.top n }) n taken → PacketIsRefused s n taken
         same TooEarly l = l
         same Old l = l
         same Repeat l = l
@@ -190,11 +190,11 @@ then_tracks : (s0 sp s1 : State) (story : Story) (now : ℕ) → sp ≡ passed s
 then_tracks s0 sp s1 story now e stands still k = record { follows = stands (went story now) (subst (λ (s : State). Follows s (went story now)) (sym e) (pass_follows s0 story now k)); still = still }
 
 pub refused_all : (s0 sp s1 sc : State) (story : Story) (now n : ℕ) (p : Packet) (taken : Taken) → sp ≡ passed s0 now → ((st : Story) → Follows sp st → Follows s1 st) → next_latest s1 ≡ None
-    → n ≡ next_number s1 p.seq → sc ≡ counted s1 n → IsRefused sc n taken → Tracks s0 story
+    → n ≡ next_number s1 p.seq → sc ≡ counted s1 n → PacketIsRefused sc n taken → Tracks s0 story
     → Tracks sc (came story now p) × (taken ≡ answer story now p) × (is_used taken ≡ is_in_time story now p)
 refused_all s0 sp s1 sc story now n p taken e stands still q c r k =
     let k1 = then_tracks s0 sp s1 story now e stands still k in
-    let d = refused_step s1 (went story now) n p taken k1 (q ∙ number_is s1 (went story now) p.seq k1.follows) (subst (λ (s : State). IsRefused s n taken) c r) in (
+    let d = refused_step s1 (went story now) n p taken k1 (q ∙ number_is s1 (went story now) p.seq k1.follows) (subst (λ (s : State). PacketIsRefused s n taken) c r) in (
       subst (λ (s : State). Tracks s (came story now p)) (sym c) (record { follows = d.follows; still = d.still }),
       d.answer_is,
       d.used_is,

@@ -1,4 +1,4 @@
--- Each step of a tracker keeps `Holds`.
+-- Each step of a tracker keeps `HoldsNumbers`.
 use Rattle.std.proofs.Common.{◌≡◌, ℕ, suc, ◌+◌, ◌<◌, ◌≤◌, Bool, true, false, cond, not, ◌⊎◌, inl, inr, List, [], ◌∷◌, ◌++◌, length, refl, ap, subst, sym, ◌∙◌, arith, append_assoc}
 use Rattle.std.specs.Prelude.{◌&&◌, ◌||◌, ◌==◌, nat_lt, nat_le}
 use Rattle.std.specs.List.{list_any}
@@ -9,9 +9,9 @@ use Rattle.stream_spec.proofs.Lists.{any_in, in_any, in_right, in_append}
 use Rattle.stream_spec.proofs.Matched.{in_by_number, used_in}
 use Rattle.stream_spec.proofs.Rising.{by_number_in, length_by_number, rising_put}
 use Rattle.stream_spec.proofs.GivingUp.{has_in, in_has, one, distinct_split, distinct_same, is_cause, cause_at, cause_from, up_weaker, up_later, up_below, up_more}
-use Rattle.gap_tracker.specs.Holding.{Holds}
+use Rattle.gap_tracker.specs.Holding.{HoldsNumbers}
 
-pub later : (wait : ℕ) (past : List Numbered) (t t' first front : ℕ) (out held : List Numbered) → t ≤ t' → Holds wait past t first front out held → Holds wait past t' first front out held
+pub later : (wait : ℕ) (past : List Numbered) (t t' first front : ℕ) (out held : List Numbered) → t ≤ t' → HoldsNumbers wait past t first front out held → HoldsNumbers wait past t' first front out held
 later wait past t t' first front out held l h = record {
   used_is = h.used_is;
   first_is = h.first_is;
@@ -25,12 +25,12 @@ later wait past t t' first front out held l h = record {
   ended = λ n a b. elim (h.ended n a b) [ inl c ↦ inl c | inr g ↦ inr (up_later wait t t' n past l g) ];
 }
 
-pub held_in_past : (wait : ℕ) (past : List Numbered) (t first front : ℕ) (out held : List Numbered) → Holds wait past t first front out held → (u : Numbered) → In u held → In u past
+pub held_in_past : (wait : ℕ) (past : List Numbered) (t first front : ℕ) (out held : List Numbered) → HoldsNumbers wait past t first front out held → (u : Numbered) → In u held → In u past
 held_in_past wait past t first front out held h u i = used_in wait past u (subst (λ (us : List Numbered). In u us) (sym h.used_is) (in_right u out held i))
 
 -- the number at the front came
 pub come : (wait : ℕ) (past : List Numbered) (t first : ℕ) (out : List Numbered) (x : Numbered) (held : List Numbered)
-    → Holds wait past t first x.number out (x ∷ held) → Holds wait past t first (suc x.number) (out ++ x ∷ []) held
+    → HoldsNumbers wait past t first x.number out (x ∷ held) → HoldsNumbers wait past t first (suc x.number) (out ++ x ∷ []) held
 come wait past t first out x held h =
     let here : has_number past x.number ≡ true = in_has x.number past x (held_in_past wait past t first x.number out (x ∷ held) h x (inl refl)) refl in
     let split = distinct_split x.number past in
@@ -54,7 +54,7 @@ come wait past t first out x held h =
 
 -- the number at the front is given up
 pub jump : (wait : ℕ) (past : List Numbered) (t first front : ℕ) (out : List Numbered) (x : Numbered) (held : List Numbered) → is_given_up wait past t front ≡ true
-    → Holds wait past t first front out (x ∷ held) → Holds wait past t first x.number out (x ∷ held)
+    → HoldsNumbers wait past t first front out (x ∷ held) → HoldsNumbers wait past t first x.number out (x ∷ held)
 jump wait past t first front out x held g h =
     let hx = h.high x (inl refl) in
     record {
@@ -88,9 +88,9 @@ by_number_behind e [] held f = refl
 by_number_behind e (x ∷ out) held f = let l = f x (inl refl) in rw (le-ltb e.number x.number l) (ap (λ us. x ∷ us) (by_number_behind e out held (λ u i. f u (inr i))))
 
 -- a number from the front on that is not held, while the front waits
-pub arrive : (wait : ℕ) (past : List Numbered) (first front : ℕ) (out held : List Numbered) (e : Numbered) → Holds wait past e.time first front out held
+pub arrive : (wait : ℕ) (past : List Numbered) (first front : ℕ) (out held : List Numbered) (e : Numbered) → HoldsNumbers wait past e.time first front out held
     → is_given_up wait past e.time front ≡ false → front ≤ e.number → has_number held e.number ≡ false
-    → (in_time wait e past ≡ true) × Holds wait (e ∷ past) e.time first front out (by_number e held)
+    → (in_time wait e past ≡ true) × HoldsNumbers wait (e ∷ past) e.time first front out (by_number e held)
 arrive wait past first front out held e h waits l fresh = (
   in_time_is,
   record {
@@ -124,9 +124,9 @@ arrive wait past first front out held e h waits l fresh = (
         (and_from (not (has_number past e.number)) (not (is_given_up wait past e.time e.number)) (not_from_false (has_number past e.number) not_come) (not_from_false (is_given_up wait past e.time e.number) waits_here))
 
 -- below the front, or held: it is not in time, and changes nothing
-pub ignore : (wait : ℕ) (past : List Numbered) (first front : ℕ) (out held : List Numbered) (e : Numbered) → Holds wait past e.time first front out held
+pub ignore : (wait : ℕ) (past : List Numbered) (first front : ℕ) (out held : List Numbered) (e : Numbered) → HoldsNumbers wait past e.time first front out held
     → (e.number < front) ⊎ (has_number held e.number ≡ true)
-    → (in_time wait e past ≡ false) × Holds wait (e ∷ past) e.time first front out held
+    → (in_time wait e past ≡ false) × HoldsNumbers wait (e ∷ past) e.time first front out held
 ignore wait past first front out held e h why = (
   late,
   record {
@@ -172,7 +172,7 @@ ignore wait past first front out held e h why = (
         ])
 
 -- the very first
-pub begin : (wait : ℕ) (e : Numbered) → Holds wait (e ∷ []) e.time e.number e.number [] (e ∷ [])
+pub begin : (wait : ℕ) (e : Numbered) → HoldsNumbers wait (e ∷ []) e.time e.number e.number [] (e ∷ [])
 begin wait e = record {
   used_is = rw (le-leb e.number e.number (omega arith));
   first_is = λ n. refl;
@@ -187,7 +187,7 @@ begin wait e = record {
 }
 
 -- what the code tests: whether the front is given up shows in what is held
-pub held_tells : (wait : ℕ) (past : List Numbered) (t first front : ℕ) (out held : List Numbered) → Holds wait past t first front out held → has_number held front ≡ false
+pub held_tells : (wait : ℕ) (past : List Numbered) (t first front : ℕ) (out held : List Numbered) → HoldsNumbers wait past t first front out held → has_number held front ≡ false
     → is_given_up wait past t front ≡ (list_any (λ x. nat_le (x.time + wait) t) held || nat_lt 64 (length held))
 held_tells wait past t first front out held h gone =
     let not_come : has_number past front ≡ false = false_from_ne_true (has_number past front) (λ q.

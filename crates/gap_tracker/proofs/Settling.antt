@@ -11,7 +11,7 @@ use Rattle.stream_spec.proofs.Lists.{in_right, any_in, in_any}
 use Rattle.stream_spec.proofs.Ready.{up_moment, least_in}
 use Rattle.gap_tracker.specs.States.{oldest_from, when_by, given_up_at, latest_after, latest_from}
 use Rattle.gap_tracker.proofs.Oldest.{oldest_member, least_is_oldest, waited}
-use Rattle.gap_tracker.specs.Holding.{Holds, Timed}
+use Rattle.gap_tracker.specs.Holding.{HoldsNumbers, Timed}
 use Rattle.stream_spec.proofs.GivingUp.{has_in, in_has, distinct_split, one}
 use Rattle.gap_tracker.proofs.Keeping.{come, jump, held_in_past, held_tells}
 use Rattle.gap_tracker.proofs.Timing.{timed_come, timed_jump, end_by_wait, waits_of}
@@ -30,23 +30,23 @@ max_right m n = grind (arith, nat_tests)
 
 module _ (wait : ℕ) (past : List Numbered) (t first front : ℕ) (out : List Numbered) where
   -- what is not held at the front has not come
-  pub not_come : (held : List Numbered) → Holds wait past t first front out held → has_number held front ≡ false → has_number past front ≡ false
+  pub not_come : (held : List Numbered) → HoldsNumbers wait past t first front out held → has_number held front ≡ false → has_number past front ≡ false
   not_come held h gone = false_from_ne_true (has_number past front) (λ q.
       let r = has_in front past q in let s = h.all r.0 r.1 (omega (arith, r.2)) in true≢false (sym (in_has front held s.0 s.1 (s.2 ∙ r.2)) ∙ gone))
 
   -- the first held packet lies above the front
-  pub front_gone : (x : Numbered) (xs : List Numbered) → Holds wait past t first front out (x ∷ xs) → (x.number == front) ≡ false → has_number (x ∷ xs) front ≡ false
+  pub front_gone : (x : Numbered) (xs : List Numbered) → HoldsNumbers wait past t first front out (x ∷ xs) → (x.number == front) ≡ false → has_number (x ∷ xs) front ≡ false
   front_gone x xs h ne = false_from_ne_true (has_number (x ∷ xs) front) (λ q.
       let r = has_in front (x ∷ xs) q in elim r.1 [
         | inl e ↦ eqb-false x.number front ne (sym (ap (λ (z : Numbered). z.number) e) ∙ r.2)
         | inr j ↦ let u = h.rising.0 r.0 j in let v = h.high x (inl refl) in omega (arith, r.2)
       ])
 
-  first_came : (x : Numbered) (xs : List Numbered) → Holds wait past t first front out (x ∷ xs) → x.time ≤ t
+  first_came : (x : Numbered) (xs : List Numbered) → HoldsNumbers wait past t first front out (x ∷ xs) → x.time ≤ t
   first_came x xs h = h.came x (held_in_past wait past t first front out (x ∷ xs) h x (inl refl))
 
   -- the code's moment is the end of the front, which is given up
-  gives_up : (x : Numbered) (xs : List Numbered) (end : ℕ) → Holds wait past t first front out (x ∷ xs) → (64 < length (x ∷ xs) → has_number past front ≡ false → end_of wait past front ≡ t)
+  gives_up : (x : Numbered) (xs : List Numbered) (end : ℕ) → HoldsNumbers wait past t first front out (x ∷ xs) → (64 < length (x ∷ xs) → has_number past front ≡ false → end_of wait past front ≡ t)
       → (x.number == front) ≡ false → given_up_at wait t (x ∷ xs) ≡ Some end → (is_given_up wait past t front ≡ true) × (end_of wait past front ≡ end)
   gives_up x xs end h crowd ne g = go (nat_lt 64 (length (x ∷ xs))) refl g
     where
@@ -82,9 +82,9 @@ module _ (wait : ℕ) (past : List Numbered) (t first front : ℕ) (out : List N
               )
 
   -- the first held packet is settled, and is ready at the latest end
-  pub settle_step : (latest to : ℕ) (x : Numbered) (xs : List Numbered) → Falling past → Holds wait past t first front out (x ∷ xs) → Timed wait past t first front latest
+  pub settle_step : (latest to : ℕ) (x : Numbered) (xs : List Numbered) → Falling past → HoldsNumbers wait past t first front out (x ∷ xs) → Timed wait past t first front latest
       → (64 < length (x ∷ xs) → has_number past front ≡ false → end_of wait past front ≡ t) → latest_from wait t front latest (x ∷ xs) ≡ Some to
-      → Holds wait past t first (suc x.number) (out ++ x ∷ []) xs × Timed wait past t first (suc x.number) to × (ready_of wait past x ≡ to)
+      → HoldsNumbers wait past t first (suc x.number) (out ++ x ∷ []) xs × Timed wait past t first (suc x.number) to × (ready_of wait past x ≡ to)
   settle_step latest to x xs falling h timed crowd can = go (x.number == front) refl can
     where
       in_used : In x (used wait past)
@@ -97,7 +97,7 @@ module _ (wait : ℕ) (past : List Numbered) (t first front : ℕ) (out : List N
       ready m l = rw (h.first_is 0, ← m.latest_is) (max_own x.time to l)
 
       go : (b : Bool) → (x.number == front) ≡ b → cond b (Some (max latest x.time)) (latest_after latest x.time (given_up_at wait t (x ∷ xs))) ≡ Some to
-          → Holds wait past t first (suc x.number) (out ++ x ∷ []) xs × Timed wait past t first (suc x.number) to × (ready_of wait past x ≡ to)
+          → HoldsNumbers wait past t first (suc x.number) (out ++ x ∷ []) xs × Timed wait past t first (suc x.number) to × (ready_of wait past x ≡ to)
       go true e q =
           let same = eqb-true x.number front e in
           let is = some_is (max latest x.time) to q in
@@ -105,7 +105,7 @@ module _ (wait : ℕ) (past : List Numbered) (t first front : ℕ) (out : List N
           let m : Timed wait past t first (suc x.number) to = subst (λ (n : ℕ). Timed wait past t first (suc x.number) n) is
           (timed_come wait past t first latest x falling in_used (first_came x xs h) b (subst (λ (n : ℕ). Timed wait past t first n latest) (sym same) timed)) in
           let r = max_right latest x.time in (
-            come wait past t first out x xs (subst (λ (n : ℕ). Holds wait past t first n out (x ∷ xs)) (sym same) h),
+            come wait past t first out x xs (subst (λ (n : ℕ). HoldsNumbers wait past t first n out (x ∷ xs)) (sym same) h),
             m,
             ready m (omega (arith, is)),
           )
@@ -121,7 +121,7 @@ module _ (wait : ℕ) (past : List Numbered) (t first front : ℕ) (out : List N
           ]
 
           jumps : (o : Option ℕ) → given_up_at wait t (x ∷ xs) ≡ o → latest_after latest x.time o ≡ Some to
-              → Holds wait past t first (suc x.number) (out ++ x ∷ []) xs × Timed wait past t first (suc x.number) to × (ready_of wait past x ≡ to)
+              → HoldsNumbers wait past t first (suc x.number) (out ++ x ∷ []) xs × Timed wait past t first (suc x.number) to × (ready_of wait past x ≡ to)
           jumps None g q = absurd (none_some to q)
           jumps (Some end) g q =
               let up = gives_up x xs end h crowd e g in
@@ -149,7 +149,7 @@ module _ (wait : ℕ) (past : List Numbered) (t first front : ℕ) (out : List N
       go false false f q = ltb-false 64 (length (x ∷ xs)) f
 
   -- and the front has neither come nor is it given up
-  pub still_front : (latest : ℕ) (held : List Numbered) → Holds wait past t first front out held → latest_from wait t front latest held ≡ None → (has_number past front ≡ false) × (is_given_up wait past t front ≡ false)
+  pub still_front : (latest : ℕ) (held : List Numbered) → HoldsNumbers wait past t first front out held → latest_from wait t front latest held ≡ None → (has_number past front ≡ false) × (is_given_up wait past t front ≡ false)
   still_front latest [] h e = (not_come [] h refl, held_tells wait past t first front out [] h refl)
   still_front latest (x ∷ xs) h e = go (x.number == front) refl e
     where

@@ -8,7 +8,7 @@ use Rattle.gap_tracker.specs.States.{State, latest_from, next_latest, settled_ov
 use Rattle.gap_tracker.specs.Tracks.{SameBut, Holding, Phase, Before, Within, Follows, Tracks}
 use Rattle.gap_tracker.proofs.Settling.{settle_step, none_some}
 use Rattle.gap_tracker.proofs.Arriving.{few}
-use Rattle.gap_tracker.specs.Holding.{Holds}
+use Rattle.gap_tracker.specs.Holding.{HoldsNumbers}
 use Rattle.gap_tracker.proofs.Keeping.{later}
 use Rattle.gap_tracker.proofs.Timing.{timed_later}
 
@@ -21,7 +21,7 @@ settle_holding : (s : State) (past : List Numbered) (given : List Given) (to : �
 settle_holding s past given to [] e can h = absurd (none_some to can)
 settle_holding s past given to (x ∷ xs) e can h =
     let long : length s.held ≡ suc (length xs) = ap length e in
-    let holds = subst (λ (us : List Numbered). Holds s.wait past s.moment s.first s.front h.out us) e h.holds in
+    let holds = subst (λ (us : List Numbered). HoldsNumbers s.wait past s.moment s.first s.front h.out us) e h.holds in
     let r = settle_step s.wait past s.moment s.first s.front h.out s.latest to x xs h.falling holds h.timed (λ l. h.crowd (omega arith)) can in
     let next : x.number + 1 ≡ suc x.number = omega arith in
     let it : Given = record { number = x.number; ready = to; packet = x.packet } in

@@ -12,7 +12,7 @@ use Rattle.stream_spec.proofs.Matched.{used_in}
 use Rattle.stream_spec.proofs.GivingUp.{in_has}
 use Rattle.stream_spec.proofs.Rising.{used_above}
 use Rattle.stream_spec.proofs.Ready.{least_is, least_in, least_below, new_moment, moment_before, moment_tells, end_stays, end_used, moments_same, Kind, Came, Above, Crowd, kind_of, above_moment}
-use Rattle.gap_tracker.specs.Holding.{Holds, Timed}
+use Rattle.gap_tracker.specs.Holding.{HoldsNumbers, Timed}
 use Rattle.gap_tracker.proofs.Keeping.{held_in_past}
 
 -- ---- the latest end
@@ -109,7 +109,7 @@ waits_in wait (y ∷ held) x (inl e) = inl (ap (λ (z : Numbered). z.time + wait
 waits_in wait (y ∷ held) x (inr i) = inr (waits_in wait held x i)
 
 -- not crowded: the least of the held times, and `wait`
-pub end_by_wait : (wait : ℕ) (past : List Numbered) (t first front : ℕ) (out : List Numbered) (x : Numbered) (held : List Numbered) → Holds wait past t first front out (x ∷ held) → has_number past front ≡ false
+pub end_by_wait : (wait : ℕ) (past : List Numbered) (t first front : ℕ) (out : List Numbered) (x : Numbered) (held : List Numbered) → HoldsNumbers wait past t first front out (x ∷ held) → has_number past front ≡ false
     → distinct_from (suc front) past ≤ 64 → end_of wait past front ≡ least (waits_of wait (x ∷ held))
 end_by_wait wait past t first front out x held h gone few =
     let inn = least_in (waits_of wait (x ∷ held)) (x.time + wait) (inl refl) in
@@ -151,7 +151,7 @@ end_by_crowd wait e past front gone waits crowd =
     ])
 
 -- ---- what is settled is exactly what is ready by now
-pub settled_law : (wait : ℕ) (past : List Numbered) (t first front latest : ℕ) (out held : List Numbered) → Falling past → Holds wait past t first front out held → Timed wait past t first front latest
+pub settled_law : (wait : ℕ) (past : List Numbered) (t first front latest : ℕ) (out held : List Numbered) → Falling past → HoldsNumbers wait past t first front out held → Timed wait past t first front latest
     → has_number past front ≡ false → is_given_up wait past t front ≡ false → (u : Numbered) → In u (used wait past) → (In u out → ready_of wait past u ≤ t) × (ready_of wait past u ≤ t → In u out)
 settled_law wait past t first front latest out held f h m gone waits u i = (given, back)
   where

@@ -6,7 +6,7 @@ use Rattle.stream_spec.specs.Numbering.{Numbered, RisingNumbers, used, first_num
 use Rattle.stream_spec.specs.Ready.{moments, latest_end}
 
 -- `front`: below it each number has come or is given up. `out`: what is settled. `held`: the rest. Both rise.
-pub record Holds (wait : ℕ) (past : List Numbered) (t first front : ℕ) (out held : List Numbered) : Type 0 where
+pub record HoldsNumbers (wait : ℕ) (past : List Numbered) (t first front : ℕ) (out held : List Numbered) : Type 0 where
   pub used_is : used wait past ≡ out ++ held
   pub first_is : (n : ℕ) → first_number n past ≡ first
   pub begun : first ≤ front

@@ -18,7 +18,7 @@ named_places h = h.pool.current ∷ (places_of h.settled h.held ++ h.pool.spare)
 abbrev pub AreApart : Inside → Type 0
 AreApart h = (place : ℕ) → times place (named_places h) ≡ one_if (nat_lt place (length h.pool.packets))
 
-pub record IsSound (h : Inside) : Type 0 where
+pub record HoldIsSound (h : Inside) : Type 0 where
   pub apart : AreApart h
   pub all : suc (length h.settled + length h.held + length h.pool.spare) ≡ length h.pool.packets
   pub room : length h.settled + length h.held ≤ 65

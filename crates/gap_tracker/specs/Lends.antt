@@ -6,7 +6,7 @@ use Rattle.gap_tracker.specs.Pools.{Pool, with_current}
 use Rattle.gap_tracker.specs.States.{State, with_packet}
 use Rattle.gap_tracker.specs.contracts.pool.PacketPool.{the_row as pool}
 use Rattle.gap_tracker.specs.contracts.holds.Hold.{the_row as hold}
-use Rattle.gap_tracker.specs.contracts.tracking.Tracker.{the_row as tracker}
+use Rattle.gap_tracker.specs.contracts.buffers.ReorderBuffer.{the_row as buffer}
 
 -- the pool ends with what is last written through r as its current packet
 abbrev pub LendsCurrent : MutBor Pool → MutBor TextPacket → Fml
@@ -18,4 +18,4 @@ LendsHeld s r = Lends hold packet s r (with_packet s.now)
 
 -- a tracker ends with it
 abbrev pub LendsPacket : MutBor State → MutBor TextPacket → Fml
-LendsPacket s r = Lends tracker packet s r (with_packet s.now)
+LendsPacket s r = Lends buffer packet s r (with_packet s.now)

@@ -131,12 +131,12 @@ abbrev pub GivesFirst : State → State → Due → Type 0
 GivesFirst old new due = (old.settled ≡ given_of due new.current ∷ new.settled) × (new ≡ record old { settled = new.settled; packets = new.packets; current = new.current })
 
 -- why a packet with this number is not held
-abbrev pub IsRefused : State → ℕ → Taken → Type 0
-IsRefused s n Before = n < s.first
-IsRefused s n Old = (s.first ≤ n) × (n < s.front)
-IsRefused s n Repeat = (s.first ≤ n) × (s.front ≤ n) × (has_number s.held n ≡ true)
-IsRefused s n Ready = ⊥
-IsRefused s n Held = ⊥
+abbrev pub PacketIsRefused : State → ℕ → Taken → Type 0
+PacketIsRefused s n Before = n < s.first
+PacketIsRefused s n Old = (s.first ≤ n) × (n < s.front)
+PacketIsRefused s n Repeat = (s.first ≤ n) × (s.front ≤ n) × (has_number s.held n ≡ true)
+PacketIsRefused s n Ready = ⊥
+PacketIsRefused s n Held = ⊥
 
 abbrev pub AllAbove : ℕ → List Numbered → Type 0
 AllAbove n [] = Unit {0}

@@ -12,12 +12,12 @@ use Rattle.gap_tracker.specs.declared.answers.Due.{Due}
 use Rattle.gap_tracker.specs.declared.answers.Taken.{Taken}
 
 -- what was so is that now
-abbrev pub Leads : State → State → (Story → Story) → Type 0
-Leads old new f = (story : Story) → Tracks old story → Tracks new (f story)
+abbrev pub LeadsStory : State → State → (Story → Story) → Type 0
+LeadsStory old new f = (story : Story) → Tracks old story → Tracks new (f story)
 
 -- the answer is that of what was told and given
-abbrev pub Tells : {X : Type 0} → State → X → (Story → X) → Type 0
-Tells s x f = (story : Story) → Tracks s story → x ≡ f story
+abbrev pub TellsStory : {X : Type 0} → State → X → (Story → X) → Type 0
+TellsStory s x f = (story : Story) → Tracks s story → x ≡ f story
 
 -- ---- a packet comes
 
@@ -39,11 +39,11 @@ ComeAlone old new = (q : TextPacket) → In q new.packets → (q ≡ old.current
 
 -- the packet that is current now is given
 abbrev pub Gives : State → State → Due → Type 0
-Gives old new due = Leads old new (λ story. gave story (given_of due new.current))
+Gives old new due = LeadsStory old new (λ story. gave story (given_of due new.current))
 
 -- the packet with this number, whichever it is, comes at `now` and is given at once
 abbrev pub GivesAtOnce : State → State → ℕ → ℕ → ℕ → Type 0
-GivesAtOnce old new now number ready = (p : Packet) → number ≡ next_number old p.seq → Leads old new (λ story. gave (came story now p) (given_packet number ready p))
+GivesAtOnce old new now number ready = (p : Packet) → number ≡ next_number old p.seq → LeadsStory old new (λ story. gave (came story now p) (given_packet number ready p))
 
 -- a packet is given as it came
 abbrev pub GivesAsItCame : State → State → Type 0
@@ -90,7 +90,7 @@ pub record MayHold (s : State) (place n : ℕ) : Type 0 where
   pub number : n < 2 ^ 60
 
 -- it is held there, and all is settled that can be
-pub record Holds (old : State) (place n : ℕ) (new : State) : Type 0 where
+pub record HoldsPacket (old : State) (place n : ℕ) (new : State) : Type 0 where
   pub stands : FollowsAll (put_current old place n) new
   pub still : next_latest new ≡ None
   pub same : SameButCurrent (put_current old place n) new

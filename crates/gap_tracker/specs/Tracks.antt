@@ -4,13 +4,13 @@ use Rattle.stream_spec.specs.Numbering.{Numbered, numbered, greatest, has_number
 use Rattle.stream_spec.specs.Ready.{end_of}
 use Rattle.gap_tracker.specs.Stories.{Story, Given, due_at}
 use Rattle.gap_tracker.specs.States.{State, next_latest}
-use Rattle.gap_tracker.specs.Holding.{Holds, Timed}
+use Rattle.gap_tracker.specs.Holding.{HoldsNumbers, Timed}
 use Rattle.rtt_base.specs.declared.limits.TheConstants.{MOST_HELD}
 
 -- A first packet came, and `given` was given. `out` is what is settled, given or not.
 pub record Holding (s : State) (past : List Numbered) (given : List Given) : Type 0 where
   pub out : List Numbered
-  pub holds : Holds s.wait past s.moment s.first s.front out s.held
+  pub holds : HoldsNumbers s.wait past s.moment s.first s.front out s.held
   pub falling : Falling past
   pub timed : Timed s.wait past s.moment s.first s.front s.latest
   pub settled_is : given ++ s.settled ≡ map (due_at s.wait past) out

@@ -4,13 +4,13 @@ ghost use Rattle.std.specs.Borrow.{sem};
 ghost use Rattle.rtt_base.specs.declared.limits.TheConstants.{END_OF_MOMENTS, LONGEST_WAIT, MOST_ARRIVALS};
 ghost use Rattle.gap_tracker.specs.Lends.{LendsHeld};
 ghost use Rattle.gap_tracker.specs.Stories.{went, ended, is_used};
-ghost use Rattle.gap_tracker.specs.States.{fresh, has_ready, passed, oldest_from, given_up_at, next_latest, settled_first, settled_at_once, counted, put_current, IsNext, ready_at_once, given_at_once, GivesFirst, IsRefused, AllAbove, IsPlace};
+ghost use Rattle.gap_tracker.specs.States.{fresh, has_ready, passed, oldest_from, given_up_at, next_latest, settled_first, settled_at_once, counted, put_current, IsNext, ready_at_once, given_at_once, GivesFirst, PacketIsRefused, AllAbove, IsPlace};
 ghost use Rattle.gap_tracker.specs.Views.{next_number, AnyPackets, IsBehind};
 ghost use Rattle.gap_tracker.specs.Tracks.{SameBut};
-ghost use Rattle.gap_tracker.specs.Told.{Leads, Tells, came_current, answer_current, is_current_in_time, ComeAlone, GivesAsItCame, AllReady, FollowsAll, IsButCurrent, Holds, MayHold};
+ghost use Rattle.gap_tracker.specs.Told.{LeadsStory, TellsStory, came_current, answer_current, is_current_in_time, ComeAlone, GivesAsItCame, AllReady, FollowsAll, IsButCurrent, HoldsPacket, MayHold};
 
-use crate::lines::Line;
-use crate::numbering::{first_number, nearest_number};
+use crate::lines::BoundedList;
+use crate::numbers::{first_number, nearest_number};
 use crate::pool::PacketPool;
 use crate::{Due, Taken};
 use rtt_base::limits::MOST_HELD;
@@ -48,8 +48,8 @@ pub struct Hold {
     top: u64,
     front: u64,
     latest: u64,
-    settled: Line<SettledPacket>,
-    held: Line<HeldPacket>,
+    settled: BoundedList<SettledPacket>,
+    held: BoundedList<HeldPacket>,
     pool: PacketPool,
 }
 
@@ -58,11 +58,11 @@ impl Model for Hold {
 
     ghost Value = { State };
 
-    ghost use Rattle.gap_tracker.specs.Insides.{state_of, IsSound};
+    ghost use Rattle.gap_tracker.specs.Insides.{state_of, HoldIsSound};
 
     ghost view = { state_of };
 
-    ghost invariant = { IsSound };
+    ghost invariant = { HoldIsSound };
 }
 
 /// The least of `time` and the times of these.
@@ -119,8 +119,8 @@ impl Hold {
             top: 0,
             front: 0,
             latest: 0,
-            settled: Line::new(alloc)?,
-            held: Line::new(alloc)?,
+            settled: BoundedList::new(alloc)?,
+            held: BoundedList::new(alloc)?,
             pool: PacketPool::new(alloc)?,
         })
     }
@@ -243,7 +243,7 @@ impl Hold {
     fn find(&self, number: u64) -> Result<usize, Taken>
         ensures place { IfOk result (λ place. IsPlace number self.now.held place) }
         ensures above { OnOk result ((self.now.first ≤ number) × (self.now.front ≤ number)) }
-        ensures refused { IfErr result (λ taken. IsRefused self.now number taken) }
+        ensures refused { IfErr result (λ taken. PacketIsRefused self.now number taken) }
     {
         if number < self.first {
             return Err(Taken::Before);
@@ -301,7 +301,7 @@ impl Hold {
     #[inline(never)]
     fn hold(&mut self, at: usize, number: u64)
         requires { MayHold self.old at number }
-        ensures { Holds self.old at number self.new }
+        ensures { HoldsPacket self.old at number self.new }
     {
         self.put(at, number);
         self.advance();
@@ -312,7 +312,7 @@ impl Hold {
     #[inline(always)]
     fn take_in(&mut self, at: usize, number: u64)
         requires { MayHold self.old at number }
-        ensures { Holds self.old at number self.new }
+        ensures { HoldsPacket self.old at number self.new }
     {
         if self.held.is_empty() && number == self.front {
             self.settle_at_once(number);
@@ -343,9 +343,9 @@ impl Hold {
         requires quiet { has_ready self.old ≡ false }
         requires still { next_latest self.old ≡ None }
         requires few { self.old.arrivals < MOST_ARRIVALS }
-        ensures stands { Leads self.old self.new (came_current self.old now) }
-        ensures answer { Tells self.old result (answer_current self.old now) }
-        ensures used { Tells self.old (is_used result) (is_current_in_time self.old now) }
+        ensures stands { LeadsStory self.old self.new (came_current self.old now) }
+        ensures answer { TellsStory self.old result (answer_current self.old now) }
+        ensures used { TellsStory self.old (is_used result) (is_current_in_time self.old now) }
         ensures packets { ComeAlone self.old self.new }
         ensures same { is_used result ≡ false → self.new.current ≡ self.old.current }
         ensures arrivals { self.new.arrivals ≡ self.old.arrivals + 1 }
@@ -407,7 +407,7 @@ impl Hold {
     /// Lets time go on, and settles what it settles.
     pub fn expire(&mut self, now: u64)
         requires { now < END_OF_MOMENTS }
-        ensures stands { Leads self.old self.new (λ story. went story now) }
+        ensures stands { LeadsStory self.old self.new (λ story. went story now) }
         ensures same { SameBut (passed self.old now) self.new }
         ensures still { next_latest self.new ≡ None }
     {
@@ -418,7 +418,7 @@ impl Hold {
     /// Lets `wait` go by.
     pub fn finish(&mut self)
         requires { self.old.finished ≡ false }
-        ensures stands { Leads self.old self.new ended }
+        ensures stands { LeadsStory self.old self.new ended }
         ensures all { AllReady self.old }
         ensures packets { self.new.packets ≡ self.old.packets }
         ensures arrivals { self.new.arrivals ≡ self.old.arrivals }

@@ -5,12 +5,12 @@
 mod answers;
 mod holds;
 mod lines;
-mod numbering;
+mod numbers;
 mod pool;
-mod tracking;
+mod buffers;
 
 pub use answers::{Due, Taken};
-pub use tracking::Tracker;
+pub use buffers::ReorderBuffer;
 
 #[cfg(test)]
 mod plain;

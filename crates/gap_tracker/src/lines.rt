@@ -7,11 +7,11 @@ use std::marker::Model;
 
 /// A list with room for 65 items. What it does takes no memory.
 #[derive(Debug, Drop)]
-pub struct Line<T> {
+pub struct BoundedList<T> {
     items: Vec<T>,
 }
 
-impl<T> Model for Line<T> {
+impl<T> Model for BoundedList<T> {
     ghost use Rattle.std.specs.Prelude.{List, ◌≤◌, vec_capacity};
 
     ghost Value = { List T };
@@ -21,12 +21,12 @@ impl<T> Model for Line<T> {
     ghost invariant = { λ line. 65 ≤ vec_capacity line.items };
 }
 
-impl<T: Drop> Line<T> {
+impl<T: Drop> BoundedList<T> {
     /// No items, and room for 65.
-    pub fn new(alloc: Global) -> Result<Line<T>, NoMemory>
+    pub fn new(alloc: Global) -> Result<BoundedList<T>, NoMemory>
         ensures { IfOk result (λ line. line ≡ []) }
     {
-        Ok(Line {
+        Ok(BoundedList {
             items: Vec::with_capacity(alloc, 65)?,
         })
     }

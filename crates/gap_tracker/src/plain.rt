@@ -5,14 +5,14 @@ use rtt_base::limits::MOST_HELD;
 
 /// A packet that came.
 #[derive(Clone, Copy, Debug)]
-pub struct Came {
+pub struct PlainPacket {
     pub time: u64,
     pub number: u64,
     pub seq: u16,
 }
 
 /// The number of a packet that comes after these, oldest first.
-pub fn number_after(past: &[Came], seq: u16) -> u64 {
+pub fn number_after(past: &[PlainPacket], seq: u16) -> u64 {
     let Some(greatest) = past.iter().map(|x| x.number).max() else {
         return u64::from(seq) + 65536;
     };
@@ -30,12 +30,12 @@ pub fn number_after(past: &[Came], seq: u16) -> u64 {
     best
 }
 
-fn has_number(past: &[Came], number: u64) -> bool {
+fn has_number(past: &[PlainPacket], number: u64) -> bool {
     past.iter().any(|x| x.number == number)
 }
 
 /// How many different numbers above this one came.
-fn different_above(past: &[Came], number: u64) -> usize {
+fn different_above(past: &[PlainPacket], number: u64) -> usize {
     let mut count = 0usize;
     for (i, x) in past.iter().enumerate() {
         if x.number > number && !has_number(&past[..i], x.number) {
@@ -45,12 +45,12 @@ fn different_above(past: &[Came], number: u64) -> usize {
     count
 }
 
-fn is_given_up(past: &[Came], wait: u64, moment: u64, number: u64) -> bool {
+fn is_given_up(past: &[PlainPacket], wait: u64, moment: u64, number: u64) -> bool {
     different_above(past, number) > MOST_HELD
         || past.iter().any(|x| x.number > number && x.time.saturating_add(wait) <= moment)
 }
 
-fn first_number(past: &[Came], number: u64) -> u64 {
+fn first_number(past: &[PlainPacket], number: u64) -> u64 {
     match past.first() {
         Some(x) => x.number,
         None => number,
@@ -58,14 +58,14 @@ fn first_number(past: &[Came], number: u64) -> u64 {
 }
 
 /// Whether a packet that comes after these is used.
-pub fn is_in_time(past: &[Came], wait: u64, packet: &Came) -> bool {
+pub fn is_in_time(past: &[PlainPacket], wait: u64, packet: &PlainPacket) -> bool {
     first_number(past, packet.number) <= packet.number
         && !has_number(past, packet.number)
         && !is_given_up(past, wait, packet.time, packet.number)
 }
 
 /// The arrival that was used under this number, if one was.
-pub fn used_under(past: &[Came], wait: u64, number: u64) -> Option<Came> {
+pub fn used_under(past: &[PlainPacket], wait: u64, number: u64) -> Option<PlainPacket> {
     for (i, x) in past.iter().enumerate() {
         if x.number == number && is_in_time(&past[..i], wait, x) {
             return Some(*x);
@@ -75,7 +75,7 @@ pub fn used_under(past: &[Came], wait: u64, number: u64) -> Option<Came> {
 }
 
 /// Whether each number from the first up to this one has come in time or is given up.
-fn is_settled(past: &[Came], wait: u64, moment: u64, number: u64) -> bool {
+fn is_settled(past: &[PlainPacket], wait: u64, moment: u64, number: u64) -> bool {
     for below in first_number(past, number)..=number {
         if used_under(past, wait, below).is_none() && !is_given_up(past, wait, moment, below) {
             return false;
@@ -85,7 +85,7 @@ fn is_settled(past: &[Came], wait: u64, moment: u64, number: u64) -> bool {
 }
 
 /// What becomes of the last of these.
-pub fn taken(past: &[Came], wait: u64) -> Option<Taken> {
+pub fn taken(past: &[PlainPacket], wait: u64) -> Option<Taken> {
     let (packet, before) = past.split_last()?;
     if packet.number < first_number(before, packet.number) {
         return Some(Taken::Before);
@@ -103,7 +103,7 @@ pub fn taken(past: &[Came], wait: u64) -> Option<Taken> {
 }
 
 /// The moment at which a number came in time or was given up.
-fn end_of(past: &[Came], wait: u64, number: u64) -> u64 {
+fn end_of(past: &[PlainPacket], wait: u64, number: u64) -> u64 {
     let mut end = u64::MAX;
     for (i, x) in past.iter().enumerate() {
         let before = &past[..i];
@@ -122,7 +122,7 @@ fn end_of(past: &[Came], wait: u64, number: u64) -> u64 {
 }
 
 /// The moment at which a used packet is ready.
-pub fn ready_of(past: &[Came], wait: u64, packet: &Came) -> u64 {
+pub fn ready_of(past: &[PlainPacket], wait: u64, packet: &PlainPacket) -> u64 {
     let mut ready = packet.time;
     for below in first_number(past, packet.number)..=packet.number {
         ready = ready.max(end_of(past, wait, below));

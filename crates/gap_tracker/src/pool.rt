@@ -4,7 +4,7 @@ ghost use Rattle.std.specs.Borrow.{sem};
 ghost use Rattle.gap_tracker.specs.Pools.{no_packet, current_packet, with_new, IsRenewed, turned_to};
 ghost use Rattle.gap_tracker.specs.Lends.{LendsCurrent};
 
-use crate::lines::Line;
+use crate::lines::BoundedList;
 use rtt_base::{NoMemory, TextPacket};
 use std::alloc::Global;
 use std::marker::Model;
@@ -16,7 +16,7 @@ use std::marker::Model;
 #[derive(Debug, Drop)]
 pub struct PacketPool {
     packets: Vec<TextPacket>,
-    spare: Line<usize>,
+    spare: BoundedList<usize>,
     current: usize,
 }
 
@@ -40,7 +40,7 @@ impl PacketPool {
         packets.push_reserved(TextPacket::default());
         Ok(PacketPool {
             packets,
-            spare: Line::new(alloc)?,
+            spare: BoundedList::new(alloc)?,
             current: 0,
         })
     }

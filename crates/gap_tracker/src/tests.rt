@@ -2,8 +2,8 @@
 ghost use Rattle.std.specs.Prelude.{◌≡◌, false};
 ghost use Rattle.gap_tracker.specs.States.{is_finished};
 
-use crate::plain::{Came, number_after, ready_of, taken, used_under};
-use crate::{Taken, Tracker};
+use crate::plain::{PlainPacket, number_after, ready_of, taken, used_under};
+use crate::{Taken, ReorderBuffer};
 use rtt_base::limits::{END_OF_MOMENTS, MOST_ARRIVALS};
 use std::alloc::Global;
 use std::process::Abort;
@@ -11,18 +11,18 @@ use std::test::Fail;
 
 /// What came of a run: the answer to each arrival, and the sequence number and the ready time of each packet given.
 #[derive(Debug, Drop)]
-struct Played {
+struct Playback {
     answers: Vec<Taken>,
     given: Vec<(u16, u64)>,
 }
 
 /// Takes what is ready.
-fn drain(tracker: &mut Tracker, given: &mut Vec<(u16, u64)>) -> Result<(), Fail>
-    ensures { is_finished tracker.new ≡ is_finished tracker.old }
+fn drain(buffer: &mut ReorderBuffer, given: &mut Vec<(u16, u64)>) -> Result<(), Fail>
+    ensures { is_finished buffer.new ≡ is_finished buffer.old }
 {
     for _ in 0..65 {
-        match tracker.next() {
-            Some(due) => given.push((tracker.packet().seq, due.ready))?,
+        match buffer.next() {
+            Some(due) => given.push((buffer.packet().seq, due.ready))?,
             None => return Ok(()),
         }
     }
@@ -30,73 +30,73 @@ fn drain(tracker: &mut Tracker, given: &mut Vec<(u16, u64)>) -> Result<(), Fail>
 }
 
 /// Hands in a packet.
-fn hand_in(tracker: &mut Tracker, at: u64, seq: u16) -> Option<Taken>
-    ensures { is_finished tracker.new ≡ is_finished tracker.old }
+fn hand_in(buffer: &mut ReorderBuffer, at: u64, seq: u16) -> Option<Taken>
+    ensures { is_finished buffer.new ≡ is_finished buffer.old }
 {
-    if tracker.ready() || tracker.arrivals() >= MOST_ARRIVALS || at >= END_OF_MOMENTS {
+    if buffer.ready() || buffer.arrivals() >= MOST_ARRIVALS || at >= END_OF_MOMENTS {
         return None;
     }
-    tracker.packet_mut().seq = seq;
-    Some(tracker.arrive(at))
+    buffer.packet_mut().seq = seq;
+    Some(buffer.arrive(at))
 }
 
 /// Hands in a packet that is next in order, which is given at once, and tells when it was ready.
-fn give_at_once(tracker: &mut Tracker, at: u64, seq: u16) -> Option<u64>
-    ensures { is_finished tracker.new ≡ is_finished tracker.old }
+fn give_at_once(buffer: &mut ReorderBuffer, at: u64, seq: u16) -> Option<u64>
+    ensures { is_finished buffer.new ≡ is_finished buffer.old }
 {
-    if tracker.arrivals() >= MOST_ARRIVALS || at >= END_OF_MOMENTS {
+    if buffer.arrivals() >= MOST_ARRIVALS || at >= END_OF_MOMENTS {
         return None;
     }
-    let number = tracker.next_in_order(seq)?;
-    Some(tracker.give_at_once(at, number))
+    let number = buffer.next_in_order(seq)?;
+    Some(buffer.give_at_once(at, number))
 }
 
 /// Nothing came yet.
-fn nothing_played(alloc: Global) -> Played {
-    Played {
+fn nothing_played(alloc: Global) -> Playback {
+    Playback {
         answers: Vec::new(alloc),
         given: Vec::new(alloc),
     }
 }
 
 /// What came of a run to whose tracker nothing comes any more.
-fn ended(mut tracker: Tracker, mut played: Played) -> Result<Played, Fail>
-    requires { is_finished tracker ≡ false }
+fn ended(mut buffer: ReorderBuffer, mut played: Playback) -> Result<Playback, Fail>
+    requires { is_finished buffer ≡ false }
 {
-    if !tracker.ready() {
-        tracker.finish();
+    if !buffer.ready() {
+        buffer.finish();
     }
-    drain(&mut tracker, &mut played.given)?;
+    drain(&mut buffer, &mut played.given)?;
     Ok(played)
 }
 
 /// Hands in packets as `play` does, but what is next in order is given at once.
-fn play_at_once(alloc: Global, wait: u64, arrivals: &[(u64, u16)]) -> Result<Played, Fail> {
-    let mut tracker = Tracker::new(alloc, wait.min(10000))?;
+fn play_at_once(alloc: Global, wait: u64, arrivals: &[(u64, u16)]) -> Result<Playback, Fail> {
+    let mut buffer = ReorderBuffer::new(alloc, wait.min(10000))?;
     let mut played = nothing_played(alloc);
     for (at, seq) in arrivals {
-        if let Some(ready) = give_at_once(&mut tracker, *at, *seq) {
+        if let Some(ready) = give_at_once(&mut buffer, *at, *seq) {
             played.answers.push(Taken::Ready)?;
             played.given.push((*seq, ready))?;
-        } else if let Some(taken) = hand_in(&mut tracker, *at, *seq) {
+        } else if let Some(taken) = hand_in(&mut buffer, *at, *seq) {
             played.answers.push(taken)?;
         }
-        drain(&mut tracker, &mut played.given)?;
+        drain(&mut buffer, &mut played.given)?;
     }
-    ended(tracker, played)
+    ended(buffer, played)
 }
 
 /// Hands in packets, each a time and a sequence number, then the end, and takes what is ready after each.
-fn play(alloc: Global, wait: u64, arrivals: &[(u64, u16)]) -> Result<Played, Fail> {
-    let mut tracker = Tracker::new(alloc, wait.min(10000))?;
+fn play(alloc: Global, wait: u64, arrivals: &[(u64, u16)]) -> Result<Playback, Fail> {
+    let mut buffer = ReorderBuffer::new(alloc, wait.min(10000))?;
     let mut played = nothing_played(alloc);
     for (at, seq) in arrivals {
-        if let Some(taken) = hand_in(&mut tracker, *at, *seq) {
+        if let Some(taken) = hand_in(&mut buffer, *at, *seq) {
             played.answers.push(taken)?;
         }
-        drain(&mut tracker, &mut played.given)?;
+        drain(&mut buffer, &mut played.given)?;
     }
-    ended(tracker, played)
+    ended(buffer, played)
 }
 
 /// Of these arrivals these packets are given, where the wait is 1000 ms.
@@ -145,27 +145,27 @@ fn one_millisecond_late_is_late(rt: HostRuntime) -> Result<(), Fail> {
 
 #[test]
 fn a_number_is_given_up_when_time_goes_on(rt: HostRuntime) -> Result<(), Fail> {
-    let mut tracker = Tracker::new(rt.alloc(), 1000)?;
+    let mut buffer = ReorderBuffer::new(rt.alloc(), 1000)?;
     let mut given = Vec::new(rt.alloc());
-    hand_in(&mut tracker, 0, 10);
-    drain(&mut tracker, &mut given)?;
-    hand_in(&mut tracker, 300, 12);
-    if !tracker.ready() {
-        tracker.expire(1299);
+    hand_in(&mut buffer, 0, 10);
+    drain(&mut buffer, &mut given)?;
+    hand_in(&mut buffer, 300, 12);
+    if !buffer.ready() {
+        buffer.expire(1299);
     }
-    assert!(rt; !tracker.ready());
-    if !tracker.ready() {
-        tracker.expire(1300);
+    assert!(rt; !buffer.ready());
+    if !buffer.ready() {
+        buffer.expire(1300);
     }
-    assert!(rt; tracker.ready());
-    drain(&mut tracker, &mut given)?;
+    assert!(rt; buffer.ready());
+    drain(&mut buffer, &mut given)?;
     assert_eq!(rt; given.as_slice(), [(10, 0), (12, 1300)].as_slice());
-    assert_eq!(rt; tracker.arrivals(), 2);
+    assert_eq!(rt; buffer.arrivals(), 2);
     Ok(())
 }
 
 /// Number 0 at 0, the numbers 2 to `last` one per millisecond from 1 on, and then number 1.
-fn with_one_missing(alloc: Global, last: u16) -> Result<Played, Fail> {
+fn with_one_missing(alloc: Global, last: u16) -> Result<Playback, Fail> {
     let mut arrivals = Vec::new(alloc);
     arrivals.push((0, 0))?;
     for number in 2..=last {
@@ -265,12 +265,12 @@ fn some_arrivals(alloc: Global, seed: u64) -> Result<Vec<(u64, u16)>, Fail> {
 }
 
 /// What the rules say of these arrivals.
-fn expected(alloc: Global, wait: u64, arrivals: &[(u64, u16)]) -> Result<Played, Fail> {
+fn expected(alloc: Global, wait: u64, arrivals: &[(u64, u16)]) -> Result<Playback, Fail> {
     let mut past = Vec::new(alloc);
     let mut answers = Vec::new(alloc);
     for (time, seq) in arrivals {
         let number = number_after(past.as_slice(), *seq);
-        past.push(Came {
+        past.push(PlainPacket {
             time: *time,
             number,
             seq: *seq,
@@ -286,7 +286,7 @@ fn expected(alloc: Global, wait: u64, arrivals: &[(u64, u16)]) -> Result<Played,
             given.push((came.seq, ready_of(past.as_slice(), wait, &came)))?;
         }
     }
-    Ok(Played { answers, given })
+    Ok(Playback { answers, given })
 }
 
 #[test]

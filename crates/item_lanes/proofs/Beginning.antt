@@ -2,11 +2,11 @@
 use Rattle.std.proofs.Common.{◌≡◌, ℕ, List}
 use Rattle.std.specs.Global.{Vec}
 use Rattle.std.specs.Vec.{vec_len}
-use Rattle.item_lanes.specs.declared.lanes.Lane.{Lane}
+use Rattle.item_lanes.specs.declared.lanes.Worker.{Worker}
 use Rattle.item_lanes.specs.Lanes.{IsStarted}
 use Rattle.item_lanes.proofs.Matching.{Into}
 
 -- the first of all are started, and as many ends are left as are still to be started
-pub record AreStarting {Q F G E : Type 0} (stands : F → F → List Q → Type 0) (all rest : List F) (left : ℕ) (ends : Vec E) (lanes : Vec (Lane Q F G)) : Type 0 where
+pub record AreStarting {Q F G E : Type 0} (stands : F → F → List Q → Type 0) (all rest : List F) (left : ℕ) (ends : Vec E) (lanes : Vec (Worker Q F G)) : Type 0 where
   pub into : Into (IsStarted stands) all rest left lanes
   pub ends_left : vec_len ends ≡ left

@@ -1,8 +1,8 @@
 -- What a clause says of what runs and of the end of its queue.
 use Rattle.std.specs.Prelude.{◌≡◌, ℕ, Some, List, [], ◌++◌, slice_get}
 use Rattle.item_queue.specs.Passes.{popped}
-use Rattle.item_lanes.specs.declared.gated.Gated.{Gated}
-use Rattle.item_lanes.specs.declared.lanes.Lane.{Lane}
+use Rattle.item_lanes.specs.declared.producers.GatedProducer.{GatedProducer}
+use Rattle.item_lanes.specs.declared.lanes.Worker.{Worker}
 use Rattle.item_lanes.specs.Gates.{gated_gives}
 use Rattle.item_lanes.specs.Pairs.{Pairs}
 use Rattle.item_lanes.specs.Runners.{RunnerStands}
@@ -14,28 +14,28 @@ module _ {Q F : Type 0} where
 
 module _ {Q F G : Type 0} where
   -- what was popped, oldest first
-  abbrev pub popped_of : Lane Q F G → List Q
+  abbrev pub popped_of : Worker Q F G → List Q
   popped_of lane = popped lane.pop
 
   -- what runs began with this
-  abbrev pub BeganWith : (F → F → List Q → Type 0) → F → Lane Q F G → Type 0
-  BeganWith stands first lane = (g : Gated F G) → g.gives ≡ first → RunnerStands (gated_gives stands) g lane.runner
+  abbrev pub BeganWith : (F → F → List Q → Type 0) → F → Worker Q F G → Type 0
+  BeganWith stands first lane = (g : GatedProducer F G) → g.gives ≡ first → RunnerStands (gated_gives stands) g lane.runner
 
   -- whatever the one began with, the other did
-  abbrev pub LaneFollows : (F → F → List Q → Type 0) → Lane Q F G → Lane Q F G → Type 0
+  abbrev pub LaneFollows : (F → F → List Q → Type 0) → Worker Q F G → Worker Q F G → Type 0
   LaneFollows stands old new = (first : F) → BeganWith stands first old → BeganWith stands first new
 
   -- it was started with this, of which nothing was popped
-  pub record IsStarted (stands : F → F → List Q → Type 0) (gives : F) (lane : Lane Q F G) : Type 0 where
+  pub record IsStarted (stands : F → F → List Q → Type 0) (gives : F) (lane : Worker Q F G) : Type 0 where
     pub none : popped_of lane ≡ []
     pub runs : BeganWith stands gives lane
 
   -- what was popped is the first of what it gave, whatever it began with
-  abbrev pub ComesBack : (F → F → List Q → Type 0) → Lane Q F G → F → Type 0
+  abbrev pub ComesBack : (F → F → List Q → Type 0) → Worker Q F G → F → Type 0
   ComesBack stands lane back = (first : F) → BeganWith stands first lane → (left : List Q) × stands first back (popped_of lane ++ left)
 
-  abbrev pub AreStarted : (F → F → List Q → Type 0) → List F → List (Lane Q F G) → Type 0
+  abbrev pub AreStarted : (F → F → List Q → Type 0) → List F → List (Worker Q F G) → Type 0
   AreStarted stands = Pairs (IsStarted stands)
 
-  abbrev pub AreBack : (F → F → List Q → Type 0) → List (Lane Q F G) → List F → Type 0
+  abbrev pub AreBack : (F → F → List Q → Type 0) → List (Worker Q F G) → List F → Type 0
   AreBack stands = Pairs (ComesBack stands)

@@ -3,8 +3,8 @@ ghost use Rattle.std.specs.Prelude.{◌≡◌, [], vec_len, IfOk};
 ghost use Rattle.std.specs.Arc.{arc_value};
 ghost use Rattle.item_queue.specs.Passes.{IsPopOf, IsPushOf, popped, pushed};
 
-use crate::lanes::Shared;
-use item_queue::{ItemQueue, PopPass, PushPass, Reuse};
+use crate::lanes::SharedQueue;
+use item_queue::{ItemQueue, PopPass, PushPass, Reusable};
 use rtt_base::NoMemory;
 use std::alloc::Global;
 use std::sync::Arc;
@@ -12,9 +12,9 @@ use std::sync::atomic::AtomicBool;
 
 /// The queue of what is about to run, for who pops and for its thread, with its two ends. Nothing was pushed.
 #[derive(Drop)]
-pub struct LaneEnds<Q: Drop> {
-    pub(crate) ours: Arc<Shared<Q>, Global>,
-    pub(crate) theirs: Arc<Shared<Q>, Global>,
+pub struct WorkerEnds<Q: Drop> {
+    pub(crate) ours: Arc<SharedQueue<Q>, Global>,
+    pub(crate) theirs: Arc<SharedQueue<Q>, Global>,
     pub(crate) push: PushPass<Q>,
     pub(crate) pop: PopPass<Q>,
     ghost same: { arc_value theirs ≡ arc_value ours },
@@ -24,11 +24,11 @@ pub struct LaneEnds<Q: Drop> {
     ghost none_popped: { popped pop ≡ [] },
 }
 
-impl<Q: Drop + Reuse> LaneEnds<Q> {
+impl<Q: Drop + Reusable> WorkerEnds<Q> {
     /// A new queue. It takes all memory that the run ever needs.
-    pub fn new(alloc: Global) -> Result<LaneEnds<Q>, NoMemory> {
+    pub fn new(alloc: Global) -> Result<WorkerEnds<Q>, NoMemory> {
         let (queue, push, pop) = ItemQueue::new(alloc)?;
-        let shared = Shared {
+        let shared = SharedQueue {
             queue,
             alone: AtomicBool::new(false),
         };
@@ -38,7 +38,7 @@ impl<Q: Drop + Reuse> LaneEnds<Q> {
         let Ok(theirs) = Arc::try_clone(&ours) else {
             return Err(NoMemory);
         };
-        Ok(LaneEnds {
+        Ok(WorkerEnds {
             ours,
             theirs,
             push,
@@ -48,15 +48,15 @@ impl<Q: Drop + Reuse> LaneEnds<Q> {
 }
 
 /// So many new queues.
-pub(crate) fn open_ends<Q: Drop + Reuse>(
+pub(crate) fn open_ends<Q: Drop + Reusable>(
     alloc: Global,
     count: usize,
-) -> Result<Vec<LaneEnds<Q>>, NoMemory>
+) -> Result<Vec<WorkerEnds<Q>>, NoMemory>
     ensures { IfOk result (λ ends. vec_len ends ≡ count) }
 {
     let mut ends = Vec::with_capacity(alloc, count)?;
     for _ in 0..count {
-        ends.push_reserved(LaneEnds::new(alloc)?);
+        ends.push_reserved(WorkerEnds::new(alloc)?);
     }
     Ok(ends)
 }

@@ -4,8 +4,8 @@ ghost use Rattle.std.proofs.Props.{props};
 ghost use Rattle.item_queue.specs.Passes.{IsPopOf};
 ghost use Rattle.item_lanes.specs.Runners.{IsRunnerOf, IsRunnerOf-prop};
 
-use crate::gated::Gated;
-use item_queue::{Feed, Gives, ItemQueue, PopPass};
+use crate::producers::GatedProducer;
+use item_queue::{Feed, Producer, ItemQueue, PopPass};
 use rtt_io::Gate;
 use std::alloc::Global;
 use std::mem::ManuallyDrop;
@@ -16,7 +16,7 @@ use std::thread::{Promise, PromisedHandle};
 
 /// What a thread and who pops share: the queue, and a word by which the thread gives back what runs.
 #[derive(Drop)]
-pub(crate) struct Shared<Q: Drop> {
+pub(crate) struct SharedQueue<Q: Drop> {
     pub(crate) queue: ItemQueue<Q>,
     pub(crate) alone: AtomicBool,
 }
@@ -34,7 +34,7 @@ impl<Q: Drop, F> Drop for KeepsAll<Q, F> {
     }
 }
 
-impl<Q: Drop, F: Gives<Q>> Promise<ManuallyDrop<Feed<Q, F>>> for KeepsAll<Q, F> {
+impl<Q: Drop, F: Producer<Q>> Promise<ManuallyDrop<Feed<Q, F>>> for KeepsAll<Q, F> {
     ghost use Rattle.std.specs.Mem.{manually_drop_value};
     ghost use Rattle.item_lanes.specs.Lent.{FeedKept};
 
@@ -42,16 +42,16 @@ impl<Q: Drop, F: Gives<Q>> Promise<ManuallyDrop<Feed<Q, F>>> for KeepsAll<Q, F> 
 }
 
 /// What runs: on a thread, or, where none could be started, step by step at who pops.
-pub(crate) enum Runner<Q: Drop, F: Gives<Q>> {
+pub(crate) enum Runner<Q: Drop, F: Producer<Q>> {
     There(PromisedHandle<ManuallyDrop<Feed<Q, F>>, KeepsAll<Q, F>>),
     Here(Feed<Q, F>),
 }
 
 /// What runs, and the end of its queue at which its items are popped.
-pub struct Lane<Q: Drop, F: Gives<Q>, G: Gate> {
-    pub(crate) shared: Arc<Shared<Q>, Global>,
+pub struct Worker<Q: Drop, F: Producer<Q>, G: Gate> {
+    pub(crate) shared: Arc<SharedQueue<Q>, Global>,
     pub(crate) pop: PopPass<Q>,
-    pub(crate) runner: Runner<Q, Gated<F, G>>,
+    pub(crate) runner: Runner<Q, GatedProducer<F, G>>,
     pub(crate) gate: G,
     /// By which number the gate knows it.
     pub(crate) number: u32,

@@ -2,20 +2,20 @@
 #![tactic(auto)]
 
 mod ends;
-mod gated;
+mod producers;
 mod gates;
 mod lanes;
-mod lending;
+mod loans;
 mod lists;
-mod popping;
+mod pops;
 mod rooms;
-mod starting;
+mod starts;
 
 pub use gates::LentGate;
-pub use lanes::Lane;
-pub use lending::lend;
+pub use lanes::Worker;
+pub use loans::lend;
 pub use lists::{join_lanes, keep_lanes, start_lanes};
-pub use rooms::{LaneRoom, Started};
+pub use rooms::{WorkerRoom, WorkerSet};
 
 #[cfg(test)]
 mod tests;

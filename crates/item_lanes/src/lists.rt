@@ -4,12 +4,12 @@ ghost use Rattle.std.specs.Vec.{vec_capacity};
 ghost use Rattle.item_lanes.specs.Lanes.{AreBack, AreNew, AreStarted};
 ghost use Rattle.item_lanes.specs.Rooms.{HasRoom, HasRoomBack};
 
-use crate::ends::LaneEnds;
-use crate::lanes::Lane;
-use crate::rooms::{LaneRoom, Started};
-use crate::starting::{keep_lane, start_lane};
+use crate::ends::WorkerEnds;
+use crate::lanes::Worker;
+use crate::rooms::{WorkerRoom, WorkerSet};
+use crate::starts::{keep_lane, start_lane};
 use core::thread::Stack;
-use item_queue::Gives;
+use item_queue::Producer;
 use rtt_io::Gate;
 use std::sync::Wait;
 use std::thread::{Scope, Threads};
@@ -19,7 +19,7 @@ fn start_all<
     's,
     'e,
     Q: Drop + Send + 's,
-    F: Gives<Q> + Send + 's,
+    F: Producer<Q> + Send + 's,
     R: Wait + Sync,
     G: Gate + Copy + Send + 's,
 >(
@@ -28,9 +28,9 @@ fn start_all<
     gate: G,
     stack: usize,
     gives: Vec<F>,
-    mut ends: Vec<LaneEnds<Q>>,
-    mut lanes: Vec<Lane<Q, F, G>>,
-) -> Vec<Lane<Q, F, G>>
+    mut ends: Vec<WorkerEnds<Q>>,
+    mut lanes: Vec<Worker<Q, F, G>>,
+) -> Vec<Worker<Q, F, G>>
     requires new { AreNew F.stands gives.items }
     requires ends { vec_len ends ≡ vec_len gives }
     requires none { lanes.items ≡ [] }
@@ -53,12 +53,12 @@ fn start_all<
 }
 
 /// Keeps all that is in a list, each to be stepped where its items are popped.
-fn keep_all<Q: Drop, F: Gives<Q>, G: Gate + Copy>(
+fn keep_all<Q: Drop, F: Producer<Q>, G: Gate + Copy>(
     gate: G,
     gives: Vec<F>,
-    mut ends: Vec<LaneEnds<Q>>,
-    mut lanes: Vec<Lane<Q, F, G>>,
-) -> Vec<Lane<Q, F, G>>
+    mut ends: Vec<WorkerEnds<Q>>,
+    mut lanes: Vec<Worker<Q, F, G>>,
+) -> Vec<Worker<Q, F, G>>
     requires new { AreNew F.stands gives.items }
     requires ends { vec_len ends ≡ vec_len gives }
     requires none { lanes.items ≡ [] }
@@ -80,9 +80,9 @@ fn keep_all<Q: Drop, F: Gives<Q>, G: Gate + Copy>(
 }
 
 /// Joins all that is in a list.
-fn join_all<Q: Drop, F: Gives<Q>, R: Threads, G: Gate + Copy>(
+fn join_all<Q: Drop, F: Producer<Q>, R: Threads, G: Gate + Copy>(
     rt: &R,
-    lanes: Vec<Lane<Q, F, G>>,
+    lanes: Vec<Worker<Q, F, G>>,
     mut back: Vec<F>,
 ) -> Vec<F>
     requires none { back.items ≡ [] }
@@ -104,7 +104,7 @@ pub fn start_lanes<
     's,
     'e,
     Q: Drop + Send + 's,
-    F: Gives<Q> + Send + 's,
+    F: Producer<Q> + Send + 's,
     R: Wait + Sync,
     G: Gate + Copy + Send + 's,
 >(
@@ -113,39 +113,39 @@ pub fn start_lanes<
     gate: G,
     stack: usize,
     gives: Vec<F>,
-    room: LaneRoom<Q, F, G>,
-) -> Started<Q, F, G>
+    room: WorkerRoom<Q, F, G>,
+) -> WorkerSet<Q, F, G>
     requires new { AreNew F.stands gives.items }
     requires room { HasRoom (vec_len gives) room }
     ensures lanes { AreStarted F.stands gives.items result.lanes.items }
     ensures back { HasRoomBack (vec_len gives) result.back }
 {
-    let LaneRoom { ends, lanes, back } = room;
+    let WorkerRoom { ends, lanes, back } = room;
     let lanes = start_all(scope, rt, gate, stack, gives, ends, lanes);
-    Started { lanes, back }
+    WorkerSet { lanes, back }
 }
 
 /// Makes the lanes of all that is in a list without a thread: each is stepped where its items are popped, and nobody waits for it.
 /// The gate knows each by its place in the list.
-pub fn keep_lanes<Q: Drop, F: Gives<Q>, G: Gate + Copy>(
+pub fn keep_lanes<Q: Drop, F: Producer<Q>, G: Gate + Copy>(
     gate: G,
     gives: Vec<F>,
-    room: LaneRoom<Q, F, G>,
-) -> Started<Q, F, G>
+    room: WorkerRoom<Q, F, G>,
+) -> WorkerSet<Q, F, G>
     requires new { AreNew F.stands gives.items }
     requires room { HasRoom (vec_len gives) room }
     ensures lanes { AreStarted F.stands gives.items result.lanes.items }
     ensures back { HasRoomBack (vec_len gives) result.back }
 {
-    let LaneRoom { ends, lanes, back } = room;
+    let WorkerRoom { ends, lanes, back } = room;
     let lanes = keep_all(gate, gives, ends, lanes);
-    Started { lanes, back }
+    WorkerSet { lanes, back }
 }
 
 /// Joins all lanes, and has back what gives. What was popped of each is the first of what it gave.
-pub fn join_lanes<Q: Drop, F: Gives<Q>, R: Threads, G: Gate + Copy>(
+pub fn join_lanes<Q: Drop, F: Producer<Q>, R: Threads, G: Gate + Copy>(
     rt: &R,
-    lanes: Vec<Lane<Q, F, G>>,
+    lanes: Vec<Worker<Q, F, G>>,
     back: Vec<F>,
 ) -> Vec<F>
     requires { HasRoomBack (vec_len lanes) back }

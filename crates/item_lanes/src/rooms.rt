@@ -2,29 +2,29 @@
 ghost use Rattle.std.specs.Prelude.{IfOk};
 ghost use Rattle.item_lanes.specs.Rooms.{HasRoom, IsUnused};
 
-use crate::ends::{LaneEnds, open_ends};
-use crate::lanes::Lane;
-use item_queue::{Gives, Reuse};
+use crate::ends::{WorkerEnds, open_ends};
+use crate::lanes::Worker;
+use item_queue::{Producer, Reusable};
 use rtt_base::NoMemory;
 use rtt_io::Gate;
 use std::alloc::Global;
 
 /// All memory that lanes need to run.
-pub struct LaneRoom<Q: Drop, F: Gives<Q>, G: Gate> {
-    pub(crate) ends: Vec<LaneEnds<Q>>,
-    pub(crate) lanes: Vec<Lane<Q, F, G>>,
+pub struct WorkerRoom<Q: Drop, F: Producer<Q>, G: Gate> {
+    pub(crate) ends: Vec<WorkerEnds<Q>>,
+    pub(crate) lanes: Vec<Worker<Q, F, G>>,
     pub(crate) back: Vec<F>,
 }
 
 /// Lanes that run, and room for what comes back of them.
-pub struct Started<Q: Drop, F: Gives<Q>, G: Gate> {
-    pub lanes: Vec<Lane<Q, F, G>>,
+pub struct WorkerSet<Q: Drop, F: Producer<Q>, G: Gate> {
+    pub lanes: Vec<Worker<Q, F, G>>,
     pub back: Vec<F>,
 }
 
-impl<Q: Drop + Reuse, F: Gives<Q>, G: Gate> LaneRoom<Q, F, G> {
+impl<Q: Drop + Reusable, F: Producer<Q>, G: Gate> WorkerRoom<Q, F, G> {
     /// Room for so many lanes.
-    pub fn new(alloc: Global, count: usize) -> Result<LaneRoom<Q, F, G>, NoMemory>
+    pub fn new(alloc: Global, count: usize) -> Result<WorkerRoom<Q, F, G>, NoMemory>
         ensures { IfOk result (HasRoom count) }
     {
         let ends = open_ends(alloc, count)?;
@@ -35,14 +35,14 @@ impl<Q: Drop + Reuse, F: Gives<Q>, G: Gate> LaneRoom<Q, F, G> {
             lanes.destroy_empty();
             return Err(NoMemory);
         };
-        Ok(LaneRoom { ends, lanes, back })
+        Ok(WorkerRoom { ends, lanes, back })
     }
 
     /// Gives up room in which nothing runs.
     pub fn discard(self)
         requires { IsUnused self }
     {
-        let LaneRoom {
+        let WorkerRoom {
             ends: _,
             lanes,
             back,

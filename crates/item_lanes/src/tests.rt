@@ -1,8 +1,8 @@
 ghost use Rattle.std.specs.Prelude.{◌≡◌, length};
 
 use crate::lanes::Runner;
-use crate::{Lane, LaneRoom, Started, join_lanes, keep_lanes, start_lanes};
-use item_queue::{Gives, Reuse};
+use crate::{Worker, WorkerRoom, WorkerSet, join_lanes, keep_lanes, start_lanes};
+use item_queue::{Producer, Reusable};
 use rtt_base::NoMemory;
 use rtt_io::Gate;
 use std::alloc::Global;
@@ -18,7 +18,7 @@ struct Number {
     value: u64,
 }
 
-impl Reuse for Number {
+impl Reusable for Number {
     fn blank(_alloc: Global) -> Result<Number, NoMemory> {
         Ok(Number { value: 0 })
     }
@@ -29,13 +29,13 @@ const LAST: u64 = 200;
 
 // Gives the numbers from 1 to 200, at every other step.
 #[derive(Drop)]
-struct Counting {
+struct CountProducer {
     given: u64,
     rests: bool,
     over: bool,
 }
 
-impl Gives<Number> for Counting {
+impl Producer<Number> for CountProducer {
     ghost stands = { λ first now items. Unit {0} };
 
     ghost over = { λ c. c.over };
@@ -76,7 +76,7 @@ impl<'c> Gate for CountingGate<'c> {
 }
 
 // Pops all of a lane. The answer is how many numbers came in order.
-fn drain<R: Wait, G: Gate>(lane: &mut Lane<Number, Counting, G>, rt: &R) -> u64 {
+fn drain<R: Wait, G: Gate>(lane: &mut Worker<Number, CountProducer, G>, rt: &R) -> u64 {
     let mut count: u64 = 0;
     for _ in rt.forever() {
         match lane.pop(rt) {
@@ -96,22 +96,22 @@ fn drain<R: Wait, G: Gate>(lane: &mut Lane<Number, Counting, G>, rt: &R) -> u64 
     count
 }
 
-fn is_there<G: Gate>(lane: &Lane<Number, Counting, G>) -> bool {
+fn is_there<G: Gate>(lane: &Worker<Number, CountProducer, G>) -> bool {
     matches!(&lane.runner, Runner::There(_))
 }
 
 // How many lanes ran on threads, and how many numbers came in order.
 #[derive(Drop)]
-struct Drained {
+struct DrainCount {
     there: u64,
     count: u64,
 }
 
 // Pops all of each lane.
-fn drain_all<R: Wait, G: Gate>(rt: &R, lanes: &mut [Lane<Number, Counting, G>]) -> Drained
+fn drain_all<R: Wait, G: Gate>(rt: &R, lanes: &mut [Worker<Number, CountProducer, G>]) -> DrainCount
     ensures { length lanes.new ≡ length lanes.old }
 {
-    let mut drained = Drained { there: 0, count: 0 };
+    let mut drained = DrainCount { there: 0, count: 0 };
     for place in 0..lanes.len() {
         if is_there(&lanes[place]) {
             drained.there = drained.there.wrapping_add(1);
@@ -128,12 +128,12 @@ fn run_in<'s, 'e, R: Threads + Wait + Sync, G: Gate + Copy + Send + 's>(
     alloc: Global,
     gate: G,
     stack: usize,
-    gives: Vec<Counting>,
-) -> Option<Drained> {
-    let Ok(room) = LaneRoom::new(alloc, gives.len()) else {
+    gives: Vec<CountProducer>,
+) -> Option<DrainCount> {
+    let Ok(room) = WorkerRoom::new(alloc, gives.len()) else {
         return None;
     };
-    let Started { mut lanes, back } = start_lanes(scope, rt, gate, stack, gives, room);
+    let WorkerSet { mut lanes, back } = start_lanes(scope, rt, gate, stack, gives, room);
     let drained = drain_all(rt, lanes.as_mut_slice());
     let _back = join_lanes(rt, lanes, back);
     Some(drained)
@@ -144,9 +144,9 @@ fn run<R: Threads + Wait + Sync, G: Gate + Copy + Send>(
     alloc: Global,
     gate: G,
     stack: usize,
-    gives: Vec<Counting>,
-) -> Option<Drained> {
-    thread::scope(thread::scope_env(), rt, |scope| -> Option<Drained> {
+    gives: Vec<CountProducer>,
+) -> Option<DrainCount> {
+    thread::scope(thread::scope_env(), rt, |scope| -> Option<DrainCount> {
         run_in(scope, rt, alloc, gate, stack, gives)
     })
 }
@@ -156,19 +156,19 @@ fn run_kept<R: Threads + Wait, G: Gate + Copy>(
     rt: &R,
     alloc: Global,
     gate: G,
-    gives: Vec<Counting>,
-) -> Option<Drained> {
-    let Ok(room) = LaneRoom::new(alloc, gives.len()) else {
+    gives: Vec<CountProducer>,
+) -> Option<DrainCount> {
+    let Ok(room) = WorkerRoom::new(alloc, gives.len()) else {
         return None;
     };
-    let Started { mut lanes, back } = keep_lanes(gate, gives, room);
+    let WorkerSet { mut lanes, back } = keep_lanes(gate, gives, room);
     let drained = drain_all(rt, lanes.as_mut_slice());
     let _back = join_lanes(rt, lanes, back);
     Some(drained)
 }
 
-fn begins() -> Counting {
-    Counting {
+fn begins() -> CountProducer {
+    CountProducer {
         given: 0,
         rests: false,
         over: false,

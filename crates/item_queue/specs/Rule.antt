@@ -4,17 +4,17 @@ use Rattle.std.specs.Prelude.{◌≡◌, ◌≤◌, ℕ, Bool, true, List, ◌++
 use mathlib.Core.Option.{some}
 use lib.ListN.{get_elem?}
 use Rattle.item_queue.specs.declared.limits.TheConstants.{MOST_QUEUED}
-use Rattle.item_queue.specs.declared.rule.Known.{Known}
+use Rattle.item_queue.specs.declared.rule.PassHistory.{PassHistory}
 
 module _ {Q : Type 0} where
-  abbrev pub known : Bool → Bool → List Q → List Q → Known Q
+  abbrev pub known : Bool → Bool → List Q → List Q → PassHistory Q
   known pushes pops pushed popped = record { pushes = pushes; pops = pops; pushed = pushed; popped = popped }
 
   -- where the pass with this number may push it is the writer, and where it may pop it is the reader
-  abbrev pub Fits : ℕ → ℕ → List Q → List Q → ℕ → Known Q → Type 0
+  abbrev pub Fits : ℕ → ℕ → List Q → List Q → ℕ → PassHistory Q → Type 0
   Fits writer reader pushed popped port v = (v.pushes ≡ true → (port ≡ writer) × (v.pushed ≡ pushed)) × (v.pops ≡ true → (port ≡ reader) × (v.popped ≡ popped))
 
-  abbrev pub Relayed : List Q → List (Known Q) → Type 0
+  abbrev pub Relayed : List Q → List (PassHistory Q) → Type 0
   Relayed items views = (writer : ℕ) × (reader : ℕ) × (pushed : List Q) × (popped : List Q) × (pushed ≡ popped ++ items)
-      × ((port : ℕ) (v : Known Q) → get_elem? views port ≡ some v → Fits writer reader pushed popped port v)
+      × ((port : ℕ) (v : PassHistory Q) → get_elem? views port ≡ some v → Fits writer reader pushed popped port v)
       × (length items ≤ MOST_QUEUED)

@@ -3,7 +3,7 @@ ghost use Rattle.std.specs.Prelude.{◌≡◌, ◌++◌, Bool, true, false, List
 ghost use Rattle.item_queue.specs.Passes.{IsPushOf, IsPopOf, WasFull, popped, pushed};
 ghost use Rattle.item_queue.specs.Feeds.{FeedStands, Follows, has_of, is_done, is_empty};
 
-use crate::gives::Gives;
+use crate::gives::Producer;
 use crate::passes::{ItemQueue, PopPass, PushPass};
 use std::sync::Wait;
 
@@ -15,7 +15,7 @@ pub struct Feed<Q: Drop, F> {
     hand: Option<Q>,
 }
 
-impl<Q: Drop, F: Gives<Q>> Feed<Q, F> {
+impl<Q: Drop, F: Producer<Q>> Feed<Q, F> {
     /// A feed of what gave nothing yet, at an end at which nothing was pushed.
     pub fn new(gives: F, pass: PushPass<Q>) -> Feed<Q, F>
         requires { pushed pass ≡ [] }

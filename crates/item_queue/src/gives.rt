@@ -6,7 +6,7 @@ use std::sync::Wait;
 
 /// What gives items, one after the other, until its last one. It tells only what it gave, so that nothing need be known of
 /// what is still to come.
-pub trait Gives<Q> {
+pub trait Producer<Q> {
     /// From the first of these to the second it gave these items, oldest first.
     ghost stands: { Self → Self → List Q → Type 0 };
 

@@ -8,15 +8,15 @@ mod passes;
 mod queues;
 mod reuse;
 mod rule;
-mod running;
+mod threads;
 mod sleepers;
 
 pub use feeds::Feed;
-pub use gives::Gives;
+pub use gives::Producer;
 pub use limits::MOST_QUEUED;
 pub use passes::{ItemQueue, PopPass, PushPass};
-pub use reuse::Reuse;
-pub use running::run_feed;
+pub use reuse::Reusable;
+pub use threads::run_feed;
 
 #[cfg(test)]
 mod tests;

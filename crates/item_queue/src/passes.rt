@@ -4,14 +4,14 @@ ghost use Rattle.crossbeam_queue.specs.Passes.{view, ruled_capacity};
 ghost use Rattle.item_queue.specs.declared.limits.TheConstants.{MOST_QUEUED};
 ghost use Rattle.item_queue.specs.Rule.{known};
 
-use crate::rule::{Known, Line};
+use crate::rule::{PassHistory, RuledQueue};
 use crate::sleepers::Sleepers;
 use crossbeam_queue::{ArrayQueue, Pass};
 
 /// A queue from one thread to another, with room for 64 items.
 #[derive(Drop)]
 pub struct ItemQueue<Q: Drop> {
-    pub(crate) line: Line<Q>,
+    pub(crate) line: RuledQueue<Q>,
     /// Items that are to be used again.
     pub(crate) spare: ArrayQueue<Q>,
     pub(crate) sleepers: Sleepers,
@@ -21,14 +21,14 @@ pub struct ItemQueue<Q: Drop> {
 /// The end at which items are pushed.
 #[derive(Drop)]
 pub struct PushPass<Q> {
-    pub(crate) pass: Pass<Q, Known<Q>>,
+    pub(crate) pass: Pass<Q, PassHistory<Q>>,
     ghost end: { view pass ≡ known true false (view pass).pushed [] },
 }
 
 /// The end at which items are popped.
 #[derive(Drop)]
 pub struct PopPass<Q> {
-    pub(crate) pass: Pass<Q, Known<Q>>,
+    pub(crate) pass: Pass<Q, PassHistory<Q>>,
     /// How often an item was asked for, modulo 256.
     pub(crate) asked: u8,
     /// How many times in a row nothing was there, at most 255.

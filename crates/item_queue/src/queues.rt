@@ -5,8 +5,8 @@ ghost use Rattle.item_queue.specs.Passes.{WasFull, IsPushOf, IsPopOf, pushed, po
 
 use crate::limits::MOST_QUEUED;
 use crate::passes::{ItemQueue, PopPass, PushPass};
-use crate::reuse::Reuse;
-use crate::rule::{BothEnds, Left, Line, Popped, Pushed};
+use crate::reuse::Reusable;
+use crate::rule::{BothEnds, RestRule, RuledQueue, PopRule, PushRule};
 use crate::sleepers::Sleepers;
 use crossbeam_queue::ArrayQueue;
 use rtt_base::NoMemory;
@@ -25,7 +25,7 @@ const POPS: u8 = 32;
 const YIELDS: u8 = 100;
 
 /// So many items that are to be used.
-fn blank_items<Q: Drop + Reuse>(alloc: Global) -> Result<ArrayQueue<Q>, NoMemory> {
+fn blank_items<Q: Drop + Reusable>(alloc: Global) -> Result<ArrayQueue<Q>, NoMemory> {
     let Ok(mut spare) = ArrayQueue::new(alloc, ITEMS) else {
         return Err(NoMemory);
     };
@@ -49,11 +49,11 @@ impl<Q: Drop> ItemQueue<Q> {
     /// A queue that holds nothing, and its two ends. It takes all memory that is ever needed.
     pub fn new(alloc: Global) -> Result<(ItemQueue<Q>, PushPass<Q>, PopPass<Q>), NoMemory>
     where
-        Q: Reuse,
+        Q: Reusable,
         ensures ends { IfOk result (λ q. IsPushOf q.0 q.1 × IsPopOf q.0 q.2) }
         ensures empty { IfOk result (λ q. (pushed q.1 ≡ []) × (popped q.2 ≡ [])) }
     {
-        let Ok((line, mut push)) = Line::ruled(alloc, MOST_QUEUED) else {
+        let Ok((line, mut push)) = RuledQueue::ruled(alloc, MOST_QUEUED) else {
             return Err(NoMemory);
         };
         let pop = line.another::<BothEnds>(&mut push);
@@ -97,7 +97,7 @@ impl<Q: Drop> ItemQueue<Q> {
         ensures back { IfErr result (λ x. x ≡ item) }
         ensures full { OnErr result (WasFull (pushed pass.old)) }
     {
-        let answer = self.line.push_as::<Pushed, R>(rt, &mut pass.pass, item);
+        let answer = self.line.push_as::<PushRule, R>(rt, &mut pass.pass, item);
         self.sleepers.wake_popper();
         answer
     }
@@ -109,7 +109,7 @@ impl<Q: Drop> ItemQueue<Q> {
         ensures queue { IsPopOf self.now pass.new }
         ensures popped { popped pass.new ≡ popped pass.old ++ option_to_list result }
     {
-        let item = self.line.pop_as::<Popped, R>(rt, &mut pass.pass);
+        let item = self.line.pop_as::<PopRule, R>(rt, &mut pass.pass);
         pass.misses = misses_after(&item, pass.misses);
         pass.asked = pass.asked.wrapping_add(1);
         if pass.asked % POPS == 0 {
@@ -147,6 +147,6 @@ impl<Q: Drop> ItemQueue<Q> {
             misses: _,
         } = pop;
         self.line.absorb::<BothEnds>(&mut all, other);
-        self.line.learn_as::<Left>(&mut all);
+        self.line.learn_as::<RestRule>(&mut all);
     }
 }

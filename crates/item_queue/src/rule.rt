@@ -8,7 +8,7 @@ use crossbeam_queue::protocol::{Join, Lesson, Outcome, Protocol, Split};
 use std::collections::LinkedList;
 
 // What a pass may do, and the items that it has pushed and popped. No value of it is made.
-pub struct Known<Q> {
+pub struct PassHistory<Q> {
     pub pushes: bool,
     pub pops: bool,
     pub pushed: LinkedList<Q>,
@@ -17,7 +17,7 @@ pub struct Known<Q> {
 
 pub struct InOrder;
 
-impl<Q> Protocol<Q, Known<Q>> for InOrder {
+impl<Q> Protocol<Q, PassHistory<Q>> for InOrder {
     ghost use Rattle.std.specs.Prelude.{true, []};
     ghost use Rattle.item_queue.specs.Rule.{known, Relayed};
 
@@ -29,7 +29,7 @@ impl<Q> Protocol<Q, Known<Q>> for InOrder {
 // A pass for both ends becomes one for each, and back.
 pub struct BothEnds;
 
-impl<Q> Split<Known<Q>> for BothEnds {
+impl<Q> Split<PassHistory<Q>> for BothEnds {
     ghost use Rattle.std.specs.Prelude.{true, false, []};
     ghost use Rattle.item_queue.specs.Rule.{known};
 
@@ -38,7 +38,7 @@ impl<Q> Split<Known<Q>> for BothEnds {
     ghost right = { λ v. known false true [] v.popped };
 }
 
-impl<Q> Join<Known<Q>> for BothEnds {
+impl<Q> Join<PassHistory<Q>> for BothEnds {
     ghost use Rattle.std.specs.Prelude.{true, false, []};
     ghost use Rattle.item_queue.specs.Rule.{known};
 
@@ -48,32 +48,32 @@ impl<Q> Join<Known<Q>> for BothEnds {
 }
 
 // A push adds to what was pushed.
-pub struct Pushed;
+pub struct PushRule;
 
-impl<Q> Outcome<Q, Known<Q>> for Pushed {
+impl<Q> Outcome<Q, PassHistory<Q>> for PushRule {
     ghost then = { λ v x w. w ≡ known v.pushes v.pops (v.pushed ++ x ∷ []) v.popped };
 }
 
-impl<Q> Lesson<Q, Known<Q>> for Pushed {
+impl<Q> Lesson<Q, PassHistory<Q>> for PushRule {
     ghost fact = { λ v items. (before : List _) × (v.pushed ≡ before ++ items) };
 }
 
 // A pop adds to what was popped.
-pub struct Popped;
+pub struct PopRule;
 
-impl<Q> Outcome<Q, Known<Q>> for Popped {
+impl<Q> Outcome<Q, PassHistory<Q>> for PopRule {
     ghost then = { λ v x w. w ≡ known v.pushes v.pops v.pushed (v.popped ++ x ∷ []) };
 }
 
-impl<Q> Lesson<Q, Known<Q>> for Popped {
+impl<Q> Lesson<Q, PassHistory<Q>> for PopRule {
     ghost fact = { λ v items. (all : List _) × (all ≡ v.popped ++ items) };
 }
 
 // Both ends together know what is left.
-pub struct Left;
+pub struct RestRule;
 
-impl<Q> Lesson<Q, Known<Q>> for Left {
+impl<Q> Lesson<Q, PassHistory<Q>> for RestRule {
     ghost fact = { λ v items. (v.pushed ≡ v.popped ++ items) × (length items ≤ MOST_QUEUED) };
 }
 
-pub type Line<Q> = RuledArrayQueue<Q, Known<Q>, InOrder>;
+pub type RuledQueue<Q> = RuledArrayQueue<Q, PassHistory<Q>, InOrder>;

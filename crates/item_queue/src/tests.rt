@@ -1,7 +1,7 @@
 ghost use Rattle.std.specs.Prelude.{◌≡◌};
 ghost use Rattle.item_queue.specs.Passes.{IsPopOf, IsPushOf};
 
-use crate::{Feed, Gives, ItemQueue, PopPass, PushPass, Reuse, run_feed};
+use crate::{Feed, Producer, ItemQueue, PopPass, PushPass, Reusable, run_feed};
 use rtt_base::NoMemory;
 use std::alloc::Global;
 use std::sync::Wait;
@@ -14,7 +14,7 @@ struct Number {
     value: u64,
 }
 
-impl Reuse for Number {
+impl Reusable for Number {
     fn blank(_alloc: Global) -> Result<Number, NoMemory> {
         Ok(Number { value: 0 })
     }
@@ -22,14 +22,14 @@ impl Reuse for Number {
 
 // Gives the numbers from 1 to `last`, at every other step.
 #[derive(Drop)]
-struct Counting {
+struct CountProducer {
     given: u64,
     last: u64,
     rests: bool,
     over: bool,
 }
 
-impl Gives<Number> for Counting {
+impl Producer<Number> for CountProducer {
     ghost stands = { λ first now items. Unit {0} };
 
     ghost over = { λ c. c.over };
@@ -143,7 +143,7 @@ fn a_full_queue_takes_no_more(rt: HostRuntime) -> Result<(), Fail> {
 // and how many were.
 fn feed_twenty<R: Wait>(rt: &R, alloc: Global, alone: bool) -> Result<(bool, u64), NoMemory> {
     let (queue, push, mut pop) = ItemQueue::new(alloc)?;
-    let twenty = Counting {
+    let twenty = CountProducer {
         given: 0,
         last: 20,
         rests: false,

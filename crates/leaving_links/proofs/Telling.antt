@@ -3,7 +3,7 @@ use Rattle.std.proofs.Common.{◌≡◌, ◌∙◌, true≢false, ◌||◌, ◌-
 use Rattle.std.specs.Prelude.{if◌then◌else◌}
 use Rattle.link_spec.specs.Links as links
 use Rattle.link_io.specs.declared.ends.Came.{Came}
-use Rattle.link_io.specs.declared.ends.Taken.{Taken}
+use Rattle.link_io.specs.declared.ends.LinkTake.{LinkTake}
 use Rattle.link_io.specs.Taking.{came_of, closes, taken_of}
 use Rattle.leaving_links.specs.declared.peers.Peer.{Peer}
 use Rattle.leaving_links.specs.Leaving.{after_taken, came_told, has_gone, is_farewell, peer_by, silent_since, takes_told}
@@ -39,7 +39,7 @@ closed_stays true false closed closing f g h = absurd (true≢false (sym (f refl
 closed_stays false false closed closing f g h = g h
 
 -- takes behind which what came is told so
-pub told_more : (longest : Option ℕ) (past all : links.Takes) (old new : Peer) (taken : Taken) (told : Came) (octets : List ℕ)
+pub told_more : (longest : Option ℕ) (past all : links.Takes) (old new : Peer) (taken : LinkTake) (told : Came) (octets : List ℕ)
     → old ≡ peer_by longest past
     → all ≡ taken_of taken octets ∷ past
     → new ≡ after_taken longest old (taken_of taken octets)

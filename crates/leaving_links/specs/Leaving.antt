@@ -6,7 +6,7 @@ use Rattle.std.specs.List.{list_any}
 use Rattle.wire_spec.specs.Dump.{Whole}
 use Rattle.rtcp_spec.specs.declared.events.Event.{Event}
 use Rattle.rtcp_spec.specs.declared.events.Event.TheVariants as event
-use Rattle.rtcp_spec.specs.declared.faults.RtcpFault.{RtcpFault}
+use Rattle.rtcp_spec.specs.declared.faults.RtcpRefusal.{RtcpRefusal}
 use Rattle.rtcp_spec.specs.Rtcp.{rtcp}
 use Rattle.command_spec.specs.Streams.{Sort, Headed, NoRtp, Rtcp, Cut, Large, is_rtcp, sort_of_what}
 use Rattle.link_spec.specs.Links.{Came, Datagram, Quiet, Closed, Taken, Takes}
@@ -36,7 +36,7 @@ is_leaving last (event.Name ssrc name) = false
 is_leaving last (event.Bye ssrc) = is_peer last ssrc
 
 -- one of the events that were read is the leaving of the peer
-abbrev pub has_leaving : Option ℕ → Result (List Event) RtcpFault → Bool
+abbrev pub has_leaving : Option ℕ → Result (List Event) RtcpRefusal → Bool
 has_leaving last (Ok events) = list_any (is_leaving last) events
 has_leaving last (Err fault) = false
 

@@ -4,7 +4,7 @@ ghost use Rattle.leaving_links.specs.Leaving.{peer_by, silent};
 
 use crate::Silence;
 use crate::peers::Peer;
-use link_io::{LinkIn, Taken};
+use link_io::{LinkIn, LinkTake};
 use rtt_base::{Failed, Packet};
 use std::marker::PhantomData;
 
@@ -69,12 +69,12 @@ impl<I: LinkIn, S: Silence> LinkIn for LeavingIn<I, S> {
 
     ghost port = { λ end. I.port end.link };
 
-    fn take(&mut self, out: &mut Packet, until: u64) -> Result<Taken, Failed> {
+    fn take(&mut self, out: &mut Packet, until: u64) -> Result<LinkTake, Failed> {
         let Ok(taken) = self.link.take(out, until) else {
             return Err(Failed);
         };
         self.peer = self.peer.after(self.longest, taken, out.as_slice());
-        Ok(Taken {
+        Ok(LinkTake {
             at: taken.at,
             came: self.peer.told(taken.came),
         })

@@ -8,7 +8,7 @@ mod peers;
 mod silence;
 
 pub use ends::LeavingIn;
-pub use links::Leaving;
+pub use links::LeavingLinks;
 pub use silence::Silence;
 
 #[cfg(test)]

@@ -10,7 +10,7 @@ use std::marker::PhantomData;
 /// Links over others, each of which is closed for good once its peer has left ([`LeavingIn`]). All else is as below: the outbound ends,
 /// the clock, what is stored and the counts of faults.
 #[derive(Drop)]
-pub struct Leaving<L: Links, S: Silence> {
+pub struct LeavingLinks<L: Links, S: Silence> {
     links: L,
     /// How long a peer may be silent.
     longest: Option<u32>,
@@ -18,20 +18,20 @@ pub struct Leaving<L: Links, S: Silence> {
     ghost agreed: { longest ≡ S.longest },
 }
 
-impl<L: Links, S: Silence + Send> Leaving<L, S> {
+impl<L: Links, S: Silence + Send> LeavingLinks<L, S> {
     /// The links over these, whose peers may be silent for so many milliseconds, where there is an end to it.
-    pub fn new(links: L, longest: Option<u32>) -> Leaving<L, S>
+    pub fn new(links: L, longest: Option<u32>) -> LeavingLinks<L, S>
         requires { longest ≡ S.longest }
-        ensures opened { (p : ℕ) → ⟦<Leaving<L, S> as Links>⟧.opened result p ≡ L.opened links p }
-        ensures leads { ⟦<Leaving<L, S> as Links>⟧.leads result ≡ L.leads links }
-        ensures taken { (p : ℕ) → ⟦<Leaving<L, S> as Links>⟧.taken_at result p ≡ takes_told S.longest (L.taken_at links p) }
-        ensures given { (p : ℕ) → ⟦<Leaving<L, S> as Links>⟧.given_at result p ≡ L.given_at links p }
-        ensures own { (p : ℕ) → ⟦<Leaving<L, S> as Links>⟧.own_faults result p ≡ L.own_faults links p }
-        ensures objects { (p : ℕ) → ⟦<Leaving<L, S> as Links>⟧.object_faults result p ≡ L.object_faults links p }
-        ensures moment { ⟦<Leaving<L, S> as Links>⟧.moment result ≡ L.moment links }
-        ensures pauses { ⟦<Leaving<L, S> as Links>⟧.pauses result ≡ L.pauses links }
+        ensures opened { (p : ℕ) → ⟦<LeavingLinks<L, S> as Links>⟧.opened result p ≡ L.opened links p }
+        ensures leads { ⟦<LeavingLinks<L, S> as Links>⟧.leads result ≡ L.leads links }
+        ensures taken { (p : ℕ) → ⟦<LeavingLinks<L, S> as Links>⟧.taken_at result p ≡ takes_told S.longest (L.taken_at links p) }
+        ensures given { (p : ℕ) → ⟦<LeavingLinks<L, S> as Links>⟧.given_at result p ≡ L.given_at links p }
+        ensures own { (p : ℕ) → ⟦<LeavingLinks<L, S> as Links>⟧.own_faults result p ≡ L.own_faults links p }
+        ensures objects { (p : ℕ) → ⟦<LeavingLinks<L, S> as Links>⟧.object_faults result p ≡ L.object_faults links p }
+        ensures moment { ⟦<LeavingLinks<L, S> as Links>⟧.moment result ≡ L.moment links }
+        ensures pauses { ⟦<LeavingLinks<L, S> as Links>⟧.pauses result ≡ L.pauses links }
     {
-        Leaving {
+        LeavingLinks {
             links,
             longest,
             of: PhantomData,
@@ -40,16 +40,16 @@ impl<L: Links, S: Silence + Send> Leaving<L, S> {
 
     /// The links below.
     pub fn into_links(self) -> L
-        ensures opened { (p : ℕ) → ⟦<Leaving<L, S> as Links>⟧.opened self p ≡ L.opened result p }
-        ensures leads { ⟦<Leaving<L, S> as Links>⟧.leads self ≡ L.leads result }
-        ensures taken { (p : ℕ) → ⟦<Leaving<L, S> as Links>⟧.taken_at self p ≡ takes_told S.longest (L.taken_at result p) }
-        ensures given { (p : ℕ) → ⟦<Leaving<L, S> as Links>⟧.given_at self p ≡ L.given_at result p }
-        ensures own { (p : ℕ) → ⟦<Leaving<L, S> as Links>⟧.own_faults self p ≡ L.own_faults result p }
-        ensures objects { (p : ℕ) → ⟦<Leaving<L, S> as Links>⟧.object_faults self p ≡ L.object_faults result p }
-        ensures moment { ⟦<Leaving<L, S> as Links>⟧.moment self ≡ L.moment result }
-        ensures pauses { ⟦<Leaving<L, S> as Links>⟧.pauses self ≡ L.pauses result }
+        ensures opened { (p : ℕ) → ⟦<LeavingLinks<L, S> as Links>⟧.opened self p ≡ L.opened result p }
+        ensures leads { ⟦<LeavingLinks<L, S> as Links>⟧.leads self ≡ L.leads result }
+        ensures taken { (p : ℕ) → ⟦<LeavingLinks<L, S> as Links>⟧.taken_at self p ≡ takes_told S.longest (L.taken_at result p) }
+        ensures given { (p : ℕ) → ⟦<LeavingLinks<L, S> as Links>⟧.given_at self p ≡ L.given_at result p }
+        ensures own { (p : ℕ) → ⟦<LeavingLinks<L, S> as Links>⟧.own_faults self p ≡ L.own_faults result p }
+        ensures objects { (p : ℕ) → ⟦<LeavingLinks<L, S> as Links>⟧.object_faults self p ≡ L.object_faults result p }
+        ensures moment { ⟦<LeavingLinks<L, S> as Links>⟧.moment self ≡ L.moment result }
+        ensures pauses { ⟦<LeavingLinks<L, S> as Links>⟧.pauses self ≡ L.pauses result }
     {
-        let Leaving {
+        let LeavingLinks {
             links,
             longest: _,
             of: _,
@@ -58,7 +58,7 @@ impl<L: Links, S: Silence + Send> Leaving<L, S> {
     }
 }
 
-impl<L: Links, S: Silence + Send> Links for Leaving<L, S> {
+impl<L: Links, S: Silence + Send> Links for LeavingLinks<L, S> {
     ghost use Rattle.leaving_links.specs.Leaving.{takes_told};
 
     type In = LeavingIn<L::In, S>;

@@ -4,7 +4,7 @@ ghost use Rattle.link_io.specs.Taking.{came_of, taken_of};
 ghost use Rattle.leaving_links.specs.Leaving as leaving;
 
 use crate::datagrams::{says_bye, ssrc_after};
-use link_io::{Came, Taken};
+use link_io::{Came, LinkTake};
 
 /// What is known of a peer: the SSRC of its last RTP packet, where one came; since when it is silent (milliseconds), where the link
 /// was asked; and whether it has left.
@@ -68,7 +68,7 @@ impl Peer {
     }
 
     // Since when it is silent once this was taken.
-    fn silent_since(self, taken: Taken) -> u64
+    fn silent_since(self, taken: LinkTake) -> u64
         ensures { (octets : List ℕ) → result ≡ leaving.silent_since self.since (taken_of taken octets) }
     {
         match self.since {
@@ -79,7 +79,7 @@ impl Peer {
 
     /// What is known of it once this was taken, where it may be silent for `longest` (milliseconds); these are the octets of a
     /// datagram.
-    pub(crate) fn after(self, longest: Option<u32>, taken: Taken, octets: &[u8]) -> Peer
+    pub(crate) fn after(self, longest: Option<u32>, taken: LinkTake, octets: &[u8]) -> Peer
         ensures { result ≡ leaving.after_taken longest self (taken_of taken octets.now) }
     {
         let since = self.silent_since(taken);

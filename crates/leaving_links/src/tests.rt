@@ -1,7 +1,7 @@
 ghost use Rattle.std.specs.Prelude.{◌≡◌};
 
-use crate::{Leaving, Silence};
-use link_io::{Came, FailingLink, LinkIn, Links, MemLinks, Planned};
+use crate::{LeavingLinks, Silence};
+use link_io::{Came, FailingLink, LinkIn, Links, MemLinks, PlannedTake};
 use rtt_base::{Bytes, NoMemory, Packet};
 use std::alloc::Global;
 use std::marker::Brand;
@@ -87,7 +87,7 @@ fn plan_all(links: &mut MemLinks, alloc: Global, datagrams: &[Datagram]) -> Resu
     for datagram in datagrams {
         let mut octets = Bytes::new(alloc);
         append_datagram(&mut octets, *datagram)?;
-        let planned = Planned {
+        let planned = PlannedTake {
             at: 100,
             came: Came::Datagram,
             octets,
@@ -121,7 +121,7 @@ fn is_told(alloc: Global, story: Story) -> Result<bool, NoMemory> {
     let Story(datagrams, open) = story;
     let mut below = MemLinks::new(alloc);
     plan_all(&mut below, alloc, datagrams)?;
-    let mut links: Leaving<MemLinks, Brand> = Leaving::new(below, None);
+    let mut links: LeavingLinks<MemLinks, Brand> = LeavingLinks::new(below, None);
     let Ok((mut inbound, outbound)) = links.link(5001, "127.0.0.1:6001") else {
         return Ok(false);
     };
@@ -155,7 +155,7 @@ fn faults_are_those_of_the_link_below(rt: HostRuntime) -> Result<(), Fail> {
     plan_all(&mut below, rt.alloc(), LEAVES.0)?;
     below.fail(FailingLink::Link(5002))?;
     below.fail(FailingLink::Take(5001, 2))?;
-    let mut links: Leaving<MemLinks, Brand> = Leaving::new(below, None);
+    let mut links: LeavingLinks<MemLinks, Brand> = LeavingLinks::new(below, None);
     assert!(rt; links.link(5002, "127.0.0.1:6002").is_err());
     let (mut inbound, outbound) = links.link(5001, "127.0.0.1:6001")?;
     assert!(rt; tells(&mut inbound, Came::Datagram));
@@ -198,9 +198,9 @@ fn is_told_by<S: Silence + Send>(
 {
     let mut below = MemLinks::new(alloc);
     for Moment(at, came, _) in moments {
-        below.plan(5001, Planned::new(alloc, *at, *came, b"")?)?;
+        below.plan(5001, PlannedTake::new(alloc, *at, *came, b"")?)?;
     }
-    let mut links: Leaving<MemLinks, S> = Leaving::new(below, longest);
+    let mut links: LeavingLinks<MemLinks, S> = LeavingLinks::new(below, longest);
     let Ok((mut inbound, outbound)) = links.link(5001, "127.0.0.1:6001") else {
         return Ok(false);
     };

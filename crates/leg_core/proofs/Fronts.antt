@@ -13,7 +13,7 @@ use Rattle.gap_tracker.specs.Tracks as tracks
 use Rattle.gap_tracker.proofs.Giving.{order_is}
 use Rattle.rtpdump_io.specs.declared.readers.DumpReader.{DumpReader}
 use Rattle.rtpdump_io.specs.Reading.{to_come}
-use Rattle.ear.specs.declared.confs.EarConf.{EarConf}
+use Rattle.ear.specs.declared.settings.EarSettings.{EarSettings}
 use Rattle.ear.specs.Hears.{ready_packet, ready_packets, texts_left}
 use Rattle.ear.proofs.Given.{ready_stamped}
 use Rattle.leg_core.specs.declared.legs.Leg.{Leg}
@@ -36,25 +36,25 @@ tracks_fall : (s : State) (story : Story) → tracks.Phase s story → Falling (
 tracks_fall s story (tracks.Before w) = subst (λ (a : List Arrival). Falling (numbered a)) (sym w.past) tt
 tracks_fall s story (tracks.Within h) = h.falling
 
-given_front : (tracker : State) (conf : EarConf) (source : ℕ) (story : Story) (more : List Arrival) → Tracks tracker story → story.wait ≡ conf.wait → AreFrom story.moment more
-    → IsFront (chunks_by 0 (ready_packets story.given) source) (chunks conf.wait 0 (more ++ story.past) source)
-given_front tracker conf source story more k w g =
-    let p = front_is story.wait story.moment more story.past (tracks_fall tracker story k.follows.phase) g in
-    let o = order_is tracker story k in
+given_front : (buffer : State) (settings : EarSettings) (source : ℕ) (story : Story) (more : List Arrival) → Tracks buffer story → story.wait ≡ settings.wait → AreFrom story.moment more
+    → IsFront (chunks_by 0 (ready_packets story.given) source) (chunks settings.wait 0 (more ++ story.past) source)
+given_front buffer settings source story more k w g =
+    let p = front_is story.wait story.moment more story.past (tracks_fall buffer story k.follows.phase) g in
+    let o = order_is buffer story k in
     let past : List Numbered = numbered story.past in
-    let out : p.out ≡ ready_packets story.given ++ ready_packets tracker.settled
+    let out : p.out ≡ ready_packets story.given ++ ready_packets buffer.settled
     = sym p.ready_are ∙ (ap (filter (is_packet_ready_by story.moment)) (sym (ready_stamped story.wait past (used story.wait past)))
-    ∙ (ready_filter story.moment (dues_of story.wait past) ∙ (ap ready_packets o.ready_is ∙ map-append ready_packet story.given tracker.settled))) in
+    ∙ (ready_filter story.moment (dues_of story.wait past) ∙ (ap ready_packets o.ready_is ∙ map-append ready_packet story.given buffer.settled))) in
     subst (λ (n : ℕ). IsFront (chunks_by 0 (ready_packets story.given) source) (chunks n 0 (more ++ story.past) source)) w
-    (chunks_front story.wait 0 source (more ++ story.past) (ready_packets story.given) (ready_packets tracker.settled ++ p.rest)
-    (p.all ∙ (ap (λ us. us ++ p.rest) out ∙ append_assoc (ready_packets story.given) (ready_packets tracker.settled) p.rest)))
+    (chunks_front story.wait 0 source (more ++ story.past) (ready_packets story.given) (ready_packets buffer.settled ++ p.rest)
+    (p.all ∙ (ap (λ us. us ++ p.rest) out ∙ append_assoc (ready_packets story.given) (ready_packets buffer.settled) p.rest)))
 
 -- ---- a leg
 module _ {S : Type 0} (left : S → List ℕ) where
   came_later : (reader : DumpReader S) (past : LegPast) (story : Story) → Phase left reader past story
       → (more : List Arrival) × (came_of past ≡ more ++ story.past) × AreFrom story.moment more
   came_later reader past story (Within o r) =
-      let l = all_later past.conf.ssrc past.conf.pts (to_come left reader).items r.came in (
+      let l = all_later past.settings.ssrc past.settings.payload_types (to_come left reader).items r.came in (
         l.more,
         sym r.same ∙ (l.is ∙ ap (λ (a : List Arrival). l.more ++ a) (sym r.told.arrivals)),
         λ a i. let q = l.times a i in omega (arith, r.told.moment),
@@ -65,9 +65,9 @@ module _ {S : Type 0} (left : S → List ℕ) where
   given_is_front leg past s =
       let h = s.gave.hears in
       let m = came_later leg.reader past s.story s.phase in
-      let f = given_front leg.ear.tracker past.conf past.conf.ssrc s.story m.0 h.tracks h.wait m.2 in
+      let f = given_front leg.ear.buffer past.settings past.settings.ssrc s.story m.0 h.tracks h.wait m.2 in
       let still : List Chunk = map (chunk 0 leg.ear.ready) (texts_left leg.ear) in (
         still ++ f.0,
-        ap (λ (a : List Arrival). chunks past.conf.wait 0 a past.conf.ssrc) m.1
+        ap (λ (a : List Arrival). chunks past.settings.wait 0 a past.settings.ssrc) m.1
             ∙ (f.1 ∙ (ap (λ (cs : List Chunk). cs ++ f.0) (sym s.gave.chunks) ∙ append_assoc past.gave still f.0)),
       )

@@ -1,7 +1,7 @@
 -- What comes later of a recording stands before what came, and came no earlier.
 use Rattle.std.proofs.Common.{◌≡◌, ℕ, ◌≤◌, inl, inr, Some, List, [], ◌∷◌, ◌++◌, refl, ap, arith}
 use Rattle.std.specs.Prelude.{Result, Ok, Err, max}
-use Rattle.rtt_base.specs.declared.text_packets.Pts.{Pts}
+use Rattle.rtt_base.specs.declared.text_packets.PayloadTypes.{PayloadTypes}
 use Rattle.wire_spec.specs.declared.faults.TextFault.{TextFault}
 use Rattle.wire_spec.specs.Packets.{Packet, Arrival}
 use Rattle.wire_spec.specs.Text.{text_of}
@@ -25,18 +25,18 @@ arrived_later t time (Ok p) came all l = let n = l.now in record {
   now = omega arith;
 }
 
-with_later : (t ssrc : ℕ) (pts : Pts) (item : Item) (came all : List Arrival) → Later t came all → Later t came (arrivals_with ssrc pts item all)
-with_later t ssrc pts item came all l = go item.what
+with_later : (t ssrc : ℕ) (payload_types : PayloadTypes) (item : Item) (came all : List Arrival) → Later t came all → Later t came (arrivals_with ssrc payload_types item all)
+with_later t ssrc payload_types item came all l = go item.what
   where
-    go : (w : What) → Later t came (elim w [ recording.Whole octets ↦ arrived item.time (text_of octets (Some ssrc) pts) all | recording.Rtcp ↦ all | recording.Cut ↦ all | recording.Large ↦ all ])
-    go (recording.Whole octets) = arrived_later t item.time (text_of octets (Some ssrc) pts) came all l
+    go : (w : What) → Later t came (elim w [ recording.Whole octets ↦ arrived item.time (text_of octets (Some ssrc) payload_types) all | recording.Rtcp ↦ all | recording.Cut ↦ all | recording.Large ↦ all ])
+    go (recording.Whole octets) = arrived_later t item.time (text_of octets (Some ssrc) payload_types) came all l
     go recording.Rtcp = l
     go recording.Cut = l
     go recording.Large = l
 
-after_later : (t ssrc : ℕ) (pts : Pts) (items : List Item) (came all : List Arrival) → Later t came all → Later t came (arrivals_after ssrc pts all items)
-after_later t ssrc pts [] came all l = l
-after_later t ssrc pts (item ∷ items) came all l = after_later t ssrc pts items came (arrivals_with ssrc pts item all) (with_later t ssrc pts item came all l)
+after_later : (t ssrc : ℕ) (payload_types : PayloadTypes) (items : List Item) (came all : List Arrival) → Later t came all → Later t came (arrivals_after ssrc payload_types all items)
+after_later t ssrc payload_types [] came all l = l
+after_later t ssrc payload_types (item ∷ items) came all l = after_later t ssrc payload_types items came (arrivals_with ssrc payload_types item all) (with_later t ssrc payload_types item came all l)
 
-pub all_later : (ssrc : ℕ) (pts : Pts) (items : List Item) (came : List Arrival) → Later (latest came) came (arrivals_after ssrc pts came items)
-all_later ssrc pts items came = after_later (latest came) ssrc pts items came came (record { more = []; is = refl; times = λ a i. absurd i; now = omega arith })
+pub all_later : (ssrc : ℕ) (payload_types : PayloadTypes) (items : List Item) (came : List Arrival) → Later (latest came) came (arrivals_after ssrc payload_types came items)
+all_later ssrc payload_types items came = after_later (latest came) ssrc payload_types items came came (record { more = []; is = refl; times = λ a i. absurd i; now = omega arith })

@@ -18,7 +18,7 @@ use Rattle.rtpdump_io.proofs.Records.{gives_item, not_last}
 use Rattle.rtpdump_io.proofs.Told.{gives_fault}
 use Rattle.ear.specs.declared.answers.PlainAnswer.{PlainAnswer}
 use Rattle.ear.specs.declared.answers.PlainAnswer.TheVariants as answers
-use Rattle.ear.specs.declared.confs.EarConf.{EarConf}
+use Rattle.ear.specs.declared.settings.EarSettings.{EarSettings}
 use Rattle.ear.specs.declared.ears.Ear.{Ear}
 use Rattle.ear.specs.Hears.{IsGiving, Becomes, GivesChunk, GivesNone, GaveReady, AllReady, IsToldOf, IsReadyAtEnd, arrival_count, is_finished}
 use Rattle.ear.proofs.ReadyBy.{told_arrived}
@@ -50,7 +50,7 @@ rests_giving old new g i = let m = g i.0 i.1 i.2 i.3 i.4 in (i.0, i.1, record i.
 pub item_giving : (old new : Ear) (item : DumpItem) (octets : List ℕ) (more : List Chunk) → GivesItem old new item octets more → IsGiving old → IsGiving new
 item_giving old new item octets more g i = let m = g i.0 i.1 i.2 i.3 i.4 in (i.0, i.1, record (after_item i.0 i.2 item octets) { given = m.0 }, i.3 ++ more, m.1)
 
-pub becomes_giving : (old new : Ear) (f : EarConf → Story → Story) → Becomes old new f → IsGiving old → IsGiving new
+pub becomes_giving : (old new : Ear) (f : EarSettings → Story → Story) → Becomes old new f → IsGiving old → IsGiving new
 becomes_giving old new f b i = (i.0, i.1, f i.0 i.2, i.3, b.gave i.0 i.1 i.2 i.3 i.4)
 
 open_item : (item : DumpItem) → reading.is_last (Ok item) ≡ false → is_end item ≡ false
@@ -79,12 +79,12 @@ module _ {S : Type 0} (left : S → List ℕ) where
 
   pub gives_chunk : (l m : Leg S) (c : Chunk) → m.reader ≡ l.reader → GivesChunk l.ear m.ear c → (past : LegPast) → Stands left l past → Stands left m (gave_chunk past c)
   gives_chunk l m c r g past s =
-      let more = g past.conf past.conf.ssrc s.story past.gave s.gave in
+      let more = g past.settings past.settings.ssrc s.story past.gave s.gave in
       record { story = record s.story { given = more.0 }; gave = more.1; phase = subst (λ (q : DumpReader S). Phase left q (gave_chunk past c) (record s.story { given = more.0 })) (sym r) (moved l.reader past s.story c more.0 s.phase) }
 
   pub gives_none : (l m : Leg S) → m.reader ≡ l.reader → GivesNone l.ear m.ear → (past : LegPast) → Stands left l past → Stands left m past
   gives_none l m r g past s =
-      let more = g past.conf past.conf.ssrc s.story past.gave s.gave in
+      let more = g past.settings past.settings.ssrc s.story past.gave s.gave in
       record { story = record s.story { given = more.0 }; gave = more.1; phase = subst (λ (q : DumpReader S). Phase left q past (record s.story { given = more.0 })) (sym r) (waits l.reader past s.story more.0 s.phase) }
 
   pub gives_end : (l : Leg S) → is_ended l.reader ≡ true → GaveReady l.ear → (past : LegPast) → Stands left l past → (past.gave ≡ chunks_of past) × ((recording_of past).fault ≡ None)
@@ -92,28 +92,28 @@ module _ {S : Type 0} (left : S → List ℕ) where
     where
       go : Phase left l.reader past s.story → (past.gave ≡ chunks_of past) × ((recording_of past).fault ≡ None)
       go (Within o r) = absurd (true≢false (sym e ∙ o))
-      go (Behind f w) = (g past.conf past.conf.ssrc s.story past.gave s.gave ∙ (w.ready ∙ ap (λ (a : List Arrival). chunks past.conf.wait 0 a past.conf.ssrc) w.came), w.no_fault)
+      go (Behind f w) = (g past.settings past.settings.ssrc s.story past.gave s.gave ∙ (w.ready ∙ ap (λ (a : List Arrival). chunks past.settings.wait 0 a past.settings.ssrc) w.came), w.no_fault)
 
   -- ---- what is read
-  reads_on : (past : LegPast) (story : Story) (item : DumpItem) (out : List ℕ) (before rest : Recording) → IsRead past story before → before ≡ with_item (record_of item out) rest → is_end item ≡ false → IsRead past (after_item past.conf story item out) rest
+  reads_on : (past : LegPast) (story : Story) (item : DumpItem) (out : List ℕ) (before rest : Recording) → IsRead past story before → before ≡ with_item (record_of item out) rest → is_end item ≡ false → IsRead past (after_item past.settings story item out) rest
   reads_on past story item out before rest r e n = record {
-    came = arrivals_with past.conf.ssrc past.conf.pts (record_of item out) r.came;
+    came = arrivals_with past.settings.ssrc past.settings.payload_types (record_of item out) r.came;
     told = told item n;
-    same = ap (λ (q : Recording). arrivals_after past.conf.ssrc past.conf.pts r.came q.items) (sym e) ∙ r.same;
+    same = ap (λ (q : Recording). arrivals_after past.settings.ssrc past.settings.payload_types r.came q.items) (sym e) ∙ r.same;
     fault = ap (λ (q : Recording). q.fault) (sym e) ∙ r.fault;
   }
     where
-      told : (i : DumpItem) → is_end i ≡ false → IsToldOf (after_item past.conf story i out) (arrivals_with past.conf.ssrc past.conf.pts (record_of i out) r.came)
-      told (Packet at) e = told_arrived story r.came at (text_of out (Some past.conf.ssrc) past.conf.pts) r.told
+      told : (i : DumpItem) → is_end i ≡ false → IsToldOf (after_item past.settings story i out) (arrivals_with past.settings.ssrc past.settings.payload_types (record_of i out) r.came)
+      told (Packet at) e = told_arrived story r.came at (text_of out (Some past.settings.ssrc) past.settings.payload_types) r.told
       told (Rtcp at) e = r.told
       told (Cut at) e = r.told
       told (Large at) e = r.told
       told End e = absurd (true≢false e)
 
-  reads_end : (past : LegPast) (story : Story) (before : Recording) → IsRead past story before → before ≡ nothing → IsReadyAtEnd past.conf story → IsWhole past (ended story)
+  reads_end : (past : LegPast) (story : Story) (before : Recording) → IsRead past story before → before ≡ nothing → IsReadyAtEnd past.settings story → IsWhole past (ended story)
   reads_end past story before r e d = record {
-    came = r.told.arrivals ∙ (ap (λ (q : Recording). arrivals_after past.conf.ssrc past.conf.pts r.came q.items) (sym e) ∙ r.same);
-    ready = d.chunks past.conf.ssrc;
+    came = r.told.arrivals ∙ (ap (λ (q : Recording). arrivals_after past.settings.ssrc past.settings.payload_types r.came q.items) (sym e) ∙ r.same);
+    ready = d.chunks past.settings.ssrc;
     no_fault = sym r.fault ∙ ap (λ (q : Recording). q.fault) e;
   }
 
@@ -122,21 +122,21 @@ module _ {S : Type 0} (left : S → List ℕ) where
   reading_yet reader past story o (Behind e w) = absurd (true≢false (sym e ∙ o))
 
   pub reads_item : (l m : Leg S) (item : DumpItem) (out : List ℕ) → is_ended l.reader ≡ false → Gives (Ok item) out (to_come left l.reader) (to_come left m.reader) → is_ended m.reader ≡ reading.is_last (Ok item)
-      → Becomes l.ear m.ear (λ conf story. after_item conf story item out) → (item ≡ End → AllReady l.ear) → (past : LegPast) → Stands left l past → Stands left m past
-  reads_item l m item out o g e b all past s = record { story = after_item past.conf s.story item out; gave = b.gave past.conf past.conf.ssrc s.story past.gave s.gave; phase = go item refl g e }
+      → Becomes l.ear m.ear (λ settings story. after_item settings story item out) → (item ≡ End → AllReady l.ear) → (past : LegPast) → Stands left l past → Stands left m past
+  reads_item l m item out o g e b all past s = record { story = after_item past.settings s.story item out; gave = b.gave past.settings past.settings.ssrc s.story past.gave s.gave; phase = go item refl g e }
     where
       r : IsRead past s.story (to_come left l.reader)
       r = reading_yet l.reader past s.story o s.phase
 
-      on : (i : DumpItem) → is_end i ≡ false → Gives (Ok i) out (to_come left l.reader) (to_come left m.reader) → is_ended m.reader ≡ reading.is_last (Ok i) → Phase left m.reader past (after_item past.conf s.story i out)
+      on : (i : DumpItem) → is_end i ≡ false → Gives (Ok i) out (to_come left l.reader) (to_come left m.reader) → is_ended m.reader ≡ reading.is_last (Ok i) → Phase left m.reader past (after_item past.settings s.story i out)
       on i n h f = Within (f ∙ not_last i n) (reads_on past s.story i out (to_come left l.reader) (to_come left m.reader) r (gives_item i out (to_come left l.reader) (to_come left m.reader) n h) n)
 
-      go : (i : DumpItem) → item ≡ i → Gives (Ok i) out (to_come left l.reader) (to_come left m.reader) → is_ended m.reader ≡ reading.is_last (Ok i) → Phase left m.reader past (after_item past.conf s.story i out)
+      go : (i : DumpItem) → item ≡ i → Gives (Ok i) out (to_come left l.reader) (to_come left m.reader) → is_ended m.reader ≡ reading.is_last (Ok i) → Phase left m.reader past (after_item past.settings s.story i out)
       go (Packet at) q h f = on (Packet at) refl h f
       go (Rtcp at) q h f = on (Rtcp at) refl h f
       go (Cut at) q h f = on (Cut at) refl h f
       go (Large at) q h f = on (Large at) refl h f
-      go End q h f = Behind f (reads_end past s.story (to_come left l.reader) r h (all q past.conf (past.conf.ssrc ∷ []) s.story s.gave.hears))
+      go End q h f = Behind f (reads_end past s.story (to_come left l.reader) r h (all q past.settings (past.settings.ssrc ∷ []) s.story s.gave.hears))
 
   -- the record was told, and these chunks were given
   given_more : (reader : DumpReader S) (past : LegPast) (story : Story) (more : List Chunk) (given : List Given) → Phase left reader past story → Phase left reader (record past { gave = past.gave ++ more }) (record story { given = given })
@@ -147,8 +147,8 @@ module _ {S : Type 0} (left : S → List ℕ) where
       → GivesItem l.ear m.ear item out more → (past : LegPast) → Stands left l past → Stands left m (record past { gave = past.gave ++ more })
   hears_item l m item out more o g e n gives past s =
       let r = reading_yet l.reader past s.story o s.phase in
-      let told = after_item past.conf s.story item out in
-      let after = gives past.conf past.conf.ssrc s.story past.gave s.gave in
+      let told = after_item past.settings s.story item out in
+      let after = gives past.settings past.settings.ssrc s.story past.gave s.gave in
       let read = reads_on past s.story item out (to_come left l.reader) (to_come left m.reader) r (gives_item item out (to_come left l.reader) (to_come left m.reader) n g) n in
       record { story = record told { given = after.0 }; gave = after.1; phase = given_more m.reader past told more after.0 (Within (e ∙ not_last item n) read) }
 

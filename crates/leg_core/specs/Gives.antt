@@ -8,7 +8,7 @@ use Rattle.rtpdump_io.specs.declared.items.DumpFault.{DumpFault}
 use Rattle.rtpdump_io.specs.declared.readers.DumpReader.{DumpReader}
 use Rattle.rtpdump_io.specs.Reading.{to_come, is_ended, most_answers, IsFaultOf}
 use Rattle.rtpdump_io.specs.Reading as reading
-use Rattle.ear.specs.declared.confs.EarConf.{EarConf}
+use Rattle.ear.specs.declared.settings.EarSettings.{EarSettings}
 use Rattle.ear.specs.Hears.{Gave, IsToldOf, ready_chunks, story_chunks}
 use Rattle.ear.specs.Hears as ear
 use Rattle.leg_core.specs.declared.steps.LegStep.{LegStep}
@@ -17,17 +17,17 @@ use Rattle.leg_core.specs.declared.legs.Leg.{Leg}
 
 -- ---- the past of a leg
 
--- It is to hear the source `conf.ssrc` in a recording of these octets, at most `limit`, and gave these chunks so far,
--- oldest first.
+-- It is to hear the source `settings.ssrc` in a recording of these octets, at most `limit`, and gave these chunks so
+-- far, oldest first.
 pub record LegPast : Type 0 where
-  pub conf : EarConf
+  pub settings : EarSettings
   pub limit : ℕ
   pub octets : List ℕ
   pub gave : List Chunk
 
 -- nothing was given yet
-abbrev pub begins : EarConf → ℕ → List ℕ → LegPast
-begins conf limit octets = record { conf = conf; limit = limit; octets = octets; gave = [] }
+abbrev pub begins : EarSettings → ℕ → List ℕ → LegPast
+begins settings limit octets = record { settings = settings; limit = limit; octets = octets; gave = [] }
 
 -- one more chunk
 abbrev pub gave_chunk : LegPast → Chunk → LegPast
@@ -38,11 +38,11 @@ recording_of past = dump past.limit past.octets
 
 -- what comes of the recording, newest first
 abbrev pub came_of : LegPast → List Arrival
-came_of past = arrivals_after past.conf.ssrc past.conf.pts [] (recording_of past).items
+came_of past = arrivals_after past.settings.ssrc past.settings.payload_types [] (recording_of past).items
 
 -- all chunks of the recording, whose source is 0: whose they are is set by who mixes
 abbrev pub chunks_of : LegPast → List Chunk
-chunks_of past = chunks past.conf.wait 0 (came_of past) past.conf.ssrc
+chunks_of past = chunks past.settings.wait 0 (came_of past) past.settings.ssrc
 
 -- ---- what it answers
 
@@ -59,13 +59,13 @@ is_last (Err fault) = true
 pub record IsRead (past : LegPast) (story : Story) (rest : Recording) : Type 0 where
   pub came : List Arrival
   pub told : IsToldOf story came
-  pub same : arrivals_after past.conf.ssrc past.conf.pts came rest.items ≡ came_of past
+  pub same : arrivals_after past.settings.ssrc past.settings.payload_types came rest.items ≡ came_of past
   pub fault : rest.fault ≡ (recording_of past).fault
 
 -- the ear was told of the whole recording, and of its end
 pub record IsWhole (past : LegPast) (story : Story) : Type 0 where
   pub came : story.past ≡ came_of past
-  pub ready : ready_chunks past.conf past.conf.ssrc story ≡ story_chunks past.conf past.conf.ssrc story
+  pub ready : ready_chunks past.settings past.settings.ssrc story ≡ story_chunks past.settings past.settings.ssrc story
   pub no_fault : (recording_of past).fault ≡ None
 
 module _ {S : Type 0} where
@@ -92,7 +92,7 @@ module _ {S : Type 0} where
   -- it has this past
   pub record Stands (left : S → List ℕ) (leg : Leg S) (past : LegPast) : Type 0 where
     pub story : Story
-    pub gave : Gave leg.ear past.conf past.conf.ssrc story past.gave
+    pub gave : Gave leg.ear past.settings past.settings.ssrc story past.gave
     pub phase : Phase left leg.reader past story
 
   -- one step of a leg with this past, in which this chunk was handed out

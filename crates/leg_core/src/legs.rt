@@ -5,7 +5,7 @@ ghost use Rattle.rtt_base.specs.declared.limits.TheConstants.{LONGEST_WAIT};
 
 use crate::LegStep;
 use crate::records::{hear_item, hear_plain_item};
-use ear::{Ear, EarConf, PlainAnswer};
+use ear::{Ear, EarSettings, PlainAnswer};
 use rtpdump_io::{DumpFault, DumpReader};
 use rtt_base::{Chunk, Packet};
 use rtt_io::Source;
@@ -39,35 +39,35 @@ impl<S: Source> Leg<S> {
     ghost use Rattle.stream_spec.specs.Ready.{chunk_of};
     ghost use Rattle.rtt_io.specs.Counts.{Rose};
     ghost use Rattle.rtpdump_io.specs.Reading.{UnlessOfSource, is_ended};
-    ghost use Rattle.ear.specs.declared.confs.EarConf.{EarConf};
+    ghost use Rattle.ear.specs.declared.settings.EarSettings.{EarSettings};
     ghost use Rattle.leg_core.specs.Gives.{Follows, Stands, begins, is_last, is_over, is_quiet, source_of, unread};
 
     /// A leg over a recording of at most 4194304 octets. The wait is at most 10000 milliseconds.
-    pub fn new(alloc: Global, source: S, conf: EarConf) -> Result<Leg<S>, LegLost<S>>
-        requires { conf.wait ≤ LONGEST_WAIT }
-        ensures stands { S.tells → IfOk result (λ leg. Stands S.left leg (begins conf MOST_RECORDING_OCTETS (S.left source))) }
+    pub fn new(alloc: Global, source: S, settings: EarSettings) -> Result<Leg<S>, LegLost<S>>
+        requires { settings.wait ≤ LONGEST_WAIT }
+        ensures stands { S.tells → IfOk result (λ leg. Stands S.left leg (begins settings MOST_RECORDING_OCTETS (S.left source))) }
         ensures open { IfOk result (λ leg. is_over leg ≡ false) }
         ensures source { IfOk result (λ leg. source_of leg ≡ source) }
         ensures lost { IfErr result (λ lost. lost.source ≡ source) }
     {
-        Leg::with_limit(alloc, source, conf, MOST_RECORDING_OCTETS)
+        Leg::with_limit(alloc, source, settings, MOST_RECORDING_OCTETS)
     }
 
     /// A leg over a recording of at most `limit` octets.
     pub fn with_limit(
         alloc: Global,
         source: S,
-        conf: EarConf,
+        settings: EarSettings,
         limit: u32,
     ) -> Result<Leg<S>, LegLost<S>>
-        requires wait { conf.wait ≤ LONGEST_WAIT }
+        requires wait { settings.wait ≤ LONGEST_WAIT }
         requires limit { limit ≤ MOST_RECORDING_OCTETS }
-        ensures stands { S.tells → IfOk result (λ leg. Stands S.left leg (begins conf limit (S.left source))) }
+        ensures stands { S.tells → IfOk result (λ leg. Stands S.left leg (begins settings limit (S.left source))) }
         ensures open { IfOk result (λ leg. is_over leg ≡ false) }
         ensures source { IfOk result (λ leg. source_of leg ≡ source) }
         ensures lost { IfErr result (λ lost. lost.source ≡ source) }
     {
-        let Ok(ear) = Ear::new(alloc, conf, &[conf.ssrc]) else {
+        let Ok(ear) = Ear::new(alloc, settings, &[settings.ssrc]) else {
             return Err(LegLost { source });
         };
         let Ok(packet) = Box::new(alloc, Packet::new()) else {

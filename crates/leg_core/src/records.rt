@@ -2,7 +2,7 @@
 ghost use Rattle.std.specs.Prelude.{◌≡◌, ◌≢◌, ◌≤◌, ◌<◌, ◌+◌, [], ◌∷◌, true, false, IsUtf8};
 ghost use Rattle.rtpdump_io.specs.Answers.{is_end};
 ghost use Rattle.rtpdump_io.specs.declared.items.DumpItem.{DumpItem};
-ghost use Rattle.ear.specs.Hears.{Becomes, AllReady, arrival_count, conf_of, is_clear, is_finished, is_quiet};
+ghost use Rattle.ear.specs.Hears.{Becomes, AllReady, arrival_count, settings_of, is_clear, is_finished, is_quiet};
 ghost use Rattle.ear.specs.Hears.{IsGiving};
 ghost use Rattle.ear.specs.declared.answers.PlainAnswer.{PlainAnswer};
 ghost use Rattle.wire_spec.specs.Packets.{has_text};
@@ -32,7 +32,7 @@ pub fn hear_plain_item(
     ensures utf8 { result ≡ PlainAnswer.Chunk → IsUtf8 chunk.new.text }
     ensures quiet { is_quiet ear.new ≡ true }
     ensures packet { result ≢ PlainAnswer.NotPlain → is_end item ≡ false }
-    ensures conf { conf_of ear.new ≡ conf_of ear.old }
+    ensures settings { settings_of ear.new ≡ settings_of ear.old }
     ensures arrivals { arrival_count ear.new ≤ arrival_count ear.old + 1 }
     ensures finished { is_finished ear.new ≡ is_finished ear.old }
 {
@@ -48,9 +48,9 @@ pub fn hear_item(ear: &mut Ear, item: DumpItem, octets: &[u8])
     requires quiet { is_quiet ear.old ≡ true }
     requires few { arrival_count ear.old < MOST_ARRIVALS }
     requires once { is_finished ear.old ≡ false }
-    ensures becomes { Becomes ear.old ear.new (λ conf story. after_item conf story item octets.now) }
+    ensures becomes { Becomes ear.old ear.new (λ settings story. after_item settings story item octets.now) }
     ensures all { item ≡ DumpItem.End → AllReady ear.old }
-    ensures conf { conf_of ear.new ≡ conf_of ear.old }
+    ensures settings { settings_of ear.new ≡ settings_of ear.old }
     ensures arrivals { arrival_count ear.new ≤ arrival_count ear.old + 1 }
     ensures finished { is_finished ear.new ≡ is_end item }
 {

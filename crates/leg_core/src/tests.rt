@@ -2,17 +2,17 @@ ghost use Rattle.std.specs.Prelude.{◌≡◌, ◌≤◌, Bool, IfOk};
 ghost use Rattle.leg_core.specs.Gives.{is_over};
 
 use crate::{Leg, LegStep};
-use ear::EarConf;
+use ear::EarSettings;
 use rtpdump_io::DumpFault;
-use rtt_base::{Bytes, Chunk, NoMemory, Pts};
+use rtt_base::{Bytes, Chunk, NoMemory, PayloadTypes};
 use rtt_io::SteadySource;
 use std::alloc::Global;
 use std::test::Fail;
 use wire_spec::DumpKind;
 
-const ANN: EarConf = EarConf {
+const ANN: EarSettings = EarSettings {
     ssrc: 1001,
-    pts: Pts { t140: 98, red: 100 },
+    payload_types: PayloadTypes { t140: 98, red: 100 },
     wait: 1000,
 };
 

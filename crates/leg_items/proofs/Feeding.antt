@@ -14,19 +14,19 @@ use Rattle.leg_core.specs.declared.steps.LegStep.TheVariants as step
 use Rattle.leg_core.specs.Gives.{Stands, Follows, is_last, is_over, source_of, unread}
 use Rattle.mix_loop.specs.declared.items.Item.{Item}
 use Rattle.mix_loop.specs.declared.items.Item.TheVariants as item
-use Rattle.mix_loop.specs.declared.items.Ended.{Ended}
-use Rattle.mix_loop.specs.declared.items.Ended.TheVariants.{Open, AtEnd, AtFault}
+use Rattle.mix_loop.specs.declared.items.TextsEnd.{TextsEnd}
+use Rattle.mix_loop.specs.declared.items.TextsEnd.TheVariants.{Open, AtEnd, AtFault}
 use Rattle.mix_loop.specs.Items.{Gave, gave_more, goes_on, is_open, nothing}
 use Rattle.mixer_spec.proofs.Lists.{nil}
 use Rattle.leg_items.specs.declared.inlets.LegInlet.{LegInlet}
 use Rattle.leg_items.specs.Feds.{Asked, GivesAs, GetsOn, Fed, past_of, recording_asked, chunks_asked, is_source_fault, item_for, lively}
 
-open_is : (e : Ended DumpFault) → is_open e ≡ true → e ≡ Open
+open_is : (e : TextsEnd DumpFault) → is_open e ≡ true → e ≡ Open
 open_is Open o = refl
 open_is AtEnd o = absurd (true≢false (sym o))
 open_is (AtFault f) o = absurd (true≢false (sym o))
 
-not_fault : (f : DumpFault) → ◌≡◌ {A = Ended DumpFault} Open (AtFault f) → ⊥
+not_fault : (f : DumpFault) → ◌≡◌ {A = TextsEnd DumpFault} Open (AtFault f) → ⊥
 not_fault f e = cc e
 
 rose_later : (a b c : ℕ) → a ≤ b → Rose b c → Rose a c
@@ -48,7 +48,7 @@ module _ {S : Type 0} (tells : Type 0) (left : S → List ℕ) (faults : S → �
     still = open_is gave.ended (fed.open_still ∙ ap not not_over)
 
     before : tells → (a : Asked) → Stands left first.leg (past_of a []) → GivesAs left old.leg a gave.chunks Open
-    before t a s = subst (λ (e : Ended DumpFault). GivesAs left old.leg a gave.chunks e) still (fed.gives t a s)
+    before t a s = subst (λ (e : TextsEnd DumpFault). GivesAs left old.leg a gave.chunks e) still (fed.gives t a s)
 
     more_count : faults (source_of first.leg) ≤ faults (source_of new.leg)
     more_count = let x = fed.never_falls in omega (arith, x, rises)
@@ -64,7 +64,7 @@ module _ {S : Type 0} (tells : Type 0) (left : S → List ℕ) (faults : S → �
       gives = λ t a s.
           let b = before t a s in
           let r = g t a b.0 b.1 b.2 in
-          subst (λ (e : Ended DumpFault). GivesAs left new.leg a chunks e) (sym still) r;
+          subst (λ (e : TextsEnd DumpFault). GivesAs left new.leg a chunks e) (sym still) r;
       never_falls = more_count;
       read = λ f e. absurd (not_fault f (sym still ∙ e));
       calm = λ e. steady same;

@@ -1,4 +1,4 @@
 pub mod Feeding
 pub mod Telling
-pub mod OfConfs
+pub mod OfConferences
 pub mod Pushing

@@ -9,15 +9,15 @@ use Rattle.leg_core.specs.Gives.{is_over}
 use Rattle.item_queue.specs.Passes.{pushed}
 use Rattle.item_queue.proofs.Feeding.{empty_has}
 use Rattle.mix_loop.specs.declared.answers.Answer.{Answer}
-use Rattle.mix_loop.specs.declared.items.Ended.{Ended}
-use Rattle.mix_loop.specs.declared.items.Ended.TheVariants.{Open, AtEnd, AtFault}
+use Rattle.mix_loop.specs.declared.items.TextsEnd.{TextsEnd}
+use Rattle.mix_loop.specs.declared.items.TextsEnd.TheVariants.{Open, AtEnd, AtFault}
 use Rattle.mix_loop.specs.Answers.{gave_of}
 use Rattle.mix_loop.specs.Items.{is_open}
 use Rattle.leg_items.specs.Done.{DoneIsAll, IsWhole}
 use Rattle.leg_items.specs.Feds.{Asked, Fed, GivesAs}
 
 module _ {S : Type 0} (tells : Type 0) (left : S → List ℕ) (faults : S → ℕ) (name : S → List ℕ) where
-  whole_of : (leg : Leg S) (a : Asked) (chunks : List Chunk) (e : Ended DumpFault) → is_open e ≡ false → GivesAs left leg a chunks e → IsWhole a chunks e
+  whole_of : (leg : Leg S) (a : Asked) (chunks : List Chunk) (e : TextsEnd DumpFault) → is_open e ≡ false → GivesAs left leg a chunks e → IsWhole a chunks e
   whole_of leg a chunks Open o g = true≢false o
   whole_of leg a chunks AtEnd o g = g
   whole_of leg a chunks (AtFault f) o g = g

@@ -7,14 +7,14 @@ use Rattle.stream_spec.specs.Ready.{Chunk}
 use Rattle.mixer_spec.specs.Setups.{Setup, in_stay}
 use Rattle.mixer_spec.specs.Table.{Call}
 use Rattle.mixer_spec.specs.Plain.{plain}
-use Rattle.mix_loop.specs.declared.items.Ended.{Ended}
-use Rattle.mix_loop.specs.declared.items.Ended.TheVariants.{AtEnd}
-use Rattle.mix_loop.specs.declared.turns.Mixing.{Mixing}
-use Rattle.mix_loop.specs.declared.turns.Mixing.TheVariants as mixing
+use Rattle.mix_loop.specs.declared.items.TextsEnd.{TextsEnd}
+use Rattle.mix_loop.specs.declared.items.TextsEnd.TheVariants.{AtEnd}
+use Rattle.mix_loop.specs.declared.turns.MixEnd.{MixEnd}
+use Rattle.mix_loop.specs.declared.turns.MixEnd.TheVariants as mixing
 use Rattle.mix_loop.specs.Items.{Gave}
 use Rattle.mix_loop.specs.Mixing.{MixedAll, NoneGave, part_of}
 use Rattle.mix_loop.specs.Ports.{of_leg}
-use Rattle.mix_loop.specs.Turns.{AllAtEnd, Tells}
+use Rattle.mix_loop.specs.Turns.{AllAtEnd, TellsMixing}
 use Rattle.mix_loop.proofs.Lists.{funext, get_within, lt_or_ge}
 use Rattle.leg_items.specs.declared.inlets.LegInlet.{LegInlet}
 use Rattle.leg_items.specs.Feds.{Asked, GivesAs, Fed, recording_asked, chunks_asked, is_source_fault, lively}
@@ -25,7 +25,7 @@ pub none_gave : {S : Type 0} (tells : Type 0) (left : S → List ℕ) (faults : 
     → NoneGave (λ first now gave. Fed tells left faults name first now gave) legs
 none_gave tells left faults name legs new j i e = fed_none tells left faults name i (new j i e)
 
-module _ {S M T : Type 0} (tells : Type 0) (left : S → List ℕ) (faults : S → ℕ) (name : S → List ℕ) (mixes : M → Setup → List Call → Type 0) (s : Setup) (tick turns : ℕ) (answer : Mixing DumpFault T)
+module _ {S M T : Type 0} (tells : Type 0) (left : S → List ℕ) (faults : S → ℕ) (name : S → List ℕ) (mixes : M → Setup → List Call → Type 0) (s : Setup) (tick turns : ℕ) (answer : MixEnd DumpFault T)
     (old new : List (LegInlet S)) (m : M) (legs : s.legs ≡ length old) (same : length new ≡ length old)
     (x : MixedAll (λ first now gave. Fed tells left faults name first now gave) mixes s tick turns answer old new m) where
   abbrev parts : ℕ → Gave DumpFault
@@ -50,7 +50,7 @@ module _ {S M T : Type 0} (tells : Type 0) (left : S → List ℕ) (faults : S �
   of j low = let r = some_at new j (omega (arith, low, legs, same)) in at_leg j r.0 r.1
 
   -- a leg that was read without a failure did not end at one of its source
-  calm_end : (j : ℕ) → j < s.legs → (a : Mixing DumpFault T) → Tells a s tick turns parts x.table → IsReadWell a j → is_source_fault (x.gave j).ended ≡ false
+  calm_end : (j : ℕ) → j < s.legs → (a : MixEnd DumpFault T) → TellsMixing a s tick turns parts x.table → IsReadWell a j → is_source_fault (x.gave j).ended ≡ false
   calm_end j low mixing.Over w r = ap is_source_fault (w.1 j low)
   calm_end j low mixing.TooLong w r = ap is_source_fault (w.1 j low)
   calm_end j low (mixing.Stopped why) w r = absurd r
@@ -73,7 +73,7 @@ module _ {S M T : Type 0} (tells : Type 0) (left : S → List ℕ) (faults : S �
       record {
         never_falls = fed.never_falls;
         same_name = fed.same_name;
-        read = λ fault e kind. fed.read fault (subst (λ (a : Mixing DumpFault T). Tells a s tick turns parts x.table) e x.tells).is kind;
+        read = λ fault e kind. fed.read fault (subst (λ (a : MixEnd DumpFault T). TellsMixing a s tick turns parts x.table) e x.tells).is kind;
         calm = λ r. fed.calm (calm_end j (let low = get_within old j i was in omega (arith, low, legs)) answer x.tells r);
       }
 
@@ -85,7 +85,7 @@ module _ {S M T : Type 0} (tells : Type 0) (left : S → List ℕ) (faults : S �
     ended : (j : ℕ) → j < s.legs → (x.gave j).ended ≡ AtEnd → ((x.gave j).chunks ≡ lively (chunks_asked (asked j))) × ((recording_asked (asked j)).fault ≡ None)
     ended j low e =
         let o = of j low in
-        subst (λ (y : Ended DumpFault). GivesAs left o.after.leg (asked j) (x.gave j).chunks y) e (gives j o)
+        subst (λ (y : TextsEnd DumpFault). GivesAs left o.after.leg (asked j) (x.gave j).chunks y) e (gives j o)
 
     whole : (n : ℕ) → n ≤ s.legs → AllAtEnd n parts → AllWhole n asked
     whole n few all j low = (ended j (omega arith) (all j low)).1
@@ -96,13 +96,13 @@ module _ {S M T : Type 0} (tells : Type 0) (left : S → List ℕ) (faults : S �
       | inr high ↦ ap (λ (g : Gave DumpFault). (part_of s j g).chunks) (x.above j high) ∙ sym (are.above j high)
     ])
 
-    answers : (a : Mixing DumpFault T) → Tells a s tick turns parts x.table → IsAnswer a s tick turns asked chunks x.table
+    answers : (a : MixEnd DumpFault T) → TellsMixing a s tick turns parts x.table → IsAnswer a s tick turns asked chunks x.table
     answers mixing.Over w = (ap (plain s tick turns) (sym (all_chunks w.1)) ∙ w.0, whole s.legs (omega arith) w.1)
     answers mixing.TooLong w = (ap (plain s tick turns) (sym (all_chunks w.1)) ∙ w.0, whole s.legs (omega arith) w.1)
     answers (mixing.Stopped why) w = tt
     answers (mixing.Faulted leg fault) w = (
       w.below,
-      (let o = of leg w.below in subst (λ (y : Ended DumpFault). GivesAs left o.after.leg (asked leg) (x.gave leg).chunks y) w.is (gives leg o)),
+      (let o = of leg w.below in subst (λ (y : TextsEnd DumpFault). GivesAs left o.after.leg (asked leg) (x.gave leg).chunks y) w.is (gives leg o)),
       whole leg (let b = w.below in omega (arith, b)) w.lowest,
     )
 
@@ -110,7 +110,7 @@ module _ {S M T : Type 0} (tells : Type 0) (left : S → List ℕ) (faults : S �
   plain_mixed = record {
     table = x.table;
     mixed = x.mixed;
-    within = λ leg fault is. (let t = subst (λ (a : Mixing DumpFault T). Tells a s tick turns parts x.table) is x.tells in t.below);
+    within = λ leg fault is. (let t = subst (λ (a : MixEnd DumpFault T). TellsMixing a s tick turns parts x.table) is x.tells in t.below);
     sources = sources_kept;
     is = λ t asked chunks asks are. answers t asked chunks asks are answer x.tells;
   }

@@ -8,14 +8,14 @@ use Rattle.item_queue.specs.declared.feeds.Feed.{Feed}
 use Rattle.item_queue.specs.Feeds.{FeedStands, is_done}
 use Rattle.item_queue.specs.Passes.{pushed}
 use Rattle.mix_loop.specs.declared.answers.Answer.{Answer}
-use Rattle.mix_loop.specs.declared.items.Ended.{Ended}
-use Rattle.mix_loop.specs.declared.items.Ended.TheVariants.{Open, AtEnd, AtFault}
+use Rattle.mix_loop.specs.declared.items.TextsEnd.{TextsEnd}
+use Rattle.mix_loop.specs.declared.items.TextsEnd.TheVariants.{Open, AtEnd, AtFault}
 use Rattle.mix_loop.specs.Answers.{GaveAs, gave_of}
 use Rattle.leg_items.specs.declared.inlets.LegInlet.{LegInlet}
 use Rattle.leg_items.specs.Feds.{Asked, Fed, chunks_asked, lively, past_of, recording_asked}
 
 -- these texts, and how they ended, are all of a leg that is asked for this
-abbrev pub IsWhole : Asked → List Chunk → Ended DumpFault → Type 0
+abbrev pub IsWhole : Asked → List Chunk → TextsEnd DumpFault → Type 0
 IsWhole a chunks Open = ⊥
 IsWhole a chunks AtEnd = (chunks ≡ lively (chunks_asked a)) × ((recording_asked a).fault ≡ None)
 IsWhole a chunks (AtFault fault) = IsFaultOf (recording_asked a) fault

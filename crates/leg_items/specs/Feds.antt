@@ -7,27 +7,27 @@ use Rattle.stream_spec.specs.Still.{is_lively_chunk}
 use Rattle.rtt_io.specs.Counts.{Rose}
 use Rattle.rtpdump_io.specs.declared.items.DumpFault.{DumpFault}
 use Rattle.rtpdump_io.specs.Reading.{IsFaultOf, is_of_source}
-use Rattle.ear.specs.declared.confs.EarConf.{EarConf}
+use Rattle.ear.specs.declared.settings.EarSettings.{EarSettings}
 use Rattle.leg_core.specs.declared.steps.LegStep.{LegStep}
 use Rattle.leg_core.specs.declared.steps.LegStep.TheVariants as step
 use Rattle.leg_core.specs.declared.legs.Leg.{Leg}
 use Rattle.leg_core.specs.Gives.{Follows, LegPast, Stands, chunks_of, recording_of, is_over, source_of, unread}
 use Rattle.mix_loop.specs.declared.items.Item.{Item}
 use Rattle.mix_loop.specs.declared.items.Item.TheVariants as item
-use Rattle.mix_loop.specs.declared.items.Ended.{Ended}
-use Rattle.mix_loop.specs.declared.items.Ended.TheVariants.{Open, AtEnd, AtFault}
+use Rattle.mix_loop.specs.declared.items.TextsEnd.{TextsEnd}
+use Rattle.mix_loop.specs.declared.items.TextsEnd.TheVariants.{Open, AtEnd, AtFault}
 use Rattle.mix_loop.specs.Items.{Gave, is_open}
 use Rattle.leg_items.specs.declared.inlets.LegInlet.{LegInlet}
 
 -- what a leg is asked for: what it hears, in a recording of these octets, at most `limit`
 pub record Asked : Type 0 where
-  pub conf : EarConf
+  pub settings : EarSettings
   pub limit : ℕ
   pub octets : List ℕ
 
 -- where it gave these chunks
 abbrev pub past_of : Asked → List Chunk → LegPast
-past_of a heard = record { conf = a.conf; limit = a.limit; octets = a.octets; gave = heard }
+past_of a heard = record { settings = a.settings; limit = a.limit; octets = a.octets; gave = heard }
 
 abbrev pub recording_asked : Asked → Recording
 recording_asked a = recording_of (past_of a [])
@@ -52,14 +52,14 @@ item_for c (Ok step.End) = item.End
 item_for c (Err fault) = item.Fault fault
 
 -- by how a leg's texts ended, a reading of its source failed
-abbrev pub is_source_fault : Ended DumpFault → Bool
+abbrev pub is_source_fault : TextsEnd DumpFault → Bool
 is_source_fault Open = false
 is_source_fault AtEnd = false
 is_source_fault (AtFault fault) = is_of_source fault.kind
 
 module _ {S : Type 0} where
   -- a leg that gave these chunks, those that are no keep-alives, by how they ended
-  abbrev pub GivesAs : (S → List ℕ) → Leg S → Asked → List Chunk → Ended DumpFault → Type 0
+  abbrev pub GivesAs : (S → List ℕ) → Leg S → Asked → List Chunk → TextsEnd DumpFault → Type 0
   GivesAs left leg a chunks Open = (heard : List Chunk) × Stands left leg (past_of a heard) × (chunks ≡ lively heard)
   GivesAs left leg a chunks AtEnd = (chunks ≡ lively (chunks_asked a)) × ((recording_asked a).fault ≡ None)
   GivesAs left leg a chunks (AtFault fault) = IsFaultOf (recording_asked a) fault

@@ -1,7 +1,7 @@
 //! Legs that are read by who mixes them, and what plain mixing of them comes to.
 #![tactic(auto)]
 
-mod giving;
+mod producers;
 mod inlets;
 mod laws;
 

@@ -3,13 +3,13 @@ ghost use Rattle.leg_core.specs.Gives.{is_over};
 ghost use Rattle.leg_items.specs.Answers.{AllNew};
 
 use crate::LegInlet;
-use ear::EarConf;
+use ear::EarSettings;
 use file_spec::{LegLine, Stay};
 use leg_core::Leg;
 use link_io::Beat;
-use mix_loop::{Mixed, Mixes, Mixing, Room, mix_inlets};
+use mix_loop::{InletReturn, MixerCalls, MixEnd, Room, mix_inlets};
 use rtpdump_io::DumpFault;
-use rtt_base::{Bytes, Chunk, Full, Name, NoMemory, Path, Pts};
+use rtt_base::{Bytes, Chunk, Full, Name, NoMemory, Path, PayloadTypes};
 use rtt_io::SteadySource;
 use std::alloc::Global;
 use std::sync::Wait;
@@ -34,7 +34,7 @@ const SIXTH: [u8; 30] =
 
 // A call of the mixer.
 #[derive(Clone, Copy, Debug, PartialEq, Eq)]
-enum Called {
+enum MixerCall {
     Admit(usize, bool),
     Hush(usize),
     Leave(usize),
@@ -44,14 +44,14 @@ enum Called {
 
 // A mixer that notes what it is called, takes every text and is always idle.
 #[derive(Drop)]
-struct Noting {
-    calls: Vec<Called>,
+struct NotingMixer {
+    calls: Vec<MixerCall>,
     legs: usize,
     turns: u64,
 }
 
-impl Noting {
-    fn note(&mut self, call: Called)
+impl NotingMixer {
+    fn note(&mut self, call: MixerCall)
         ensures legs { self.new.legs ≡ self.old.legs }
         ensures turns { self.new.turns ≡ self.old.turns }
     {
@@ -59,16 +59,16 @@ impl Noting {
     }
 }
 
-impl Mixes for Noting {
+impl MixerCalls for NotingMixer {
     ghost use Rattle.std.specs.Prelude.{◌^◌, []};
 
     type Fault = NoMemory;
 
     type Clock = ();
 
-    ghost stands = { λ m s pts calls. ⊥ };
+    ghost stands = { λ m s payload_types calls. ⊥ };
 
-    ghost halted = { λ m s pts calls now. Unit {0} };
+    ghost halted = { λ m s payload_types calls now. Unit {0} };
 
     ghost legs = { λ m. m.legs };
 
@@ -81,26 +81,26 @@ impl Mixes for Noting {
     ghost unsent = { λ m why. Unit {0} };
 
     fn admit(&mut self, leg: usize, listens: bool) -> bool {
-        self.note(Called::Admit(leg, listens));
+        self.note(MixerCall::Admit(leg, listens));
         true
     }
 
     fn hush(&mut self, leg: usize) {
-        self.note(Called::Hush(leg));
+        self.note(MixerCall::Hush(leg));
     }
 
     fn leave(&mut self, leg: usize) -> bool {
-        self.note(Called::Leave(leg));
+        self.note(MixerCall::Leave(leg));
         true
     }
 
     fn offer(&mut self, chunk: &Chunk) -> Result<(), Full> {
-        self.note(Called::Offer(chunk.source, chunk.ready));
+        self.note(MixerCall::Offer(chunk.source, chunk.ready));
         Ok(())
     }
 
     fn turn(&mut self, now: u64, _beat: &Beat<'_, ()>) -> Result<(), NoMemory> {
-        self.note(Called::Turn(now));
+        self.note(MixerCall::Turn(now));
         self.turns += 1;
         Ok(())
     }
@@ -119,12 +119,12 @@ fn ann(alloc: Global, second: &[u8], last: &[u8]) -> Result<LegInlet<SteadySourc
     recording.append(&FIRST)?;
     recording.append(second)?;
     recording.append(last)?;
-    let conf = EarConf {
+    let settings = EarSettings {
         ssrc: 1001,
-        pts: Pts { t140: 98, red: 100 },
+        payload_types: PayloadTypes { t140: 98, red: 100 },
         wait: 1000,
     };
-    match Leg::new(alloc, SteadySource::new(recording), conf) {
+    match Leg::new(alloc, SteadySource::new(recording), settings) {
         Ok(leg) => Ok(LegInlet { leg }),
         Err(_) => Err(NoMemory),
     }
@@ -139,8 +139,8 @@ fn line(alloc: Global, from: u32, until: Option<u32>) -> Result<LegLine, NoMemor
         ssrc: 1001,
         input: Path::from_text(alloc, "ann.rtp")?,
         output: Path::from_text(alloc, "to-ann.rtp")?,
-        pts: Pts { t140: 98, red: 100 },
-        gens: 2,
+        payload_types: PayloadTypes { t140: 98, red: 100 },
+        generations: 2,
         stay: Stay { from, until },
         follow: false,
     })
@@ -148,9 +148,9 @@ fn line(alloc: Global, from: u32, until: Option<u32>) -> Result<LegLine, NoMemor
 
 // How such a mixing ends, and the calls that it makes.
 #[derive(Drop)]
-struct Noted {
-    mixing: Mixing<DumpFault, NoMemory>,
-    calls: Vec<Called>,
+struct CallNotes {
+    mixing: MixEnd<DumpFault, NoMemory>,
+    calls: Vec<MixerCall>,
 }
 
 // Mixes these, at 300 ms a turn.
@@ -159,25 +159,25 @@ fn mix_noting<R: Wait>(
     alloc: Global,
     inlets: Vec<LegInlet<SteadySource>>,
     lines: &[LegLine],
-) -> Result<Noted, NoMemory>
+) -> Result<CallNotes, NoMemory>
     requires lines { length inlets.items ≡ length lines.now }
     requires few { length lines.now ≤ 64 }
     requires new { AllNew inlets.items }
 {
     let legs = inlets.len();
     let room = Room::new(alloc, legs)?;
-    let mut mixer = Noting {
+    let mut mixer = NotingMixer {
         calls: Vec::new(alloc),
         legs,
         turns: 0,
     };
-    let Mixed { mixing, inlets: _ } = mix_inlets(rt, inlets, lines, room, &mut mixer, 300, 20);
-    let Noting {
+    let InletReturn { mixing, inlets: _ } = mix_inlets(rt, inlets, lines, room, &mut mixer, 300, 20);
+    let NotingMixer {
         calls,
         legs: _,
         turns: _,
     } = mixer;
-    Ok(Noted { mixing, calls })
+    Ok(CallNotes { mixing, calls })
 }
 
 #[test]
@@ -190,26 +190,26 @@ fn legs_come_offer_and_go_at_their_moments(rt: HostRuntime) -> Result<(), Fail> 
     inlets.push_reserved(talks);
     inlets.push_reserved(visits);
     let noted = mix_noting(&rt, alloc, inlets, &lines)?;
-    assert!(rt; noted.mixing == Mixing::Over);
+    assert!(rt; noted.mixing == MixEnd::Over);
     let calls = [
-        Called::Admit(0, true),
-        Called::Offer(0, 0),
-        Called::Turn(0),
-        Called::Admit(1, true),
-        Called::Offer(0, 300),
-        Called::Offer(1, 300),
-        Called::Turn(300),
-        Called::Turn(600),
-        Called::Hush(1),
-        Called::Leave(1),
-        Called::Turn(900),
-        Called::Turn(1200),
-        Called::Turn(1500),
-        Called::Turn(1800),
-        Called::Turn(2100),
-        Called::Turn(2400),
-        Called::Offer(0, 2500),
-        Called::Offer(0, 2500),
+        MixerCall::Admit(0, true),
+        MixerCall::Offer(0, 0),
+        MixerCall::Turn(0),
+        MixerCall::Admit(1, true),
+        MixerCall::Offer(0, 300),
+        MixerCall::Offer(1, 300),
+        MixerCall::Turn(300),
+        MixerCall::Turn(600),
+        MixerCall::Hush(1),
+        MixerCall::Leave(1),
+        MixerCall::Turn(900),
+        MixerCall::Turn(1200),
+        MixerCall::Turn(1500),
+        MixerCall::Turn(1800),
+        MixerCall::Turn(2100),
+        MixerCall::Turn(2400),
+        MixerCall::Offer(0, 2500),
+        MixerCall::Offer(0, 2500),
     ];
     assert!(rt; noted.calls.as_slice() == calls.as_slice());
     Ok(())
@@ -224,21 +224,21 @@ fn a_keep_alive_is_no_text(rt: HostRuntime) -> Result<(), Fail> {
     let mut inlets = Vec::with_capacity(alloc, 1)?;
     inlets.push_reserved(talks);
     let noted = mix_noting(&rt, alloc, inlets, &lines)?;
-    assert!(rt; noted.mixing == Mixing::Over);
+    assert!(rt; noted.mixing == MixEnd::Over);
     let calls = [
-        Called::Admit(0, true),
-        Called::Offer(0, 0),
-        Called::Turn(0),
-        Called::Turn(300),
-        Called::Turn(600),
-        Called::Turn(900),
-        Called::Turn(1200),
-        Called::Turn(1500),
-        Called::Turn(1800),
-        Called::Turn(2100),
-        Called::Turn(2400),
-        Called::Offer(0, 2500),
-        Called::Offer(0, 2500),
+        MixerCall::Admit(0, true),
+        MixerCall::Offer(0, 0),
+        MixerCall::Turn(0),
+        MixerCall::Turn(300),
+        MixerCall::Turn(600),
+        MixerCall::Turn(900),
+        MixerCall::Turn(1200),
+        MixerCall::Turn(1500),
+        MixerCall::Turn(1800),
+        MixerCall::Turn(2100),
+        MixerCall::Turn(2400),
+        MixerCall::Offer(0, 2500),
+        MixerCall::Offer(0, 2500),
     ];
     assert!(rt; noted.calls.as_slice() == calls.as_slice());
     Ok(())

@@ -3,11 +3,11 @@ use Rattle.std.proofs.Common.{ℕ, List, ap, ◌∙◌, subst, arith}
 use Rattle.std.proofs.lemmas.Option.{slice_get_within}
 use Rattle.mixer_spec.specs.Setups.{Setup}
 use Rattle.mixer_spec.specs.Table.{Call}
-use Rattle.item_lanes.specs.declared.lanes.Lane.{Lane}
+use Rattle.item_lanes.specs.declared.lanes.Worker.{Worker}
 use Rattle.item_lanes.specs.Lanes.{AreBack, AreNew, AreStarted, popped_of}
 use Rattle.item_lanes.proofs.Matching.{is_there}
 use Rattle.mix_loop.specs.declared.answers.Answer.{Answer}
-use Rattle.mix_loop.specs.declared.turns.Mixing.{Mixing}
+use Rattle.mix_loop.specs.declared.turns.MixEnd.{MixEnd}
 use Rattle.mix_loop.specs.Answers.{GaveAs, gave_of}
 use Rattle.mix_loop.specs.Items.{Gave, is_open}
 use Rattle.mix_loop.specs.Lanes.{LaneStands}
@@ -19,13 +19,13 @@ pub are_new : {I F : Type 0} (stands : I → I → Gave F → Type 0) (legs : Li
 are_new stands legs none j i e = record { gives = none j i e; once = tt }
 
 module _ {I F G : Type 0} (stands : I → I → Gave F → Type 0) where
-  module _ (legs : List I) (begun : List (Lane (Answer F) I G)) (started : AreStarted (GaveAs stands) legs begun) where
+  module _ (legs : List I) (begun : List (Worker (Answer F) I G)) (started : AreStarted (GaveAs stands) legs begun) where
     pub none_popped : NoneGave (LaneStands (GaveAs stands)) begun
     none_popped j lane e =
         let r = is_there legs j (let low = slice_get_within begun j lane e in let many = started.many in omega arith) in
         record { popped = ap gave_of (started.are j r.0 lane r.1 e).none; runs = λ first x. x }
 
-    pub legs_mixed : {M T : Type 0} (mixes : M → Setup → List Call → Type 0) (s : Setup) (tick turns : ℕ) (answer : Mixing F T) (ended : List (Lane (Answer F) I G)) (back : List I) (m : M)
+    pub legs_mixed : {M T : Type 0} (mixes : M → Setup → List Call → Type 0) (s : Setup) (tick turns : ℕ) (answer : MixEnd F T) (ended : List (Worker (Answer F) I G)) (back : List I) (m : M)
         → AreBack (GaveAs stands) ended back → MixedAll (LaneStands (GaveAs stands)) mixes s tick turns answer begun ended m → MixedAll stands mixes s tick turns answer legs back m
     legs_mixed mixes s tick turns answer ended back m comes x = record {
       gave = x.gave;

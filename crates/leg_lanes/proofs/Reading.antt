@@ -3,15 +3,15 @@ use Rattle.std.proofs.Common.{◌≡◌, ℕ, Some, List, ap, sym, arith}
 use Rattle.std.specs.Prelude.{slice_get}
 use Rattle.mixer_spec.specs.Setups.{Setup}
 use Rattle.mixer_spec.specs.Table.{Call, empty}
-use Rattle.mix_loop.specs.declared.turns.Mixing.{Mixing}
-use Rattle.mix_loop.specs.declared.turns.Mixing.TheVariants as mixing
+use Rattle.mix_loop.specs.declared.turns.MixEnd.{MixEnd}
+use Rattle.mix_loop.specs.declared.turns.MixEnd.TheVariants as mixing
 use Rattle.leg_items.specs.declared.inlets.LegInlet.{LegInlet}
 use Rattle.leg_items.specs.Answers.{PlainMixed, source_in}
 
 one_there : {X : Type 0} (xs : List X) (j : ℕ) (x y : X) → slice_get xs j ≡ Some x → slice_get xs j ≡ Some y → x ≡ y
 one_there xs j x y e f = cc (e, f)
 
-not_faulted : {F T : Type 0} (why : T) (leg : ℕ) (fault : F) → ◌≡◌ {A = Mixing F T} (mixing.Stopped why) (mixing.Faulted leg fault) → ⊥
+not_faulted : {F T : Type 0} (why : T) (leg : ℕ) (fault : F) → ◌≡◌ {A = MixEnd F T} (mixing.Stopped why) (mixing.Faulted leg fault) → ⊥
 not_faulted why leg fault e = cc e
 
 module _ {S M T : Type 0} (tells : Type 0) (left : S → List ℕ) (faults : S → ℕ) (name : S → List ℕ) (mixes : M → Setup → List Call → Type 0) where

@@ -1,14 +1,14 @@
 -- What a clause says of a mixing of recordings.
 use Rattle.std.specs.Prelude.{◌≡◌, ◌≤◌, ℕ, List, length, vec_len}
 use Rattle.std.specs.Global.{Vec}
-use Rattle.rtt_base.specs.declared.text_packets.Pts.{Pts}
-use Rattle.file_spec.specs.declared.conf_lines.LegLine.{LegLine}
+use Rattle.rtt_base.specs.declared.text_packets.PayloadTypes.{PayloadTypes}
+use Rattle.file_spec.specs.declared.conference_lines.LegLine.{LegLine}
 use Rattle.mixer_spec.specs.Setups.{Setup}
 use Rattle.mixer_spec.specs.Table.{Call}
 use Rattle.mix_loop.specs.Mixers.{ComeBefore}
 use Rattle.leg_items.specs.declared.inlets.LegInlet.{LegInlet}
 use Rattle.leg_items.specs.Answers.{AllNew, PlainMixes}
-use Rattle.leg_lanes.specs.declared.running.Ran.{Ran}
+use Rattle.leg_lanes.specs.declared.threads.LegReturn.{LegReturn}
 use Rattle.file_spec.specs.declared.limits.TheConstants.{MOST_LEGS}
 
 module _ {S M : Type 0} where
@@ -24,6 +24,6 @@ module _ {S M : Type 0} where
     pub in_time : ComeBefore horizon tick turns
 
   -- this is how they were mixed, plainly, by this mixer
-  abbrev pub RanPlain : (M → Setup → (ℕ → Pts) → List Call → Type 0) → Type 0 → (S → List ℕ) → (S → ℕ) → (S → List ℕ) → ℕ → ℕ → Vec (LegInlet S) → List LegLine → M → Ran S M → Type 0
+  abbrev pub RanPlain : (M → Setup → (ℕ → PayloadTypes) → List Call → Type 0) → Type 0 → (S → List ℕ) → (S → ℕ) → (S → List ℕ) → ℕ → ℕ → Vec (LegInlet S) → List LegLine → M → LegReturn S M → Type 0
   RanPlain mixes tells left faults name tick turns legs lines mixer ran =
       PlainMixes mixes tells left faults name tick turns lines ran.mixing legs.items ran.legs.items mixer ran.mixer

@@ -1,14 +1,14 @@
 //! A mixing that is to run.
 use file_spec::LegLine;
-use item_lanes::{Lane, LaneRoom};
+use item_lanes::{Worker, WorkerRoom};
 use leg_items::LegInlet;
-use mix_loop::{Answer, Mixing, Room};
+use mix_loop::{Answer, MixEnd, Room};
 use rtpdump_io::DumpFault;
 use rtt_base::NoMemory;
 use rtt_io::{Gate, Source};
 
 /// A leg that runs.
-pub(crate) type LegLane<S, G> = Lane<Answer<DumpFault>, LegInlet<S>, G>;
+pub(crate) type LegWorker<S, G> = Worker<Answer<DumpFault>, LegInlet<S>, G>;
 
 /// What is to be mixed, and by whom.
 pub(crate) struct Task<'l, S: Source, M> {
@@ -20,8 +20,8 @@ pub(crate) struct Task<'l, S: Source, M> {
 }
 
 /// The same, with all memory that it needs where each leg has a thread.
-pub(crate) struct Job<'l, S: Source, M, G: Gate> {
+pub(crate) struct MixJob<'l, S: Source, M, G: Gate> {
     pub(crate) task: Task<'l, S, M>,
-    pub(crate) lanes: LaneRoom<Answer<DumpFault>, LegInlet<S>, G>,
-    pub(crate) room: Room<LegLane<S, G>>,
+    pub(crate) lanes: WorkerRoom<Answer<DumpFault>, LegInlet<S>, G>,
+    pub(crate) room: Room<LegWorker<S, G>>,
 }

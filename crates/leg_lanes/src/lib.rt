@@ -3,7 +3,7 @@
 
 mod jobs;
 mod readers;
-mod running;
+mod threads;
 
 pub use readers::{Readers, mix_legs};
-pub use running::Ran;
+pub use threads::LegReturn;

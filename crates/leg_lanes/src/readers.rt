@@ -4,10 +4,10 @@ ghost use Rattle.leg_lanes.specs.Jobs.{CanDo, RanAs};
 ghost use Rattle.leg_lanes.specs.Mixings.{CanMix, RanPlain};
 
 use crate::jobs::Task;
-use crate::running::{Ran, STACK, mix_running, unmixed};
+use crate::threads::{LegReturn, STACK, mix_running, unmixed};
 use file_spec::LegLine;
 use leg_items::LegInlet;
-use mix_loop::{Mixed, Mixes, Room, mix_inlets};
+use mix_loop::{InletReturn, MixerCalls, Room, mix_inlets};
 use rtt_base::NoMemory;
 use rtt_io::{Gate, Source};
 use std::alloc::Global;
@@ -29,7 +29,7 @@ pub enum Readers {
 /// runs out.
 pub fn mix_legs<
     S: Source + Send,
-    M: Mixes<Fault = NoMemory>,
+    M: MixerCalls<Fault = NoMemory>,
     R: Threads + Wait + Sync,
     G: Gate + Sync,
 >(
@@ -42,7 +42,7 @@ pub fn mix_legs<
     mixer: M,
     tick: u64,
     turns: u64,
-) -> Ran<S, M>
+) -> LegReturn<S, M>
     requires { CanMix M.legs M.turns M.horizon legs lines.now mixer tick turns }
     ensures legs { vec_len result.legs ≡ vec_len legs }
     ensures mixed { RanPlain M.stands S.tells S.left S.faults S.name tick turns legs lines.now mixer result }
@@ -61,11 +61,11 @@ pub fn mix_legs<
 }
 
 /// Mixes them on the thread of the caller.
-pub(crate) fn mix_here<'l, S: Source, M: Mixes<Fault = NoMemory>, R: Wait>(
+pub(crate) fn mix_here<'l, S: Source, M: MixerCalls<Fault = NoMemory>, R: Wait>(
     rt: &R,
     alloc: Global,
     task: Task<'l, S, M>,
-) -> Ran<S, M>
+) -> LegReturn<S, M>
     requires { CanDo M.legs M.turns M.horizon task }
     ensures { RanAs M.stands S.tells S.left S.faults S.name task.entry result }
 {
@@ -79,8 +79,8 @@ pub(crate) fn mix_here<'l, S: Source, M: Mixes<Fault = NoMemory>, R: Wait>(
         tick,
         turns,
     } = task;
-    let Mixed { mixing, inlets } = mix_inlets(rt, legs, lines, room, &mut mixer, tick, turns);
-    Ran {
+    let InletReturn { mixing, inlets } = mix_inlets(rt, legs, lines, room, &mut mixer, tick, turns);
+    LegReturn {
         mixing,
         legs: inlets,
         mixer,

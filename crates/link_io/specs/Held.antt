@@ -1,7 +1,7 @@
 -- What links in memory keep under each port.
 use Rattle.std.specs.Prelude.{◌≡◌, ℕ, Bool, true, List}
 use Rattle.rtt_io.specs.declared.faults.Faults.{Faults}
-use Rattle.rtt_io.specs.Counts.{Adds}
+use Rattle.rtt_io.specs.Counts.{AddsCount}
 use Rattle.link_spec.specs.Links.{Takes}
 use Rattle.link_io.specs.declared.mem_links.MemLinks.{MemLinks}
 use Rattle.link_io.specs.Ports.{Same, SameBut, Replaces}
@@ -45,8 +45,8 @@ pub record Stores {K L : Type 0} (kept : MemLinks → ℕ → K) (beside : MemLi
 
 -- so many more faults of the port came
 pub record Counts (port : ℕ) (more : Faults) (old new : MemLinks) : Type 0 where
-  pub own : Adds (opened_in old port ≡ true) port more.own (own_in old) (own_in new)
-  pub objects : Adds (opened_in old port ≡ true) port more.objects (objects_in old) (objects_in new)
+  pub own : AddsCount (opened_in old port ≡ true) port more.own (own_in old) (own_in new)
+  pub objects : AddsCount (opened_in old port ≡ true) port more.objects (objects_in old) (objects_in new)
   pub same_opened : Same opened_in old new
   pub same_taken : Same taken_in old new
   pub same_given : Same given_in old new

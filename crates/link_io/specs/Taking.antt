@@ -3,7 +3,7 @@ use Rattle.std.specs.Prelude.{ℕ, Bool, List, []}
 use Rattle.link_spec.specs.Links as link
 use Rattle.link_io.specs.declared.ends.Came.{Came}
 use Rattle.link_io.specs.declared.ends.Came.TheVariants as came
-use Rattle.link_io.specs.declared.ends.Taken.{Taken}
+use Rattle.link_io.specs.declared.ends.LinkTake.{LinkTake}
 
 -- where these octets lie beside it
 abbrev pub came_of : Came → List ℕ → link.Came
@@ -12,7 +12,7 @@ came_of came.Large octets = link.Large
 came_of came.Quiet octets = link.Quiet
 came_of came.Closed octets = link.Closed
 
-abbrev pub taken_of : Taken → List ℕ → link.Taken
+abbrev pub taken_of : LinkTake → List ℕ → link.Taken
 taken_of t octets = record { at = t.at; came = came_of t.came octets }
 
 -- the link is closed with it

@@ -23,7 +23,7 @@ pub enum Came {
 
 /// What came, and at which moment (milliseconds).
 #[derive(Clone, Copy, Debug, PartialEq, Eq)]
-pub struct Taken {
+pub struct LinkTake {
     pub at: u64,
     pub came: Came,
 }
@@ -51,7 +51,7 @@ pub trait LinkIn {
     /// Tells what came, and puts the octets of a datagram in place of what is in `out`. Where none came it waits for one until
     /// this moment of its clock, before it says `Quiet`. Its moments never fall. After
     /// `Failed` nothing was given.
-    fn take(&mut self, out: &mut Packet, until: u64) -> Result<Taken, Failed>
+    fn take(&mut self, out: &mut Packet, until: u64) -> Result<LinkTake, Failed>
         ensures never_falls { faults self.old ≤ faults self.new }
         ensures failed { OnErr result (Rose (faults self.old) (faults self.new)) }
         ensures calm { OnOk result (faults self.new ≡ faults self.old) }

@@ -15,11 +15,11 @@ mod real_ends;
 mod real_links;
 
 pub use beats::Beat;
-pub use ends::{Came, LinkIn, LinkOut, Taken};
+pub use ends::{Came, LinkIn, LinkOut, LinkTake};
 pub use links::Links;
-pub use mem_ins::{MemIn, Planned, Told};
+pub use mem_ins::{MemIn, PlannedTake, TakeLog};
 pub use mem_links::{FailingLink, MemLinks};
-pub use mem_outs::{Given, MemOut};
+pub use mem_outs::{GivenPacket, MemOut};
 pub use peers::{Peer, peer_of};
 pub use real_ends::{RealIn, RealOut, UdpClock};
 pub use real_links::RealLinks;

@@ -5,28 +5,28 @@ ghost use Rattle.link_io.specs.Taking.{taken_of, closes};
 ghost use Rattle.link_io.specs.Told.{takes_told};
 
 use crate::clocks::LAST_MOMENT;
-use crate::{Came, LinkIn, Taken};
+use crate::{Came, LinkIn, LinkTake};
 use rtt_base::{Bytes, Failed, NoMemory, Packet};
 use rtt_io::FailingCalls;
 use std::alloc::Global;
 
 /// What a link is to give at a moment (milliseconds), or at that of the take before, where that is later.
 #[derive(Debug, Drop)]
-pub struct Planned {
+pub struct PlannedTake {
     pub at: u32,
     pub came: Came,
     /// The octets of a datagram.
     pub octets: Bytes,
 }
 
-impl Planned {
+impl PlannedTake {
     /// This at this moment, with a copy of these octets.
-    pub fn new(alloc: Global, at: u32, came: Came, octets: &[u8]) -> Result<Planned, NoMemory>
+    pub fn new(alloc: Global, at: u32, came: Came, octets: &[u8]) -> Result<PlannedTake, NoMemory>
         ensures { IfOk result (λ planned. planned ≡ record { at = at; came = came; octets = octets.now }) }
     {
         let mut copy = Bytes::new(alloc);
         copy.append(octets)?;
-        Ok(Planned {
+        Ok(PlannedTake {
             at,
             came,
             octets: copy,
@@ -34,17 +34,17 @@ impl Planned {
     }
 
     /// The same once more.
-    pub fn copy(&self, alloc: Global) -> Result<Planned, NoMemory>
+    pub fn copy(&self, alloc: Global) -> Result<PlannedTake, NoMemory>
         ensures { IfOk result (λ planned. planned ≡ self.now) }
     {
-        Planned::new(alloc, self.at, self.came, self.octets.as_slice())
+        PlannedTake::new(alloc, self.at, self.came, self.octets.as_slice())
     }
 }
 
 /// What a link gave.
 #[derive(Debug, Drop)]
-pub struct Told {
-    pub taken: Taken,
+pub struct TakeLog {
+    pub taken: LinkTake,
     /// The octets of a datagram.
     pub octets: Bytes,
 }
@@ -55,11 +55,11 @@ pub struct Told {
 pub struct MemIn {
     alloc: Global,
     pub(crate) port: u16,
-    pub(crate) plan: Vec<Planned>,
+    pub(crate) plan: Vec<PlannedTake>,
     // how much of the plan it gave
     used: usize,
     pub(crate) takes: FailingCalls,
-    pub(crate) told: Vec<Told>,
+    pub(crate) told: Vec<TakeLog>,
     pub(crate) closed: bool,
     moment: u64,
     pub(crate) faults: u64,
@@ -81,7 +81,7 @@ impl LinkIn for MemIn {
 
     ghost port = { λ link. link.port };
 
-    fn take(&mut self, out: &mut Packet, until: u64) -> Result<Taken, Failed> {
+    fn take(&mut self, out: &mut Packet, until: u64) -> Result<LinkTake, Failed> {
         if self.takes.next_fails() {
             self.faults = self.faults.saturating_add(1);
             return Err(Failed);
@@ -121,7 +121,7 @@ impl MemIn {
     }
 
     /// Plans one take more, behind those that are planned.
-    pub fn plan(&mut self, next: Planned) -> Result<(), NoMemory>
+    pub fn plan(&mut self, next: PlannedTake) -> Result<(), NoMemory>
         ensures { SameIn ⟦<MemIn as LinkIn>⟧ self.old self.new }
     {
         self.plan.push(next)?;
@@ -136,14 +136,14 @@ impl MemIn {
     }
 
     /// What its takes gave, oldest first.
-    pub fn told(&self) -> &[Told]
+    pub fn told(&self) -> &[TakeLog]
         ensures { takes_told result.now ≡ ⟦<MemIn as LinkIn>⟧.taken self.now }
     {
         self.told.as_slice()
     }
 
     // What the next take gives, and its octets.
-    fn next(&self, out: &mut Packet, until: u64) -> Taken
+    fn next(&self, out: &mut Packet, until: u64) -> LinkTake
         ensures rises { self.now.moment ≤ result.at }
         ensures early { result.at < 2 ^ 48 }
         ensures for_good { self.now.closed ≡ true → closes result.came ≡ true }
@@ -153,11 +153,11 @@ impl MemIn {
             return self.at_once(Came::Closed);
         }
         match self.plan.get(self.used) {
-            Some(planned) => Taken {
+            Some(planned) => LinkTake {
                 at: later(self.moment, planned.at),
                 came: hand_out(planned, out),
             },
-            None => Taken {
+            None => LinkTake {
                 at: self.moment.max(until.min(LAST_MOMENT)),
                 came: Came::Quiet,
             },
@@ -165,10 +165,10 @@ impl MemIn {
     }
 
     // This comes at the moment of the take before.
-    fn at_once(&self, came: Came) -> Taken
+    fn at_once(&self, came: Came) -> LinkTake
         ensures { result ≡ record { at = self.now.moment; came = came } }
     {
-        Taken {
+        LinkTake {
             at: self.moment,
             came,
         }
@@ -176,7 +176,7 @@ impl MemIn {
 
     // Keeps what a take gives.
     #[tactic(auto, using(crate::proofs::Keeping::told_more))]
-    fn keep(&mut self, taken: Taken, out: &Packet) -> Result<(), NoMemory>
+    fn keep(&mut self, taken: LinkTake, out: &Packet) -> Result<(), NoMemory>
         ensures ok { OnOk result (takes_told self.new.told.items ≡ taken_of taken out.now ∷ takes_told self.old.told.items) }
         ensures err { OnErr result (self.new.told.items ≡ self.old.told.items) }
         ensures closed { self.new.closed ≡ self.old.closed }
@@ -186,7 +186,7 @@ impl MemIn {
     {
         let mut octets = Bytes::new(self.alloc);
         octets.append(out.as_slice())?;
-        self.told.push(Told { taken, octets })?;
+        self.told.push(TakeLog { taken, octets })?;
         Ok(())
     }
 }
@@ -201,7 +201,7 @@ fn later(moment: u64, at: u32) -> u64
 }
 
 // What is planned, and its octets, which stand in an empty packet. A datagram that does not fit is a large one.
-fn hand_out(planned: &Planned, out: &mut Packet) -> Came {
+fn hand_out(planned: &PlannedTake, out: &mut Packet) -> Came {
     if planned.came == Came::Datagram && out.append(planned.octets.as_slice()).is_err() {
         return Came::Large;
     }

@@ -9,7 +9,7 @@ ghost use Rattle.link_io.specs.Held.{opened_in, taken_in, given_in, own_in, obje
 
 use crate::clocks::StillClock;
 use crate::mem_ports::{MemLead, MemPort, place};
-use crate::{Beat, Given, Links, MemIn, MemOut, Planned, Told};
+use crate::{Beat, GivenPacket, Links, MemIn, MemOut, PlannedTake, TakeLog};
 use rtt_base::{Failed, NoMemory, Path};
 use rtt_io::{FailingCalls, Faults};
 use std::alloc::Global;
@@ -27,9 +27,9 @@ pub enum FailingLink {
 
 /// What comes at a port.
 #[derive(Debug, Drop)]
-struct Coming {
+struct PortEvents {
     port: u16,
-    planned: Planned,
+    planned: PlannedTake,
 }
 
 /// Links in memory: what is planned to come at each port, what is stored under it, a list of the calls that are to fail, and
@@ -41,7 +41,7 @@ pub struct MemLinks {
     alloc: Global,
     ports: Vec<MemPort>,
     leads: Vec<MemLead>,
-    coming: Vec<Coming>,
+    coming: Vec<PortEvents>,
     failing: Vec<FailingLink>,
     clock: StillClock,
     pauses: u64,
@@ -134,10 +134,10 @@ impl MemLinks {
     }
 
     /// Plans what comes next at a port, behind what is planned there.
-    pub fn plan(&mut self, port: u16, planned: Planned) -> Result<(), NoMemory>
+    pub fn plan(&mut self, port: u16, planned: PlannedTake) -> Result<(), NoMemory>
         ensures { SameLinks ⟦<MemLinks as Links>⟧ self.old self.new }
     {
-        self.coming.push(Coming { port, planned })?;
+        self.coming.push(PortEvents { port, planned })?;
         Ok(())
     }
 
@@ -150,7 +150,7 @@ impl MemLinks {
     }
 
     /// What the takes of the end gave that was handed back last of a port, oldest first.
-    pub fn taken(&self, port: u16) -> &[Told]
+    pub fn taken(&self, port: u16) -> &[TakeLog]
         ensures { takes_told result.now ≡ ⟦<MemLinks as Links>⟧.taken_at self.now port }
     {
         match place(self.ports.as_slice(), port) {
@@ -160,7 +160,7 @@ impl MemLinks {
     }
 
     /// The packets that the end was given that was handed back last of a port, oldest first, each with how often the clock had paused.
-    pub fn given(&self, port: u16) -> &[Given]
+    pub fn given(&self, port: u16) -> &[GivenPacket]
         ensures { gives_told result.now ≡ ⟦<MemLinks as Links>⟧.given_at self.now port }
     {
         match place(self.ports.as_slice(), port) {
@@ -198,7 +198,7 @@ impl MemLinks {
     }
 
     // What is to come at a port.
-    fn coming_at(&self, port: u16) -> Result<Vec<Planned>, NoMemory> {
+    fn coming_at(&self, port: u16) -> Result<Vec<PlannedTake>, NoMemory> {
         let mut plan = Vec::new(self.alloc);
         for coming in &self.coming {
             if coming.port == port {
@@ -262,7 +262,7 @@ impl MemLinks {
     }
 
     // Puts this in place of what came at a port, where a link was opened there.
-    fn store_taken(&mut self, port: u16, taken: Vec<Told>)
+    fn store_taken(&mut self, port: u16, taken: Vec<TakeLog>)
         ensures { Stores taken_in given_in port (takes_told taken.items) self.old self.new }
     {
         if let Some(at) = place(self.ports.as_slice(), port) {
@@ -272,7 +272,7 @@ impl MemLinks {
     }
 
     // Puts this in place of what was given at a port, where a link was opened there.
-    fn store_given(&mut self, port: u16, given: Vec<Given>)
+    fn store_given(&mut self, port: u16, given: Vec<GivenPacket>)
         ensures { Stores given_in taken_in port (gives_told given.items) self.old self.new }
     {
         if let Some(at) = place(self.ports.as_slice(), port) {

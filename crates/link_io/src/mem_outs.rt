@@ -9,7 +9,7 @@ use std::alloc::Global;
 
 /// A packet that a link was given, and how often the clock had paused.
 #[derive(Debug, Drop)]
-pub struct Given {
+pub struct GivenPacket {
     pub pauses: u64,
     pub packet: Bytes,
 }
@@ -19,7 +19,7 @@ pub struct Given {
 pub struct MemOut {
     pub(crate) alloc: Global,
     pub(crate) port: u16,
-    pub(crate) given: Vec<Given>,
+    pub(crate) given: Vec<GivenPacket>,
     pub(crate) gives: FailingCalls,
     pub(crate) faults: u64,
 }
@@ -56,7 +56,7 @@ impl MemOut {
     {
         let mut copy = Bytes::new(self.alloc);
         copy.append(packet)?;
-        self.given.push(Given {
+        self.given.push(GivenPacket {
             pauses: beat.pauses,
             packet: copy,
         })?;

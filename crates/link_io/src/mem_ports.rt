@@ -2,7 +2,7 @@
 ghost use Rattle.std.specs.Prelude.{◌≡◌, position};
 ghost use Rattle.link_io.specs.MemPorts.{is_of};
 
-use crate::{Given, Told};
+use crate::{GivenPacket, TakeLog};
 use rtt_base::Path;
 use rtt_io::Faults;
 
@@ -11,9 +11,9 @@ use rtt_io::Faults;
 pub struct MemPort {
     pub number: u16,
     /// What the takes gave, oldest first.
-    pub taken: Vec<Told>,
+    pub taken: Vec<TakeLog>,
     /// What it was given, oldest first.
-    pub given: Vec<Given>,
+    pub given: Vec<GivenPacket>,
     pub faults: Faults,
 }
 

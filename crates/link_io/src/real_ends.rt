@@ -4,7 +4,7 @@ ghost use Rattle.std.specs.Prelude.{◌≡◌, ◌<◌, ◌≤◌, ◌^◌, true
 use crate::bells::Bell;
 use crate::clocks::millis_since;
 use crate::peers::{Peer, is_from};
-use crate::{Beat, Came, LinkIn, LinkOut, Taken};
+use crate::{Beat, Came, LinkIn, LinkOut, LinkTake};
 use rtt_base::{Failed, Packet};
 use std::io;
 use std::io::ErrorKind;
@@ -40,7 +40,7 @@ fn is_refusal(kind: ErrorKind) -> bool {
 }
 
 /// What one call of a socket received.
-enum Received {
+enum SocketAnswer {
     /// This of the peer.
     OfPeer(Came),
     /// Nothing of the peer, but more may be there: a datagram of somebody else, or that the peer was away.
@@ -84,11 +84,11 @@ impl<C: Clock> LinkIn for RealIn<C> {
 
     ghost port = { λ link. link.port };
 
-    fn take(&mut self, out: &mut Packet, until: u64) -> Result<Taken, Failed> {
+    fn take(&mut self, out: &mut Packet, until: u64) -> Result<LinkTake, Failed> {
         let came = self.receive(out, until);
         self.closed = self.closed || came == Came::Closed;
         self.moment = self.moment.max(millis_since(&self.clock, self.start));
-        Ok(Taken {
+        Ok(LinkTake {
             at: self.moment,
             came,
         })
@@ -134,9 +134,9 @@ impl<C: Clock> RealIn<C> {
         }
         for _ in 0..MOST_PASSED_OVER {
             match self.receive_one(out) {
-                Received::OfPeer(came) => return came,
-                Received::PassedOver => {}
-                Received::Nothing => {
+                SocketAnswer::OfPeer(came) => return came,
+                SocketAnswer::PassedOver => {}
+                SocketAnswer::Nothing => {
                     let left = self.left_until(until);
                     if left == 0 {
                         return Came::Quiet;
@@ -145,8 +145,8 @@ impl<C: Clock> RealIn<C> {
                         return Came::Closed;
                     }
                 }
-                Received::Troubled => return self.sit_out(until),
-                Received::Broken => return Came::Closed,
+                SocketAnswer::Troubled => return self.sit_out(until),
+                SocketAnswer::Broken => return Came::Closed,
             }
         }
         Came::Quiet
@@ -173,17 +173,17 @@ impl<C: Clock> RealIn<C> {
     }
 
     // What one call of the socket receives, and its octets, where it is the peer's.
-    fn receive_one(&self, out: &mut Packet) -> Received {
+    fn receive_one(&self, out: &mut Packet) -> SocketAnswer {
         let mut room = [0u8; ROOM];
         match self.socket.recv_from(&mut room) {
             Ok((count, from)) if is_from(self.peer, from) => {
-                Received::OfPeer(hand_out(&room[..count], out))
+                SocketAnswer::OfPeer(hand_out(&room[..count], out))
             }
-            Ok(_) => Received::PassedOver,
-            Err(error) if is_nothing(error.kind()) => Received::Nothing,
-            Err(error) if is_refusal(error.kind()) => Received::PassedOver,
-            Err(error) if is_for_good(&error) => Received::Broken,
-            Err(_) => Received::Troubled,
+            Ok(_) => SocketAnswer::PassedOver,
+            Err(error) if is_nothing(error.kind()) => SocketAnswer::Nothing,
+            Err(error) if is_refusal(error.kind()) => SocketAnswer::PassedOver,
+            Err(error) if is_for_good(&error) => SocketAnswer::Broken,
+            Err(_) => SocketAnswer::Troubled,
         }
     }
 }

@@ -1,8 +1,8 @@
 use crate::peers::own_address;
 use crate::real_links::{lead_to, socket_at};
 use crate::{
-    Beat, Came, FailingLink, LinkIn, LinkOut, Links, MemIn, MemLinks, MemOut, Planned, RealIn,
-    RealLinks, RealOut, Taken, peer_of,
+    Beat, Came, FailingLink, LinkIn, LinkOut, Links, MemIn, MemLinks, MemOut, PlannedTake, RealIn,
+    RealLinks, RealOut, LinkTake, peer_of,
 };
 use rtt_base::Packet;
 use std::alloc::Global;
@@ -58,9 +58,9 @@ fn hears<L: LinkIn>(link: &mut L, octets: &[u8]) -> bool {
 #[test]
 fn an_end_in_memory_gives_its_plan_and_is_quiet_behind_it(rt: HostRuntime) -> Result<(), Fail> {
     let mut link = MemIn::new(rt.alloc(), 5001);
-    link.plan(Planned::new(rt.alloc(), 100, Came::Datagram, b"A")?)?;
-    link.plan(Planned::new(rt.alloc(), 50, Came::Datagram, &[0; 4225])?)?;
-    link.plan(Planned::new(rt.alloc(), 200, Came::Large, b"")?)?;
+    link.plan(PlannedTake::new(rt.alloc(), 100, Came::Datagram, b"A")?)?;
+    link.plan(PlannedTake::new(rt.alloc(), 50, Came::Datagram, &[0; 4225])?)?;
+    link.plan(PlannedTake::new(rt.alloc(), 200, Came::Large, b"")?)?;
     assert!(rt; hears(&mut link, b"A"));
     let behind = [(100, Came::Large), (200, Came::Large), (200, Came::Quiet)];
     assert!(rt; takes_all(&mut link, &behind));
@@ -71,8 +71,8 @@ fn an_end_in_memory_gives_its_plan_and_is_quiet_behind_it(rt: HostRuntime) -> Re
 #[test]
 fn a_take_that_fails_uses_up_nothing(rt: HostRuntime) -> Result<(), Fail> {
     let mut link = MemIn::new(rt.alloc(), 5001);
-    link.plan(Planned::new(rt.alloc(), 7, Came::Closed, b"")?)?;
-    link.plan(Planned::new(rt.alloc(), 8, Came::Datagram, b"A")?)?;
+    link.plan(PlannedTake::new(rt.alloc(), 7, Came::Closed, b"")?)?;
+    link.plan(PlannedTake::new(rt.alloc(), 8, Came::Datagram, b"A")?)?;
     link.fail_at(1)?;
     link.fail_at(3)?;
     assert!(rt; !takes(&mut link, 7, Came::Closed));
@@ -91,8 +91,8 @@ fn is_given(links: &MemLinks, outbound: &mut MemOut, packet: &[u8]) -> bool {
 #[test]
 fn links_in_memory_keep_what_is_handed_back(rt: HostRuntime) -> Result<(), Fail> {
     let mut links = MemLinks::new(rt.alloc());
-    links.plan(5001, Planned::new(rt.alloc(), 3, Came::Datagram, b"A")?)?;
-    links.plan(5002, Planned::new(rt.alloc(), 4, Came::Closed, b"")?)?;
+    links.plan(5001, PlannedTake::new(rt.alloc(), 3, Came::Datagram, b"A")?)?;
+    links.plan(5002, PlannedTake::new(rt.alloc(), 4, Came::Closed, b"")?)?;
     let (mut inbound, mut outbound) = links.link(5001, "127.0.0.1:6001")?;
     assert!(rt; hears(&mut inbound, b"A"));
     assert!(rt; takes(&mut inbound, 3, Came::Quiet));
@@ -246,14 +246,14 @@ fn a_take_waits_until_its_moment(rt: HostRuntime) -> Result<(), Fail> {
     let mut still = MemIn::new(rt.alloc(), 5001);
     assert!(rt;
         still.take(&mut out, 30)?
-            == Taken {
+            == LinkTake {
                 at: 30,
                 came: Came::Quiet
             }
     );
     assert!(rt;
         still.take(&mut out, 0)?
-            == Taken {
+            == LinkTake {
                 at: 30,
                 came: Came::Quiet
             }

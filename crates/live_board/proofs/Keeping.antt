@@ -10,7 +10,7 @@ use Rattle.atomic_table.proofs.Lists.{at_set, at_snoc}
 use Rattle.rtt_base.specs.declared.records.Chunk.{Chunk}
 use Rattle.live_board.specs.declared.pages.Page.{Page}
 use Rattle.live_board.specs.declared.pages.Publish.{Publish}
-use Rattle.live_board.specs.declared.rule.View.{View}
+use Rattle.live_board.specs.declared.rule.EndView.{EndView}
 use Rattle.live_board.specs.Sheets.{IsSheetOf, added_all}
 use Rattle.logbook.specs.Pages.{Named}
 use Rattle.live_board.specs.Histories.{changes_of, ended_in, EndsOnce, entry_of, head_of, octets_of}
@@ -18,7 +18,7 @@ use Rattle.live_board.specs.Pages.{IsFurther, IsGood, IsNext, published}
 use Rattle.live_board.specs.Rule.{IsKept, Knows, Sees, book_in, nobody, view_of}
 use Rattle.live_board.specs.Ends.{CanShow, HasShown, IsLaid, IsReading, IsWriting}
 use Rattle.live_board.specs.Views.{board_of, reading_of, writing_of}
-use Rattle.live_board.specs.declared.histories.Entry.{Entry}
+use Rattle.live_board.specs.declared.histories.BoardEntry.{BoardEntry}
 use Rattle.live_board.proofs.Fronts.{changes_more, clash, ended_more, over_is, prefix_more, prefix_self, prefix_shorter}
 use Rattle.live_board.proofs.Sheeting.{all_more}
 
@@ -46,40 +46,40 @@ pub further_self : (x : Page) → IsFurther x x
 further_self x = record { book = refl; wide = refl; front = prefix_self x.seen.log }
 
 -- what is known of a page is known of a further one
-later : (x y : Page) (v : View) → Knows x v → IsFurther x y → Knows y v
+later : (x y : Page) (v : EndView) → Knows x v → IsFurther x y → Knows y v
 later x y v k f = record { book = k.book ∙ sym f.book; wide = k.wide ∙ sym f.wide }
 
 known : (y : Page) → Knows y (view_of y)
 known y = record { book = refl; wide = refl }
 
 -- the page becomes a further one, or stays
-pub sees : (x y : Page) (seat : ℕ) (v : View) → (IsGood x → IsGood y) → IsFurther x y → TurnsAt IsKept seat v x y Sees
+pub sees : (x y : Page) (seat : ℕ) (v : EndView) → (IsGood x → IsGood y) → IsFurther x y → TurnsAt IsKept seat v x y Sees
 sees x y seat v good further views h at = (
   view_of y,
   (
     good h.0,
-    λ j u e k. ⊎_elim (λ (t : (j ≡ seat) × (view_of y ≡ u)). subst (λ (z : View). Knows y z) t.1 (known y)) (λ (t : (j ≢ seat) × (get_elem? views j ≡ some u)). later x y u (h.1 j u t.1 k) further)
+    λ j u e k. ⊎_elim (λ (t : (j ≡ seat) × (view_of y ≡ u)). subst (λ (z : EndView). Knows y z) t.1 (known y)) (λ (t : (j ≢ seat) × (get_elem? views j ≡ some u)). later x y u (h.1 j u t.1 k) further)
         (at_set views seat j (view_of y) u e),
   ),
   (refl, good h.0, λ k. later x y v (h.1 seat v at k) further),
 )
 
-pub looks : (seat : ℕ) (v : View) → Turns IsKept seat v (λ x. x) Sees
+pub looks : (seat : ℕ) (v : EndView) → Turns IsKept seat v (λ x. x) Sees
 looks seat v x = sees x x seat v (λ g. g) (further_self x)
 
 pub admits : Admits IsKept nobody
-admits x views h = (h.0, λ j u e k. ⊎_elim (λ (t : get_elem? views j ≡ some u). h.1 j u t k) (λ (t : nobody ≡ u). clash _ u.known k (ap (λ (w : View). w.known) (sym t))) (at_snoc views nobody u j e))
+admits x views h = (h.0, λ j u e k. ⊎_elim (λ (t : get_elem? views j ≡ some u). h.1 j u t k) (λ (t : nobody ≡ u). clash _ u.known k (ap (λ (w : EndView). w.known) (sym t))) (at_snoc views nobody u j e))
 
-set_same : (x : Page) (views : List View) (seat : ℕ) (v : View) → IsKept x views → (v.known ≡ true → Knows x v) → IsKept x (set views seat v)
-set_same x views seat v h mine = (h.0, λ j u e k. ⊎_elim (λ (t : (j ≡ seat) × (v ≡ u)). subst (λ (z : View). z.known ≡ true → Knows x z) t.1 mine k) (λ (t : (j ≢ seat) × (get_elem? views j ≡ some u)). h.1 j u t.1 k) (at_set views seat j v u e))
+set_same : (x : Page) (views : List EndView) (seat : ℕ) (v : EndView) → IsKept x views → (v.known ≡ true → Knows x v) → IsKept x (set views seat v)
+set_same x views seat v h mine = (h.0, λ j u e k. ⊎_elim (λ (t : (j ≡ seat) × (v ≡ u)). subst (λ (z : EndView). z.known ≡ true → Knows x z) t.1 mine k) (λ (t : (j ≢ seat) × (get_elem? views j ≡ some u)). h.1 j u t.1 k) (at_set views seat j v u e))
 
-pub forks : (seat : ℕ) (v : View) → Forks IsKept seat v v v
+pub forks : (seat : ℕ) (v : EndView) → Forks IsKept seat v v v
 forks seat v x views h at =
     let mine : v.known ≡ true → Knows x v = h.1 seat v at in
     let kept = set_same x views seat v h mine in
-    (h.0, λ j u e k. ⊎_elim (λ (t : get_elem? (set views seat v) j ≡ some u). kept.1 j u t k) (λ (t : v ≡ u). subst (λ (z : View). z.known ≡ true → Knows x z) t mine k) (at_snoc (set views seat v) v u j e))
+    (h.0, λ j u e k. ⊎_elim (λ (t : get_elem? (set views seat v) j ≡ some u). kept.1 j u t k) (λ (t : v ≡ u). subst (λ (z : EndView). z.known ≡ true → Knows x z) t mine k) (at_snoc (set views seat v) v u j e))
 
-pub merges : (seat : ℕ) (v : View) (other : ℕ) (w : View) → Merges IsKept seat v other w w nobody
+pub merges : (seat : ℕ) (v : EndView) (other : ℕ) (w : EndView) → Merges IsKept seat v other w w nobody
 merges seat v other w x views h at apart there =
     let mine : w.known ≡ true → Knows x w = ⊎_elim (λ (t : (other ≡ seat) × (w ≡ w)). absurd (apart t.0)) (λ (t : (other ≢ seat) × (get_elem? views other ≡ some w)). h.1 other w t.1) (at_set views seat other w w there) in
     set_same x (set views seat w) other nobody (set_same x views seat w h mine) (λ k. clash _ false k refl)
@@ -88,12 +88,12 @@ merges seat v other w x views h at apart there =
 pub starts : (x : Page) → IsGood x → IsKept x (nobody ∷ [])
 starts x good = admits x [] (good, λ j u e k. absurd (none_there j u e))
   where
-    none_there : (j : ℕ) (u : View) → get_elem? [] j ≡ some u → ⊥
+    none_there : (j : ℕ) (u : EndView) → get_elem? [] j ≡ some u → ⊥
     none_there j u e = cc e
 
 -- ---- what an end is after a step
 -- of two pages of one board the one with the greater count is further
-pub go_further : (x y : Page) (both : List Entry) → IsGood x → IsGood y → y.seen.book ≡ x.seen.book → length y.sheet ≡ length x.sheet → IsPrefix x.seen.log both → IsPrefix y.seen.log both
+pub go_further : (x y : Page) (both : List BoardEntry) → IsGood x → IsGood y → y.seen.book ≡ x.seen.book → length y.sheet ≡ length x.sheet → IsPrefix x.seen.log both → IsPrefix y.seen.log both
     → x.count ≤ y.count → IsFurther x y
 go_further x y both gx gy book wide p q le = record {
   book = book;
@@ -102,20 +102,20 @@ go_further x y both gx gy book wide p q le = record {
 }
 
 -- a reader that took a page, and then keeps one that is further than its own
-pub now_reading : (v w : View) (x y z : Page) → IsReading v x → Sees v y y w → IsGood z → IsFurther x z → IsReading w z
+pub now_reading : (v w : EndView) (x y z : Page) → IsReading v x → Sees v y y w → IsGood z → IsFurther x z → IsReading w z
 now_reading v w x y z is saw good further =
     let k = saw.2 is.known in
     record {
-      known = ap (λ (u : View). u.known) saw.0;
+      known = ap (λ (u : EndView). u.known) saw.0;
       board = record {
         book = ap book_in saw.0 ∙ (sym k.book ∙ (is.board.book ∙ sym further.book));
-        wide = ap (λ (u : View). u.legs) saw.0 ∙ (sym k.wide ∙ (is.board.wide ∙ sym further.wide));
+        wide = ap (λ (u : EndView). u.legs) saw.0 ∙ (sym k.wide ∙ (is.board.wide ∙ sym further.wide));
       };
       good = good;
     }
 
 -- a reader that keeps a page that is further than its own
-pub still_reading : (v : View) (x z : Page) → IsReading v x → IsGood z → IsFurther x z → IsReading v z
+pub still_reading : (v : EndView) (x z : Page) → IsReading v x → IsGood z → IsFurther x z → IsReading v z
 still_reading v x z is good further = record {
   known = is.known;
   board = record { book = is.board.book ∙ sym further.book; wide = is.board.wide ∙ sym further.wide };
@@ -161,7 +161,7 @@ counted_more published pending c octets is =
     omega (arith, is, more, all)
 
 -- what waits may be shown
-pub shows : (seat : ℕ) (v : View) (x : Page) (waits : List Publish) (next : Page) → CanShow x waits → next ≡ fold published x waits → TurnsAt IsKept seat v x next Sees
+pub shows : (seat : ℕ) (v : EndView) (x : Page) (waits : List Publish) (next : Page) → CanShow x waits → next ≡ fold published x waits → TurnsAt IsKept seat v x next Sees
 shows seat v x waits next can is =
     let p : Publish = can.one.0 in
     let only : next ≡ published x p = is ∙ ap (λ (l : List Publish). fold published x l) can.one.1 in
@@ -169,14 +169,14 @@ shows seat v x waits next can is =
     (sees x (published x p) seat v (λ good. next_good x p good can.one.2) (next_further x p can.good can.one.2))
 
 -- what waited is shown, since it can be absorbed
-pub has_shown : {E : Type 0} (v w : View) (x y : Page) (waits left : List Publish) (r : Result (Unit {0}) E) → IsOk r
+pub has_shown : {E : Type 0} (v w : EndView) (x y : Page) (waits left : List Publish) (r : Result (Unit {0}) E) → IsOk r
     → MatchResult r (λ _. (y ≡ fold published x waits) × (left ≡ [])) (λ _. (y ≡ x) × (left ≡ waits)) → MatchResult r (λ _. Sees v x y w) (λ _. w ≡ v)
     → HasShown x waits y left
 has_shown v w x y waits left (Ok u) ok values rule = record { good = rule.1; all = λ p only. values.0 ∙ ap (λ (l : List Publish). fold published x l) only; none = values.1 }
 has_shown v w x y waits left (Err e) ok values rule = absurd (true≢false (sym ok))
 
 -- then the writer knows the board of what is shown
-pub view_shown : {E : Type 0} (v w : View) (x y : Page) (r : Result (Unit {0}) E) → IsOk r → MatchResult r (λ _. Sees v x y w) (λ _. w ≡ v) → w ≡ view_of y
+pub view_shown : {E : Type 0} (v w : EndView) (x y : Page) (r : Result (Unit {0}) E) → IsOk r → MatchResult r (λ _. Sees v x y w) (λ _. w ≡ v) → w ≡ view_of y
 view_shown v w x y (Ok u) ok rule = rule.0
 view_shown v w x y (Err e) ok rule = absurd (true≢false (sym ok))
 
@@ -207,11 +207,11 @@ share_view x x' y waits left p pending same one good next going shown none =
 
 -- ---- a new board
 -- where nothing was published a first time
-pub laid : (x x' y : Page) (waits left : List Publish) (p : Publish) (v : View) (word : Named) → x' ≡ x → waits ≡ p ∷ [] → x.seen.log ≡ [] → word ≡ head_of x.seen.book → IsNext x p → p.fresh.chunks.items ≡ []
+pub laid : (x x' y : Page) (waits left : List Publish) (p : Publish) (v : EndView) (word : Named) → x' ≡ x → waits ≡ p ∷ [] → x.seen.log ≡ [] → word ≡ head_of x.seen.book → IsNext x p → p.fresh.chunks.items ≡ []
     → p.fresh.ends ≡ false → HasShown x' waits y left → v ≡ view_of y → IsLaid y left v word
 laid x x' y waits left p v word same one blank word_is next none going shown knows =
     let is : y ≡ published x p = shown.all p one ∙ ap (λ (z : Page). published z p) same in
-    let before : changes_of x.seen.log ++ p.fresh.chunks.items ≡ [] = ap (λ (l : List Entry). changes_of l ++ p.fresh.chunks.items) blank ∙ none in
+    let before : changes_of x.seen.log ++ p.fresh.chunks.items ≡ [] = ap (λ (l : List BoardEntry). changes_of l ++ p.fresh.chunks.items) blank ∙ none in
     record {
       writing = share_after x x' y waits left p word [] 0 same one next shown word_is refl (sym (ap octets_of before));
       knows = knows;

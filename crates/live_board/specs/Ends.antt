@@ -4,13 +4,13 @@ use Rattle.rtt_base.specs.declared.records.Chunk.{Chunk}
 use Rattle.logbook.specs.Pages.{Named}
 use Rattle.live_board.specs.declared.pages.Page.{Page}
 use Rattle.live_board.specs.declared.pages.Publish.{Publish}
-use Rattle.live_board.specs.declared.rule.View.{View}
+use Rattle.live_board.specs.declared.rule.EndView.{EndView}
 use Rattle.live_board.specs.Histories.{changes_of, ended_in, octets_of, head_of}
 use Rattle.live_board.specs.Pages.{IsGood, IsNext, published}
 use Rattle.live_board.specs.Rule.{Knows, view_of}
 
 -- a reader knows the board of the page that it keeps
-pub record IsReading (v : View) (page : Page) : Type 0 where
+pub record IsReading (v : EndView) (page : Page) : Type 0 where
   pub known : v.known ≡ true
   pub board : Knows page v
   pub good : IsGood page
@@ -28,7 +28,7 @@ pub record CanShow (shown : Page) (waits : List Publish) : Type 0 where
   pub one : (p : Publish) × (waits ≡ p ∷ []) × IsNext shown p
 
 -- a board was laid: nothing was published and nothing waits, and its writer knows it
-pub record IsLaid (shown : Page) (waits : List Publish) (v : View) (word : Named) : Type 0 where
+pub record IsLaid (shown : Page) (waits : List Publish) (v : EndView) (word : Named) : Type 0 where
   pub writing : IsWriting shown waits word [] 0
   pub knows : v ≡ view_of shown
   pub nothing : changes_of shown.seen.log ≡ []

@@ -8,7 +8,7 @@ ghost use Rattle.live_board.specs.Pages.{IsGood};
 ghost use Rattle.live_board.specs.Rule.{view_of};
 ghost use Rattle.live_board.specs.Views.{reading_of};
 
-use crate::held::Held;
+use crate::page_copies::PageCopy;
 use crate::histories::{Fresh, Head, open};
 use crate::pages::Page;
 use crate::readers::BoardReader;
@@ -95,7 +95,7 @@ fn one_more(alloc: Global, outer: &mut Outer) -> Result<BoardReader, NoMemory>
     let Ok(reader) = introduced(outer) else {
         return Err(NoMemory);
     };
-    Ok(BoardReader::new(Held { reader, page }))
+    Ok(BoardReader::new(PageCopy { reader, page }))
 }
 
 // So many readers, each of which saw what is shown.

@@ -4,7 +4,7 @@ ghost use Rattle.live_board.specs.Histories.{changes_of, ended_in, head_of, octe
 ghost use Rattle.live_board.specs.Pages.{IsGood, IsNext};
 ghost use Rattle.live_board.specs.Sheets.{IsSheetOf};
 
-use crate::histories::{Fresh, Head, Reached, enter};
+use crate::histories::{Fresh, Head, ReachedHistory, enter};
 use crate::sheets::Sheet;
 use left_right::Absorb;
 use rtt_base::NoMemory;
@@ -17,7 +17,7 @@ pub struct Page {
     pub sheet: Sheet,
     pub count: u64,
     pub ended: bool,
-    pub seen: Reached,
+    pub seen: ReachedHistory,
 }
 
 /// What a call publishes, with the history that ends in it.
@@ -26,7 +26,7 @@ pub struct Publish {
     pub fresh: Fresh,
     pub count: u64,
     pub ended: bool,
-    pub seen: Reached,
+    pub seen: ReachedHistory,
 }
 
 impl Absorb<Publish> for Page {
@@ -51,7 +51,7 @@ impl Absorb<Publish> for Page {
 
 impl Page {
     /// A page of so many legs, of a history of which nothing was published. It takes all memory that it ever needs.
-    pub fn blank(alloc: Global, legs: usize, seen: &Reached) -> Result<Page, NoMemory>
+    pub fn blank(alloc: Global, legs: usize, seen: &ReachedHistory) -> Result<Page, NoMemory>
         ensures blank { IfOk result (λ x. (x.count ≡ 0) × (x.ended ≡ false)) }
         ensures shows { IfOk result (λ x. IsSheetOf legs [] x.sheet) }
         ensures seen { IfOk result (λ x. x.seen ≡ seen.now) }

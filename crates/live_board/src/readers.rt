@@ -8,7 +8,7 @@ ghost use Rattle.live_board.specs.Ends.{IsReading};
 ghost use Rattle.live_board.specs.Pages.{IsFurther};
 ghost use Rattle.live_board.specs.Views.{reading_of};
 
-use crate::held::{Held, look, take_in};
+use crate::page_copies::{PageCopy, look, take_in};
 use crate::notes::Note;
 use crate::tails::Tail;
 use core::mem::replace_with;
@@ -17,7 +17,7 @@ use std::marker::Model;
 /// Where what was published is read. A read waits for nobody and takes no memory.
 #[derive(Drop)]
 pub struct BoardReader {
-    held: Held,
+    held: PageCopy,
 }
 
 impl Model for BoardReader {
@@ -33,7 +33,7 @@ impl Model for BoardReader {
 }
 
 impl BoardReader {
-    pub(crate) fn new(held: Held) -> BoardReader
+    pub(crate) fn new(held: PageCopy) -> BoardReader
         requires { IsReading (view held.reader.place) held.page }
         ensures { result ≡ reading_of held.page }
     {
@@ -49,7 +49,7 @@ impl BoardReader {
         replace_with(
             &mut self.held,
             (),
-            |held: Held, _nothing: ()| -> (Held, ())
+            |held: PageCopy, _nothing: ()| -> (PageCopy, ())
                 requires { IsReading (view held.reader.place) held.page }
                 ensures reading { IsReading (view result.0.reader.place) result.0.page }
                 ensures further { IsFurther held.page result.0.page }

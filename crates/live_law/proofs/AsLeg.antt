@@ -129,7 +129,7 @@ module _ (leg : ℕ) (h : Hearing) where
     left = c.left;
     takes_are = c.takes_are;
     are = are_as c.counting c.given c.are;
-    no_marks = c.no_marks;
+    no_signals = c.no_signals;
     items_are = c.items_are;
     last = c.last;
     front = front_as takes (c.given ++ c.tail) c.front;

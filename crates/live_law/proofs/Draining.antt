@@ -8,7 +8,7 @@ use Rattle.live_spec.specs.Told.{Hearing, all_by, all_told, ready_by, ready_told
 use Rattle.live_leg.specs.Items.{texts_in}
 use Rattle.live_leg.proofs.Texts.{texts_append}
 use Rattle.live_law.specs.Laws.{EndIsCovered}
-use Rattle.live_law.specs.Marks.{IsOpenBefore}
+use Rattle.live_law.specs.Signals.{IsOpenBefore}
 use Rattle.live_law.proofs.Finding.{find_end}
 use Rattle.live_law.proofs.Opening.{none_later, told_closed}
 
@@ -31,7 +31,7 @@ both_fronts xs all more rest e f =
 
 pub covered_end : EndIsCovered
 covered_end h takes items w ends =
-    let f = find_end h w.counting w.given items w.left w.tail w.are w.no_marks w.items_are ends in
+    let f = find_end h w.counting w.given items w.left w.tail w.are w.no_signals w.items_are ends in
     let are : takes ≡ (w.later ++ f.later) ++ f.first = w.takes_are ∙ (ap (λ k. w.later ++ k) f.are ∙ sym (append_assoc w.later f.later f.first)) in
     let none = none_later (w.later ++ f.later) f.first (subst IsOpenBefore are w.last) f.enough in
     let is : f.first ≡ takes = sym (are ∙ ap (λ l. l ++ f.first) none) in

@@ -17,7 +17,7 @@ use Rattle.mixer_spec.proofs.Legs.{come_taken}
 use Rattle.link_spec.specs.Links.{Takes, is_closed}
 use Rattle.live_spec.specs.Told.{Hearing}
 use Rattle.live_spec.specs.Live.{AllMayTurn, AllSeated, AreLive, IsOver, IsUpToDate, Live, MayTurn, at_last, but_last, first_takes, is_blocked, is_held_back, live_chunks}
-use Rattle.live_leg.specs.Items.{Item, marks_in, texts_in}
+use Rattle.live_leg.specs.Items.{Item, signals_in, texts_in}
 use Rattle.live_leg.proofs.Texts.{texts_append}
 use Rattle.live_loop.specs.Handed.{AllFreshAt, AreLiveCalls, IsFreshAt, hand_after, is_blocked_after}
 use Rattle.live_loop.proofs.Offering.{hand_kept, hand_taken, took_kept, took_taken}
@@ -183,8 +183,8 @@ module _ (s : Setup) (hears : ℕ → Hearing) (takes : ℕ → Takes) (items : 
       record {
         seated = ap (λ (t : Table). is_seated t.seats i) f.table_is ∙ w.seated;
         fresh = subst (λ (n : ℕ). IsUpToDate h (takes i) b last n (chunks_taken ((after s chunks f.past).table.taken i))) (sym w.count)
-            (subst (λ (cs : List Chunk). IsUpToDate h (takes i) b last (marks_in w.given) cs) texts
-            (subst (λ (x : Bool). IsUpToDate h (takes i) x last (marks_in w.given) (texts_in h.leg w.given)) (sym (blocked_is more counts past i f)) fresh));
+            (subst (λ (cs : List Chunk). IsUpToDate h (takes i) b last (signals_in w.given) cs) texts
+            (subst (λ (x : Bool). IsUpToDate h (takes i) x last (signals_in w.given) (texts_in h.leg w.given)) (sym (blocked_is more counts past i f)) fresh));
       }
 
   -- where all is taken nothing is in the hand

@@ -4,7 +4,7 @@ use Rattle.std.specs.Prelude.{Bool}
 use Rattle.link_spec.specs.Links.{Takes, Came, Datagram, Large, Quiet, Closed, is_closed, is_closing}
 use Rattle.live_spec.specs.Told.{Hearing, Told, told_by, told_came}
 use Rattle.live_spec.proofs.Fronts.{came_closed}
-use Rattle.live_law.specs.Marks.{IsOpenBefore}
+use Rattle.live_law.specs.Signals.{IsOpenBefore}
 
 -- ---- once closed, for good
 or_true : (b : Bool) → (b || true) ≡ true

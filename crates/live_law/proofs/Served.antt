@@ -3,9 +3,9 @@ use Rattle.std.proofs.Common.{◌≡◌, ◌<◌, ℕ, true, not, Some, None, Li
 use Rattle.std.specs.Prelude.{if◌then◌else◌}
 use Rattle.std.proofs.lemmas.Bool.{and_parts, not-true}
 use Rattle.std.proofs.lemmas.List.{append-nil}
-use Rattle.rtt_base.specs.declared.text_packets.Pts.{Pts}
+use Rattle.rtt_base.specs.declared.text_packets.PayloadTypes.{PayloadTypes}
 use Rattle.stream_spec.specs.Ready.{chunk_of}
-use Rattle.file_spec.specs.Conf.{Conf}
+use Rattle.file_spec.specs.Conference.{Conference}
 use Rattle.mixer_spec.specs.Setups.{Setup, setup}
 use Rattle.mixer_spec.specs.Table.{Call, after_calls}
 use Rattle.mixer_spec.specs.Calls.{took}
@@ -20,13 +20,13 @@ use Rattle.live_loop.specs.Walks.{AllClosed, IsServing, is_spent}
 use Rattle.live_loop.proofs.Enough.{end_append}
 use Rattle.serve_spec.specs.Served.{IsDrained, hearing_at}
 use Rattle.live_law.specs.Covers.{Covers}
-use Rattle.live_law.specs.Served.{BrokenIsServed, ClosedIsServed, DoneIsServed, IsOfConf}
+use Rattle.live_law.specs.Served.{BrokenIsServed, ClosedIsServed, DoneIsServed, IsOfConference}
 use Rattle.live_law.proofs.Draining.{covered_end}
 use Rattle.live_law.proofs.Serving.{serving, serving_to, some_there}
 
-module _ {I M : Type 0} (popped : I → List Item) (stands : M → Setup → (ℕ → Pts) → List Call → Type 0) where
+module _ {I M : Type 0} (popped : I → List Item) (stands : M → Setup → (ℕ → PayloadTypes) → List Call → Type 0) where
   -- all of a leg was popped and taken
-  drained_at : (c : Conf) (takes : ℕ → Takes) (calls : List Call) (j : ℕ) (E : List Item → Type 0) (p : LivePort I) → PortAt popped (setup c) calls j E p → is_spent p ≡ true → Covers (hearing_at c j) (takes j) (popped p.inlet)
+  drained_at : (c : Conference) (takes : ℕ → Takes) (calls : List Call) (j : ℕ) (E : List Item → Type 0) (p : LivePort I) → PortAt popped (setup c) calls j E p → is_spent p ≡ true → Covers (hearing_at c j) (takes j) (popped p.inlet)
       → IsDrained c takes (after_calls (setup c) calls) j
   drained_at c takes calls j E p a spent w =
       let both = and_parts p.ended (not p.full) spent in
@@ -38,17 +38,17 @@ module _ {I M : Type 0} (popped : I → List Item) (stands : M → Setup → (�
       let e = covered_end (hearing_at c j) (takes j) (popped p.inlet) w ends in
       record { closed = e.0; taken = sym texts ∙ e.1 }
 
-  pub all_drained : (c : Conf) (takes : ℕ → Takes) (pts : ℕ → Pts) (turns : ℕ) (ps : List (LivePort I)) (m : M) (given : ℕ → List (List ℕ)) (v : IsServing popped stands (setup c) pts turns ps m) → IsOfConf popped c v.calls ps takes given → AllClosed ps
+  pub all_drained : (c : Conference) (takes : ℕ → Takes) (payload_types : ℕ → PayloadTypes) (turns : ℕ) (ps : List (LivePort I)) (m : M) (given : ℕ → List (List ℕ)) (v : IsServing popped stands (setup c) payload_types turns ps m) → IsOfConference popped c v.calls ps takes given → AllClosed ps
       → (j : ℕ) → j < length c.legs → IsDrained c takes (after_calls (setup c) v.calls) j
-  all_drained c takes pts turns ps m given v o closed j low =
+  all_drained c takes payload_types turns ps m given v o closed j low =
       let legs = o.legs in
       let there = some_there ps j (omega (arith, low, legs)) in
       drained_at c takes v.calls j _ there.0 (v.at j there.0 there.1) (closed j there.0 there.1) (o.covers j there.0 there.1)
 
   unfoldable pub done_law : DoneIsServed popped stands
-  done_law c pts ps m takes given w o =
+  done_law c payload_types ps m takes given w o =
       let v = w.serving in
-      let l = serving_to popped stands (setup c) pts c.turns ps m v (hearing_at c) takes o.legs (λ i. refl) o.none o.covers in
+      let l = serving_to popped stands (setup c) payload_types c.turns ps m v (hearing_at c) takes o.legs (λ i. refl) o.none o.covers in
       record {
         table = after_calls (setup c) v.calls;
         turns = c.turns;
@@ -63,28 +63,28 @@ module _ {I M : Type 0} (popped : I → List Item) (stands : M → Setup → (�
       }
 
   unfoldable pub closed_law : ClosedIsServed popped stands
-  closed_law c pts ps m takes given w o =
+  closed_law c payload_types ps m takes given w o =
       let v = w.serving in
       record {
         table = after_calls (setup c) v.calls;
         turns = w.turns;
-        live = serving popped stands (setup c) pts w.turns ps m v (hearing_at c) takes o.legs (λ i. refl) o.none o.covers;
+        live = serving popped stands (setup c) payload_types w.turns ps m v (hearing_at c) takes o.legs (λ i. refl) o.none o.covers;
         few = w.few;
         gives = o.gave;
         prints = refl;
         done = λ e. absurd (cc e);
         goes_on = λ e. absurd (cc e);
-        drained = λ e. all_drained c takes pts w.turns ps m given v o w.closed.ends;
+        drained = λ e. all_drained c takes payload_types w.turns ps m given v o w.closed.ends;
         idle = λ e. w.closed.idle;
       }
 
   unfoldable pub broken_law : BrokenIsServed popped stands
-  broken_law c pts ps m takes given w o =
+  broken_law c payload_types ps m takes given w o =
       let v = w.serving in
       record {
         table = after_calls (setup c) v.calls;
         turns = w.turns;
-        live = serving popped stands (setup c) pts w.turns ps m v (hearing_at c) takes o.legs (λ i. refl) o.none o.covers;
+        live = serving popped stands (setup c) payload_types w.turns ps m v (hearing_at c) takes o.legs (λ i. refl) o.none o.covers;
         few = w.few;
         gives = o.gave;
         prints = refl;

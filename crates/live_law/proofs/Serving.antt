@@ -2,7 +2,7 @@
 use Rattle.std.proofs.Common.{◌≡◌, ◌<◌, ◌≤◌, ℕ, zero, suc, inl, inr, Some, None, List, [], ◌∷◌, ◌++◌, length, refl, ap, sym, ◌∙◌, subst, arith}
 use Rattle.std.specs.Prelude.{slice_get}
 use Rattle.std.proofs.lemmas.List.{append-nil}
-use Rattle.rtt_base.specs.declared.text_packets.Pts.{Pts}
+use Rattle.rtt_base.specs.declared.text_packets.PayloadTypes.{PayloadTypes}
 use Rattle.stream_spec.specs.Ready.{chunk_of}
 use Rattle.mixer_spec.specs.Setups.{Setup}
 use Rattle.mixer_spec.specs.Table.{Admit, Call, Hush, Leave, Offer, Taken, Turn, after_calls, chunks_taken, free_place}
@@ -16,9 +16,9 @@ use Rattle.live_spec.specs.Told.{Hearing, all_by}
 use Rattle.live_spec.specs.Live.{IsOver, Live, at_last, but_last, live_chunks}
 use Rattle.live_leg.specs.declared.items.LegItem.{LegItem}
 use Rattle.live_leg.specs.declared.legs.LinkLeg.{LinkLeg}
-use Rattle.live_leg.specs.Items.{Item, items_of, marks_in, texts_in}
+use Rattle.live_leg.specs.Items.{Item, items_of, signals_in, texts_in}
 use Rattle.live_leg.proofs.Texts.{items_append, texts_append}
-use Rattle.item_lanes.specs.declared.lanes.Lane.{Lane}
+use Rattle.item_lanes.specs.declared.lanes.Worker.{Worker}
 use Rattle.item_lanes.specs.Lanes.{popped_of}
 use Rattle.live_loop.specs.declared.ports.LivePort.{LivePort}
 use Rattle.live_loop.specs.Handed.{AreLiveCalls, hand_after}
@@ -31,7 +31,7 @@ use Rattle.live_law.proofs.Covering.{covers, covers_by}
 use Rattle.live_law.proofs.Finding.{closed_by_more, closed_ends}
 use Rattle.live_law.proofs.Following.{runs_to}
 
-pub answered : {L G : Type 0} (g : links.Ghosts L) (first back : LinkLeg L) (started now : Lane LegItem (LinkLeg L) G) → IsJoined g first back started now → IsAnswered g first back now
+pub answered : {L G : Type 0} (g : links.Ghosts L) (first back : LinkLeg L) (started now : Worker LegItem (LinkLeg L) G) → IsJoined g first back started now → IsAnswered g first back now
 answered g first back started now w =
     let c = w.comes first (w.runs first w.starts.runs) in
     record { takes = c.1.so.takes; covers = λ leg. covers g leg first back (items_of (popped_of now ++ c.0)) (items_of (popped_of now)) (items_of c.0) c.1 (items_append (popped_of now) c.0); taken = c.1.so.taken }
@@ -56,7 +56,7 @@ some_there [] i low = absurd (omega arith)
 some_there (y ∷ xs) zero low = (y, refl)
 some_there (y ∷ xs) (suc i) low = some_there xs i (omega (arith, low))
 
-module _ {I M : Type 0} (popped : I → List Item) (stands : M → Setup → (ℕ → Pts) → List Call → Type 0) where
+module _ {I M : Type 0} (popped : I → List Item) (stands : M → Setup → (ℕ → PayloadTypes) → List Call → Type 0) where
   abbrev items_at : List (LivePort I) → ℕ → List Item
   items_at [] i = []
   items_at (p ∷ ps) zero = popped p.inlet
@@ -76,15 +76,15 @@ module _ {I M : Type 0} (popped : I → List Item) (stands : M → Setup → (�
   none_covers h takes items e i = subst (λ (l : List Item). Covers h takes l) (sym i) (subst (λ (as' : Takes). Covers h as' []) (sym e) (covers_by h [] [] [] [] refl (all_by h [], refl) [] [] [] [] tt refl refl tt refl))
 
   -- a live run, and that where it is over nothing is left
-  abbrev pub LiveTo : (s : Setup) (pts : ℕ → Pts) (turns : ℕ) (ps : List (LivePort I)) (m : M) → IsServing popped stands s pts turns ps m → (ℕ → Hearing) → (ℕ → Takes) → Type 0
-  LiveTo s pts turns ps m v hears takes =
+  abbrev pub LiveTo : (s : Setup) (payload_types : ℕ → PayloadTypes) (turns : ℕ) (ps : List (LivePort I)) (m : M) → IsServing popped stands s payload_types turns ps m → (ℕ → Hearing) → (ℕ → Takes) → Type 0
+  LiveTo s payload_types turns ps m v hears takes =
       (l : Live s hears takes turns (after_calls s v.calls))
-      × (IsOver s hears takes (live_chunks hears takes) l.past (at_last l.counts) → IsClosed popped stands s pts ps m v.calls)
+      × (IsOver s hears takes (live_chunks hears takes) l.past (at_last l.counts) → IsClosed popped stands s payload_types ps m v.calls)
 
-  pub serving_to : (s : Setup) (pts : ℕ → Pts) (turns : ℕ) (ps : List (LivePort I)) (m : M) (v : IsServing popped stands s pts turns ps m) (hears : ℕ → Hearing) (takes : ℕ → Takes)
+  pub serving_to : (s : Setup) (payload_types : ℕ → PayloadTypes) (turns : ℕ) (ps : List (LivePort I)) (m : M) (v : IsServing popped stands s payload_types turns ps m) (hears : ℕ → Hearing) (takes : ℕ → Takes)
       → s.legs ≡ length ps → ((i : ℕ) → (hears i).leg ≡ i) → ((i : ℕ) → s.legs ≤ i → takes i ≡ []) → ((j : ℕ) (p : LivePort I) → slice_get ps j ≡ Some p → Covers (hears j) (takes j) (popped p.inlet))
-      → LiveTo s pts turns ps m v hears takes
-  serving_to s pts turns ps m v hears takes legs own none all =
+      → LiveTo s payload_types turns ps m v hears takes
+  serving_to s payload_types turns ps m v hears takes legs own none all =
       let items : ℕ → List Item = items_at ps in
       let live = v.live items (λ j p e. ([], items_there ps j p e ∙ sym (append-nil (popped p.inlet)))) in
       let texts : (i : ℕ) → texts_in i (items i) ≡ took s i v.calls ++ held (hand_after s i v.calls) = λ i. elim (lt_or_ge i (length ps)) [
@@ -104,7 +104,7 @@ module _ {I M : Type 0} (popped : I → List Item) (stands : M → Setup → (�
         | inr high ↦ none_covers (hears i) (takes i) (items i) (none i (omega (arith, legs, high))) (items_above ps i high)
       ] in
       let r = runs_to s hears takes items own covered v.counts v.calls live texts in
-      subst (λ (n : ℕ). (l : Live s hears takes n (after_calls s v.calls)) × (IsOver s hears takes (live_chunks hears takes) l.past (at_last l.counts) → IsClosed popped stands s pts ps m v.calls)) v.turned (
+      subst (λ (n : ℕ). (l : Live s hears takes n (after_calls s v.calls)) × (IsOver s hears takes (live_chunks hears takes) l.past (at_last l.counts) → IsClosed popped stands s payload_types ps m v.calls)) v.turned (
         r.0,
         λ over.
             let by = r.1 over in
@@ -112,14 +112,14 @@ module _ {I M : Type 0} (popped : I → List Item) (stands : M → Setup → (�
               ends = λ j p e.
                   let low : j < s.legs = (let k = get_within ps j p e in omega (arith, k, legs)) in
                   let a = v.at j p e in
-                  let closed = closed_by_more (at_last v.counts j) (marks_in a.before) (takes j) a.enough (by.closed j low) in
+                  let closed = closed_by_more (at_last v.counts j) (signals_in a.before) (takes j) a.enough (by.closed j low) in
                   let ended = closed_ends (hears j) (takes j) (items j) a.before a.tail (covered j) (items_there ps j p e ∙ a.popped_are) closed in
                   is_and p.ended p.full (a.ended ∙ ended) (none_full p.full (chunk_of p.hand) (a.hand_is ∙ by.empty j low));
               idle = by.idle;
             },
       )
 
-  pub serving : (s : Setup) (pts : ℕ → Pts) (turns : ℕ) (ps : List (LivePort I)) (m : M) (v : IsServing popped stands s pts turns ps m) (hears : ℕ → Hearing) (takes : ℕ → Takes)
+  pub serving : (s : Setup) (payload_types : ℕ → PayloadTypes) (turns : ℕ) (ps : List (LivePort I)) (m : M) (v : IsServing popped stands s payload_types turns ps m) (hears : ℕ → Hearing) (takes : ℕ → Takes)
       → s.legs ≡ length ps → ((i : ℕ) → (hears i).leg ≡ i) → ((i : ℕ) → s.legs ≤ i → takes i ≡ []) → ((j : ℕ) (p : LivePort I) → slice_get ps j ≡ Some p → Covers (hears j) (takes j) (popped p.inlet))
       → Live s hears takes turns (after_calls s v.calls)
-  serving s pts turns ps m v hears takes legs own none all = (serving_to s pts turns ps m v hears takes legs own none all).0
+  serving s payload_types turns ps m v hears takes legs own none all = (serving_to s payload_types turns ps m v hears takes legs own none all).0

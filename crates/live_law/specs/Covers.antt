@@ -4,7 +4,7 @@ use Rattle.stream_spec.specs.Fronts.{IsFront}
 use Rattle.link_spec.specs.Links.{Takes}
 use Rattle.live_spec.specs.Told.{Hearing, all_by}
 use Rattle.live_leg.specs.Items.{AreItems, Item, texts_in}
-use Rattle.live_law.specs.Marks.{AreNoMarks, IsOpenBefore}
+use Rattle.live_law.specs.Signals.{AreNoSignals, IsOpenBefore}
 
 -- the same, as of the leg with this number
 abbrev pub as_leg : ℕ → Hearing → Hearing
@@ -20,7 +20,7 @@ pub record Covers (h : Hearing) (takes : Takes) (items : List Item) : Type 0 whe
   pub left : List Item
   pub takes_are : takes ≡ later ++ counting
   pub are : AreItems h counting given
-  pub no_marks : AreNoMarks tail
+  pub no_signals : AreNoSignals tail
   pub items_are : items ++ left ≡ given ++ tail
   pub last : IsOpenBefore takes
   pub front : IsFront (texts_in h.leg (given ++ tail)) (all_by h takes)

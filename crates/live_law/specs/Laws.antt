@@ -1,6 +1,6 @@
 -- What a live call comes to.
 use Rattle.std.specs.Prelude.{◌≡◌, ◌≤◌, ℕ, true, Some, List, [], ◌++◌, length, slice_get}
-use Rattle.rtt_base.specs.declared.text_packets.Pts.{Pts}
+use Rattle.rtt_base.specs.declared.text_packets.PayloadTypes.{PayloadTypes}
 use Rattle.mixer_spec.specs.Setups.{Setup}
 use Rattle.mixer_spec.specs.Table.{Call, after_calls}
 use Rattle.mixer_spec.specs.Calls.{took, turns_made}
@@ -14,7 +14,7 @@ use Rattle.live_leg.specs.declared.legs.LinkLeg.{LinkLeg}
 use Rattle.live_leg.specs.Items.{Item, items_of, texts_in}
 use Rattle.live_leg.specs.Stands.{LegGave, LegStands}
 use Rattle.live_leg.specs.Stories.{hearing_of}
-use Rattle.item_lanes.specs.declared.lanes.Lane.{Lane}
+use Rattle.item_lanes.specs.declared.lanes.Worker.{Worker}
 use Rattle.item_lanes.specs.Lanes.{ComesBack, IsStarted, LaneFollows, popped_of}
 use Rattle.live_loop.specs.declared.ports.LivePort.{LivePort}
 use Rattle.live_loop.specs.Handed.{AreLiveCalls, hand_after, has_end}
@@ -36,28 +36,28 @@ abbrev pub LegsCover : {L : Type 0} → links.Ghosts L → Type 0
 LegsCover {L} g =
     (leg : ℕ) (first now : LinkLeg L) (gave popped left : List Item) (w : LegStands g first now gave)
     → gave ≡ popped ++ left
-    → Covers (as_leg leg (hearing_of first.conf)) w.so.takes popped
+    → Covers (as_leg leg (hearing_of first.settings)) w.so.takes popped
 
 -- A leg that was started as `first`, ran, and came back.
-pub record IsJoined {L G : Type 0} (g : links.Ghosts L) (first back : LinkLeg L) (started now : Lane LegItem (LinkLeg L) G) : Type 0 where
+pub record IsJoined {L G : Type 0} (g : links.Ghosts L) (first back : LinkLeg L) (started now : Worker LegItem (LinkLeg L) G) : Type 0 where
   pub starts : IsStarted (LegGave g) first started
   pub runs : LaneFollows (LegGave g) started now
   pub comes : ComesBack (LegGave g) now back
 
 -- What its link gave covers what was popped of it, whichever number the leg has; where links tell it, that is what the inbound end has taken since.
-pub record IsAnswered {L G : Type 0} (g : links.Ghosts L) (first back : LinkLeg L) (now : Lane LegItem (LinkLeg L) G) : Type 0 where
+pub record IsAnswered {L G : Type 0} (g : links.Ghosts L) (first back : LinkLeg L) (now : Worker LegItem (LinkLeg L) G) : Type 0 where
   pub takes : Takes
-  pub covers : (leg : ℕ) → Covers (as_leg leg (hearing_of first.conf)) takes (items_of (popped_of now))
+  pub covers : (leg : ℕ) → Covers (as_leg leg (hearing_of first.settings)) takes (items_of (popped_of now))
   pub taken : g.tells → g.taken back.link ≡ takes ++ g.taken first.link
 
 abbrev pub ServedAreAnswered : {L : Type 0} (G : Type 0) → links.Ghosts L → Type 0
 ServedAreAnswered {L} G g =
-    (first back : LinkLeg L) (started now : Lane LegItem (LinkLeg L) G) → IsJoined g first back started now → IsAnswered g first back now
+    (first back : LinkLeg L) (started now : Worker LegItem (LinkLeg L) G) → IsJoined g first back started now → IsAnswered g first back now
 
 -- Whatever turns were made of ports whose legs' links gave this, they are a live run.
-abbrev pub ServingIsLive : {I M : Type 0} → (I → List Item) → (M → Setup → (ℕ → Pts) → List Call → Type 0) → Type 0
+abbrev pub ServingIsLive : {I M : Type 0} → (I → List Item) → (M → Setup → (ℕ → PayloadTypes) → List Call → Type 0) → Type 0
 ServingIsLive {I} {M} popped stands =
-    (s : Setup) (pts : ℕ → Pts) (turns : ℕ) (ps : List (LivePort I)) (m : M) (v : IsServing popped stands s pts turns ps m) (hears : ℕ → Hearing) (takes : ℕ → Takes)
+    (s : Setup) (payload_types : ℕ → PayloadTypes) (turns : ℕ) (ps : List (LivePort I)) (m : M) (v : IsServing popped stands s payload_types turns ps m) (hears : ℕ → Hearing) (takes : ℕ → Takes)
     → s.legs ≡ length ps
     → ((i : ℕ) → (hears i).leg ≡ i)
     → ((i : ℕ) → s.legs ≤ i → takes i ≡ [])
@@ -70,7 +70,7 @@ EndIsAll {L} g =
     (leg : ℕ) (first now : LinkLeg L) (gave popped left : List Item) (w : LegStands g first now gave)
     → gave ≡ popped ++ left
     → has_end popped ≡ true
-    → (is_closed w.so.takes ≡ true) × (g.closed now.link ≡ true) × (texts_in leg popped ≡ all_by (as_leg leg (hearing_of first.conf)) w.so.takes)
+    → (is_closed w.so.takes ≡ true) × (g.closed now.link ≡ true) × (texts_in leg popped ≡ all_by (as_leg leg (hearing_of first.settings)) w.so.takes)
 
 -- Of items that are covered and have the end the link is closed, and their texts are all that is heard.
 abbrev pub EndIsCovered : Type 0

@@ -1,4 +1,4 @@
-pub mod Marks
+pub mod Signals
 pub mod Covers
 pub mod Laws
 pub mod Served

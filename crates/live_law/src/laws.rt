@@ -3,8 +3,8 @@ ghost use Rattle.live_law.specs.Laws.{CallsAreLive, EndIsAll, EndIsCovered, Legs
 ghost use Rattle.live_law.specs.Served.{BrokenIsServed, ClosedIsServed, DoneIsServed};
 
 use link_io::LinkIn;
-use live_loop::Pops;
-use mix_loop::Mixes;
+use live_loop::Consumer;
+use mix_loop::MixerCalls;
 use rtt_io::Gate;
 
 /// Where calls were made in a live run of what was popped, they are a live run of the core, by what the links gave.
@@ -23,7 +23,7 @@ pub fn served_are_answered<L: LinkIn, G: Gate>()
 {}
 
 /// Turns that were made of legs whose links gave this are a live run.
-pub fn serving_is_live<I: Pops, M: Mixes>()
+pub fn serving_is_live<I: Consumer, M: MixerCalls>()
     ensures { ServingIsLive I.popped M.stands }
 {}
 
@@ -39,7 +39,7 @@ pub fn covered_end_is_all()
 
 /// Turns that were made of the legs of a conference are a live call of it: all turns, those until all links were closed and
 /// nothing was left, or those until it broke off.
-pub fn turns_are_served<I: Pops, M: Mixes>()
+pub fn turns_are_served<I: Consumer, M: MixerCalls>()
     ensures done { DoneIsServed I.popped M.stands }
     ensures closed { ClosedIsServed I.popped M.stands }
     ensures broken { BrokenIsServed I.popped M.stands }

@@ -2,8 +2,8 @@
 use Rattle.std.proofs.Common.{◌≡◌, ℕ, true≢false, None, Some, [], refl, sym, ap, subst, arith}
 use Rattle.std.specs.Prelude.{Bool, true, false, if◌then◌else◌}
 use Rattle.gap_tracker.specs.Stories.{begun as begun_story}
-use Rattle.ear.specs.declared.confs.EarConf.{EarConf}
-use Rattle.ear.specs.Hears.{Gave, conf_of}
+use Rattle.ear.specs.declared.settings.EarSettings.{EarSettings}
+use Rattle.ear.specs.Hears.{Gave, settings_of}
 use Rattle.rtt_io.specs.Counts.{Rose}
 use Rattle.link_io.specs.declared.ends.LinkIn as links
 use Rattle.live_spec.specs.Told.{all_by, untold}
@@ -21,24 +21,24 @@ first_is : (b : Bool) (ssrc : ℕ) → IsOf (if b then None else Some ssrc) ssrc
 first_is true ssrc = refl
 first_is false ssrc = refl
 
-pub begun : {L : Type 0} (g : links.Ghosts L) (leg : LinkLeg L) → Gave leg.ear leg.conf.ear leg.conf.ear.ssrc (begun_story leg.conf.ear.wait) [] → KnowsFirst (hearing_of leg.conf) leg.senders → IsTally leg.tally untallied
+pub begun : {L : Type 0} (g : links.Ghosts L) (leg : LinkLeg L) → Gave leg.ear leg.settings.ear leg.settings.ear.ssrc (begun_story leg.settings.ear.wait) [] → KnowsFirst (hearing_of leg.settings) leg.senders → IsTally leg.tally untallied
     → leg.state ≡ Idle → LegStands g leg leg []
 begun {L} g leg gave knows tally idle =
-    let h = hearing_of leg.conf in
-    let own : conf_of leg.ear ≡ leg.conf.ear = gave.hears.asked in
+    let h = hearing_of leg.settings in
+    let own : settings_of leg.ear ≡ leg.settings.ear = gave.hears.asked in
     record {
       so = record {
         takes = [];
-        conf = refl;
+        settings = refl;
         ear = subst (λ (st : State). EarStands leg.ear st leg.senders.moment leg.packet.value h [] []) (sym idle) (record {
           part = untold h;
-          story = begun_story leg.conf.ear.wait;
+          story = begun_story leg.settings.ear.wait;
           heard = [];
-          gave = subst (λ (k : EarConf). Gave leg.ear k k.ssrc (begun_story leg.conf.ear.wait) []) (sym own) gave;
+          gave = subst (λ (k : EarSettings). Gave leg.ear k k.ssrc (begun_story leg.settings.ear.wait) []) (sym own) gave;
           hears = record {
-            pts = ap (λ (k : EarConf). k.pts) own;
-            wait = ap (λ (k : EarConf). k.wait) own;
-            sender = subst (λ (k : EarConf). IsOf (untold h).sender k.ssrc []) (sym own) (first_is leg.conf.follow leg.conf.ear.ssrc);
+            payload_types = ap (λ (k : EarSettings). k.payload_types) own;
+            wait = ap (λ (k : EarSettings). k.wait) own;
+            sender = subst (λ (k : EarSettings). IsOf (untold h).sender k.ssrc []) (sym own) (first_is leg.settings.follow leg.settings.ear.ssrc);
           };
           past = refl;
           at_moment = λ _. refl;

@@ -8,9 +8,9 @@ use Rattle.stream_spec.specs.Hearing.{marker}
 use Rattle.stream_spec.specs.Ready.{Chunk, chunk, chunk_of}
 use Rattle.stream_spec.specs.Still.{is_lively_chunk}
 use Rattle.gap_tracker.specs.Stories.{Story}
-use Rattle.ear.specs.declared.confs.EarConf.{EarConf}
+use Rattle.ear.specs.declared.settings.EarSettings.{EarSettings}
 use Rattle.ear.specs.declared.ears.Ear.{Ear}
-use Rattle.ear.specs.Hears.{Gave, GaveFront, GaveReady, GaveSome, GivesChunk, GivesNone, conf_of, ready_chunks, story_chunks}
+use Rattle.ear.specs.Hears.{Gave, GaveFront, GaveReady, GaveSome, GivesChunk, GivesNone, settings_of, ready_chunks, story_chunks}
 use Rattle.rtt_io.specs.Counts.{Rose}
 use Rattle.item_queue.specs.Giving.{GivesMore, items_by}
 use Rattle.link_io.specs.declared.ends.LinkIn as links
@@ -18,7 +18,7 @@ use Rattle.link_spec.specs.Links.{Takes, is_closed}
 use Rattle.live_spec.specs.Told.{Hearing, Told, all_by, all_former, all_told, last_chunks, ready_by, ready_until, taken_over, told_by}
 use Rattle.live_spec.specs.Tally.{tally_by}
 use Rattle.live_spec.proofs.Fronts.{all_good, ready_is}
-use Rattle.live_leg.specs.declared.confs.LegConf.{LegConf}
+use Rattle.live_leg.specs.declared.settings.LegSettings.{LegSettings}
 use Rattle.live_leg.specs.declared.senders.Senders.{Senders}
 use Rattle.live_leg.specs.declared.items.LegItem.{LegItem}
 use Rattle.live_leg.specs.declared.kinds.ItemKind.{ItemKind}
@@ -54,24 +54,24 @@ filter_swap p q (x ∷ xs) = go (p x) (q x) refl refl (filter_swap p q xs)
 abbrev ready_where : Hearing → Told → Bool → List Chunk
 ready_where h d closed = if closed then all_told h d else filter (is_ready_by d.moment) (all_told h d)
 
-ready_open : (lc : LegConf) (takes : Takes) (conf : EarConf) (story : Story) → (told_by (hearing_of lc) takes).closed ≡ false → IsEarOf (hearing_of lc) (told_by (hearing_of lc) takes) conf
+ready_open : (lc : LegSettings) (takes : Takes) (settings : EarSettings) (story : Story) → (told_by (hearing_of lc) takes).closed ≡ false → IsEarOf (hearing_of lc) (told_by (hearing_of lc) takes) settings
     → story.past ≡ (told_by (hearing_of lc) takes).past → story.moment ≡ (told_by (hearing_of lc) takes).moment
-    → all_former (hearing_of lc) (told_by (hearing_of lc) takes).before ++ filter is_lively_chunk (ready_chunks conf conf.ssrc story) ≡ ready_by (hearing_of lc) takes
-ready_open lc takes conf story o e past moment =
+    → all_former (hearing_of lc) (told_by (hearing_of lc) takes).before ++ filter is_lively_chunk (ready_chunks settings settings.ssrc story) ≡ ready_by (hearing_of lc) takes
+ready_open lc takes settings story o e past moment =
     let h = hearing_of lc in
     let d = told_by h takes in
-    let last : filter is_lively_chunk (ready_chunks conf conf.ssrc story) ≡ filter (is_ready_by d.moment) (last_chunks h d.sender d.past) =
-    filter_swap is_lively_chunk (is_ready_by story.moment) (story_chunks conf conf.ssrc story)
-    ∙ (ap (λ cs. filter (is_ready_by story.moment) cs) (part_chunks lc d conf story e past) ∙ ap (λ (n : ℕ). filter (is_ready_by n) (last_chunks h d.sender d.past)) moment) in
+    let last : filter is_lively_chunk (ready_chunks settings settings.ssrc story) ≡ filter (is_ready_by d.moment) (last_chunks h d.sender d.past) =
+    filter_swap is_lively_chunk (is_ready_by story.moment) (story_chunks settings settings.ssrc story)
+    ∙ (ap (λ cs. filter (is_ready_by story.moment) cs) (part_chunks lc d settings story e past) ∙ ap (λ (n : ℕ). filter (is_ready_by n) (last_chunks h d.sender d.past)) moment) in
     ap (λ cs. all_former h d.before ++ cs) last ∙ (sym (ready_is h d d.moment (all_good h takes).until) ∙ ap (ready_where h d) (sym o))
 
-ready_closed : (lc : LegConf) (takes : Takes) (conf : EarConf) (story : Story) → (told_by (hearing_of lc) takes).closed ≡ true → IsEarOf (hearing_of lc) (told_by (hearing_of lc) takes) conf
+ready_closed : (lc : LegSettings) (takes : Takes) (settings : EarSettings) (story : Story) → (told_by (hearing_of lc) takes).closed ≡ true → IsEarOf (hearing_of lc) (told_by (hearing_of lc) takes) settings
     → story.past ≡ (told_by (hearing_of lc) takes).past
-    → all_former (hearing_of lc) (told_by (hearing_of lc) takes).before ++ filter is_lively_chunk (story_chunks conf conf.ssrc story) ≡ ready_by (hearing_of lc) takes
-ready_closed lc takes conf story o e past =
+    → all_former (hearing_of lc) (told_by (hearing_of lc) takes).before ++ filter is_lively_chunk (story_chunks settings settings.ssrc story) ≡ ready_by (hearing_of lc) takes
+ready_closed lc takes settings story o e past =
     let h = hearing_of lc in
     let d = told_by h takes in
-    ap (λ cs. all_former h d.before ++ cs) (part_chunks lc d conf story e past) ∙ ap (ready_where h d) (sym o)
+    ap (λ cs. all_former h d.before ++ cs) (part_chunks lc d settings story e past) ∙ ap (ready_where h d) (sym o)
 
 one_lively : (c : Chunk) → is_lively_chunk c ≡ true → filter is_lively_chunk (c ∷ []) ≡ c ∷ []
 one_lively c e = ap (λ b. cond b (c ∷ []) []) e
@@ -115,20 +115,20 @@ turns_over Ending e = record { given = λ m cs. refl; part = λ h takes octets p
 turns_over Over e = absurd (true≢false (sym e))
 
 -- an ear gave these chunks more
-ear_gave : (h : Hearing) (takes : Takes) (a b : State) (l m : Ear) (moment : ℕ) (octets : List ℕ) (items xs : List Item) (cs : List Chunk) → Turns a b → conf_of m ≡ conf_of l
-    → (s : EarStands l a moment octets h takes items) → GaveSome m (conf_of l) (conf_of l).ssrc s.story (s.heard ++ cs) → texts_in 0 xs ≡ given_as a moment (filter is_lively_chunk cs)
+ear_gave : (h : Hearing) (takes : Takes) (a b : State) (l m : Ear) (moment : ℕ) (octets : List ℕ) (items xs : List Item) (cs : List Chunk) → Turns a b → settings_of m ≡ settings_of l
+    → (s : EarStands l a moment octets h takes items) → GaveSome m (settings_of l) (settings_of l).ssrc s.story (s.heard ++ cs) → texts_in 0 xs ≡ given_as a moment (filter is_lively_chunk cs)
     → EarStands m b moment octets h takes (items ++ xs)
-ear_gave h takes a b l m moment octets items xs cs turns conf s gives are =
+ear_gave h takes a b l m moment octets items xs cs turns settings s gives are =
     let story = record s.story { given = gives.0 } in
     record {
       part = s.part;
       story = story;
       heard = s.heard ++ cs;
-      gave = subst (λ (k : EarConf). Gave m k k.ssrc story (s.heard ++ cs)) (sym conf) gives.1;
-      hears = subst (λ (k : EarConf). IsEarOf h s.part k) (sym conf) s.hears;
+      gave = subst (λ (k : EarSettings). Gave m k k.ssrc story (s.heard ++ cs)) (sym settings) gives.1;
+      hears = subst (λ (k : EarSettings). IsEarOf h s.part k) (sym settings) s.hears;
       past = s.past;
       at_moment = λ g. s.at_moment (turns.going g);
-      all = λ l. subst (λ (k : EarConf). ready_chunks k k.ssrc story ≡ story_chunks k k.ssrc story) (sym conf) (s.all (turns.last l));
+      all = λ l. subst (λ (k : EarSettings). ready_chunks k k.ssrc story ≡ story_chunks k k.ssrc story) (sym settings) (s.all (turns.last l));
       part_is = turns.part h takes octets s.part s.part_is;
       texts = texts_append 0 items xs
           ∙ ((λ ι. s.texts ι ++ are ι)
@@ -139,15 +139,15 @@ ear_gave h takes a b l m moment octets items xs cs turns conf s gives are =
     }
 
 -- what it gave so far stands before all
-ear_front : (lc : LegConf) (takes : Takes) (st : State) (e : Ear) (moment : ℕ) (octets : List ℕ) (items : List Item) → GaveFront e → moment ≡ (told_by (hearing_of lc) takes).moment
+ear_front : (lc : LegSettings) (takes : Takes) (st : State) (e : Ear) (moment : ℕ) (octets : List ℕ) (items : List Item) → GaveFront e → moment ≡ (told_by (hearing_of lc) takes).moment
     → EarStands e st moment octets (hearing_of lc) takes items → IsFront (texts_in 0 items) (all_by (hearing_of lc) takes)
 ear_front lc takes st e moment octets items f m s =
     subst (λ cs. IsFront cs (all_by (hearing_of lc) takes)) (sym s.texts)
     (front_at st (hearing_of lc) takes octets moment s.part (filter is_lively_chunk s.heard) s.part_is m (part_front lc s.part e s.story s.heard f s.hears s.past s.gave))
 
 -- ---- one item more
-with_text : (closing : Bool) (mark : Item) (h : Hearing) (takes : Takes) (items : List Item) (x : Item) → is_text x ≡ true → IsGivingSome closing mark h takes items → IsGivingSome closing mark h takes (items ++ x ∷ [])
-with_text closing mark h takes items x e w = record {
+with_text : (closing : Bool) (signal : Item) (h : Hearing) (takes : Takes) (items : List Item) (x : Item) → is_text x ≡ true → IsGivingSome closing signal h takes items → IsGivingSome closing signal h takes (items ++ x ∷ [])
+with_text closing signal h takes items x e w = record {
   last = w.last;
   past = w.past;
   before = w.before;
@@ -157,20 +157,20 @@ with_text closing mark h takes items x e w = record {
   are = w.are;
   texts = all_texts w.news x w.texts e;
   closes = w.closes;
-  marks = w.marks;
+  signals = w.signals;
   open_before = w.open_before;
   closed = w.closed;
 }
 
--- the answer's mark behind its texts, which are all that is ready
-with_mark : (closing : Bool) (lc : LegConf) (takes : Takes) (items : List Item) (x : Item) → texts_in 0 (items ++ x ∷ []) ≡ ready_by (hearing_of lc) takes
+-- the answer's signal behind its texts, which are all that is ready
+with_signal : (closing : Bool) (lc : LegSettings) (takes : Takes) (items : List Item) (x : Item) → texts_in 0 (items ++ x ∷ []) ≡ ready_by (hearing_of lc) takes
     → IsGivingSome closing x (hearing_of lc) takes items → AreItems (hearing_of lc) takes (items ++ x ∷ [])
-with_mark closing lc takes items x all w =
+with_signal closing lc takes items x all w =
     let h = hearing_of lc in
     subst (λ (ps : Takes). AreItems h ps (items ++ x ∷ [])) (sym w.takes_are) (
       w.before,
       w.news,
-      ap (λ l. l ++ x ∷ []) w.items_are ∙ (append_assoc w.before w.news (x ∷ []) ∙ ap (λ y. w.before ++ (w.news ++ y ∷ [])) (sym w.marks)),
+      ap (λ l. l ++ x ∷ []) w.items_are ∙ (append_assoc w.before w.news (x ∷ []) ∙ ap (λ y. w.before ++ (w.news ++ y ∷ [])) (sym w.signals)),
       w.are,
       w.texts,
       all ∙ ap (λ (ps : Takes). ready_by h ps) w.takes_are,
@@ -325,24 +325,24 @@ given_parting st m t c x p e is = is ∙ (ap (λ (n : ℕ). ready_until n c) e �
 module _ {L : Type 0} (g : links.Ghosts L) where
   -- what a leg did that gives: all but its ear and how far it is stays
   abbrev Same : LinkLeg L → LinkLeg L → Type 0
-  Same l m = (m.link ≡ l.link) × (m.conf ≡ l.conf) × (m.senders ≡ l.senders) × (m.packet.value ≡ l.packet.value) × (m.tally ≡ l.tally)
+  Same l m = (m.link ≡ l.link) × (m.settings ≡ l.settings) × (m.senders ≡ l.senders) × (m.packet.value ≡ l.packet.value) × (m.tally ≡ l.tally)
 
   moment_is : (l : LinkLeg L) (h : Hearing) (takes : Takes) → Knows l.senders h (told_by h takes) → l.senders.moment ≡ (told_by h takes).moment
   moment_is l h takes k = k.moment
 
   -- these items more
   stands_more : (first l m : LinkLeg L) (items xs : List Item) → has_fault xs ≡ false → Same l m → (n : Nearly g first l items)
-      → EarStands m.ear m.state l.senders.moment l.packet.value (hearing_of first.conf) n.takes (items ++ xs)
-      → IsFront (texts_in 0 (items ++ xs)) (all_by (hearing_of first.conf) n.takes)
-      → PhaseAt m.state (Rose (g.faults first.link) (g.faults m.link)) (hearing_of first.conf) n.takes (items ++ xs)
+      → EarStands m.ear m.state l.senders.moment l.packet.value (hearing_of first.settings) n.takes (items ++ xs)
+      → IsFront (texts_in 0 (items ++ xs)) (all_by (hearing_of first.settings) n.takes)
+      → PhaseAt m.state (Rose (g.faults first.link) (g.faults m.link)) (hearing_of first.settings) n.takes (items ++ xs)
       → LegStands g first m (items ++ xs)
   stands_more first l m items xs well same n ear front phase =
-      let h = hearing_of first.conf in
+      let h = hearing_of first.settings in
       let link = same.0 in
       record {
         so = record {
           takes = n.takes;
-          conf = same.1 ∙ n.conf;
+          settings = same.1 ∙ n.settings;
           ear = subst (λ (k : Senders). EarStands m.ear m.state k.moment m.packet.value h n.takes (items ++ xs)) (sym same.2)
               (subst (λ (os : List ℕ). EarStands m.ear m.state l.senders.moment os h n.takes (items ++ xs)) (sym same.3) ear);
           knows = subst (λ (k : Senders). Knows k h (told_by h n.takes)) (sym same.2) n.knows;
@@ -359,24 +359,24 @@ module _ {L : Type 0} (g : links.Ghosts L) where
       }
 
   -- what the ear gave more, and with which items
-  gave_more : (l m : LinkLeg L) (cs : List Chunk) (xs : List Item) → has_fault xs ≡ false → Same l m → Turns l.state m.state → conf_of m.ear ≡ conf_of l.ear → GaveFront m.ear
+  gave_more : (l m : LinkLeg L) (cs : List Chunk) (xs : List Item) → has_fault xs ≡ false → Same l m → Turns l.state m.state → settings_of m.ear ≡ settings_of l.ear → GaveFront m.ear
       → (first : LinkLeg L) (items : List Item) (n : Nearly g first l items)
-      → GaveSome m.ear (conf_of l.ear) (conf_of l.ear).ssrc n.ear.story (n.ear.heard ++ cs)
+      → GaveSome m.ear (settings_of l.ear) (settings_of l.ear).ssrc n.ear.story (n.ear.heard ++ cs)
       → texts_in 0 xs ≡ given_as l.state l.senders.moment (filter is_lively_chunk cs)
-      → PhaseAt m.state (Rose (g.faults first.link) (g.faults m.link)) (hearing_of first.conf) n.takes (items ++ xs)
+      → PhaseAt m.state (Rose (g.faults first.link) (g.faults m.link)) (hearing_of first.settings) n.takes (items ++ xs)
       → LegStands g first m (items ++ xs)
-  gave_more l m cs xs well same turns conf_is front first items n gives are phase =
-      let h = hearing_of first.conf in
-      let ear = ear_gave h n.takes l.state m.state l.ear m.ear l.senders.moment l.packet.value items xs cs turns conf_is n.ear gives are in
-      stands_more first l m items xs well same n ear (ear_front first.conf n.takes m.state m.ear l.senders.moment l.packet.value (items ++ xs) front n.knows.moment ear) phase
+  gave_more l m cs xs well same turns settings_is front first items n gives are phase =
+      let h = hearing_of first.settings in
+      let ear = ear_gave h n.takes l.state m.state l.ear m.ear l.senders.moment l.packet.value items xs cs turns settings_is n.ear gives are in
+      stands_more first l m items xs well same n ear (ear_front first.settings n.takes m.state m.ear l.senders.moment l.packet.value (items ++ xs) front n.knows.moment ear) phase
 
   -- a text was given, or a keep-alive was passed over
-  pub gives_next : (l m : LinkLeg L) (c x : Chunk) → is_giving l.state ≡ true → m.state ≡ l.state → Same l m → conf_of m.ear ≡ conf_of l.ear
+  pub gives_next : (l m : LinkLeg L) (c x : Chunk) → is_giving l.state ≡ true → m.state ≡ l.state → Same l m → settings_of m.ear ≡ settings_of l.ear
       → GivesChunk l.ear m.ear c → GaveFront m.ear → c.source ≡ 0 → x ≡ given_chunk l.state l.senders.moment c → (given : Option ItemKind) → given ≡ unless_blank x → GivesOf g l m (items_with given x)
-  gives_next l m c x giving state same conf_is gives front own shown given is first items n = subst (λ (k : Option ItemKind). LegStands g first m (items ++ items_with k x)) (sym is) (go (is_lively_chunk x) refl)
+  gives_next l m c x giving state same settings_is gives front own shown given is first items n = subst (λ (k : Option ItemKind). LegStands g first m (items ++ items_with k x)) (sym is) (go (is_lively_chunk x) refl)
     where
       h : Hearing
-      h = hearing_of first.conf
+      h = hearing_of first.settings
 
       live : is_lively_chunk x ≡ is_lively_chunk c
       live = ap is_lively_chunk shown ∙ given_lively l.state l.senders.moment c
@@ -385,89 +385,89 @@ module _ {L : Type 0} (g : links.Ghosts L) where
       source = ap (λ (k : Chunk). k.source) shown ∙ given_source l.state l.senders.moment c own
 
       go : (b : Bool) → is_lively_chunk x ≡ b → LegStands g first m (items ++ items_with (if b then Some kind.Text else None) x)
-      go true e = gave_more l m (c ∷ []) (Text x.ready x.text ∷ []) refl same (stays l.state m.state state) conf_is front first items n (gives (conf_of l.ear) (conf_of l.ear).ssrc n.ear.story n.ear.heard n.ear.gave)
+      go true e = gave_more l m (c ∷ []) (Text x.ready x.text ∷ []) refl same (stays l.state m.state state) settings_is front first items n (gives (settings_of l.ear) (settings_of l.ear).ssrc n.ear.story n.ear.heard n.ear.gave)
           (ap (λ k. chunk k x.ready x.text ∷ []) (sym source)
           ∙ (ap (λ (k : Chunk). k ∷ []) shown ∙ (sym (given_one l.state l.senders.moment c) ∙ ap (given_as l.state l.senders.moment) (sym (one_lively c (sym live ∙ e))))))
           (subst (λ (st : State). PhaseAt st (Rose (g.faults first.link) (g.faults m.link)) h n.takes (items ++ Text x.ready x.text ∷ [])) (sym state)
           (text_phase l.state _ _ h n.takes items (Text x.ready x.text) refl giving n.phase))
-      go false e = gave_more l m (c ∷ []) [] refl same (stays l.state m.state state) conf_is front first items n (gives (conf_of l.ear) (conf_of l.ear).ssrc n.ear.story n.ear.heard n.ear.gave)
+      go false e = gave_more l m (c ∷ []) [] refl same (stays l.state m.state state) settings_is front first items n (gives (settings_of l.ear) (settings_of l.ear).ssrc n.ear.story n.ear.heard n.ear.gave)
           (sym (given_none l.state l.senders.moment) ∙ ap (given_as l.state l.senders.moment) (sym (none_lively c (sym live ∙ e))))
           (subst (λ (its : List Item). PhaseAt m.state (Rose (g.faults first.link) (g.faults m.link)) h n.takes its) (sym (append-nil items))
           (subst (λ (st : State). PhaseAt st (Rose (g.faults first.link) (g.faults m.link)) h n.takes items) (sym state) (same_phase l.state _ _ h n.takes items giving n.phase)))
 
   -- nothing more was given: all that is ready was
-  marked : (l m : LinkLeg L) (x : Item) → ((leg : ℕ) → text_in leg x ≡ []) → has_fault (x ∷ []) ≡ false → Same l m → Turns l.state m.state → conf_of m.ear ≡ conf_of l.ear → GivesNone l.ear m.ear → GaveFront m.ear
+  marked : (l m : LinkLeg L) (x : Item) → ((leg : ℕ) → text_in leg x ≡ []) → has_fault (x ∷ []) ≡ false → Same l m → Turns l.state m.state → settings_of m.ear ≡ settings_of l.ear → GivesNone l.ear m.ear → GaveFront m.ear
       → (first : LinkLeg L) (items : List Item) (n : Nearly g first l items)
-      → PhaseAt m.state (Rose (g.faults first.link) (g.faults m.link)) (hearing_of first.conf) n.takes (items ++ x ∷ [])
+      → PhaseAt m.state (Rose (g.faults first.link) (g.faults m.link)) (hearing_of first.settings) n.takes (items ++ x ∷ [])
       → LegStands g first m (items ++ x ∷ [])
-  marked l m x none well same turns conf_is gives front first items n phase =
-      let conf = conf_of l.ear in
-      gave_more l m [] (x ∷ []) well same turns conf_is front first items n
-      (subst (λ cs. GaveSome m.ear conf conf.ssrc n.ear.story cs) (sym (append-nil n.ear.heard)) (gives conf conf.ssrc n.ear.story n.ear.heard n.ear.gave))
+  marked l m x none well same turns settings_is gives front first items n phase =
+      let settings = settings_of l.ear in
+      gave_more l m [] (x ∷ []) well same turns settings_is front first items n
+      (subst (λ cs. GaveSome m.ear settings settings.ssrc n.ear.story cs) (sym (append-nil n.ear.heard)) (gives settings settings.ssrc n.ear.story n.ear.heard n.ear.gave))
       (append-nil (text_in 0 x) ∙ (none 0 ∙ sym (given_none l.state l.senders.moment))) phase
 
   -- that all was given, as it is said there
-  gives_seen : (l m : LinkLeg L) (c : Chunk) → is_heard l.state ≡ true → is_ending l.state ≡ false → m.state ≡ Idle → Same l m → conf_of m.ear ≡ conf_of l.ear
+  gives_seen : (l m : LinkLeg L) (c : Chunk) → is_heard l.state ≡ true → is_ending l.state ≡ false → m.state ≡ Idle → Same l m → settings_of m.ear ≡ settings_of l.ear
       → GivesNone l.ear m.ear → GaveReady l.ear → GaveFront m.ear → GivesOf g l m (item_with (seen_as l.state) c ∷ [])
-  gives_seen l m c giving not_ending state same conf_is gives ready front first items n =
-      let lc = first.conf in
+  gives_seen l m c giving not_ending state same settings_is gives ready front first items n =
+      let lc = first.settings in
       let h = hearing_of lc in
       let e = n.ear in
-      let conf = conf_of l.ear in
+      let settings = settings_of l.ear in
       let x = item_with (seen_as l.state) c in
       let F = Rose (g.faults first.link) (g.faults m.link) in
       let w = giving_is l.state _ h n.takes items c giving not_ending n.phase in
       let part = part_now l.state h n.takes l.packet.value e.part giving e.part_is in
       let all : texts_in 0 (items ++ x ∷ []) ≡ ready_by h n.takes = texts_same 0 items x (no_text l.state c 0)
       ∙ (e.texts ∙ (ap (λ cs. all_former h e.part.before ++ cs) (as_now l.state l.senders.moment (filter is_lively_chunk e.heard) giving)
-      ∙ (ap (λ cs. all_former h e.part.before ++ filter is_lively_chunk cs) (ready conf conf.ssrc e.story e.heard e.gave)
-      ∙ (ap (λ (d : Told). all_former h d.before ++ filter is_lively_chunk (ready_chunks conf conf.ssrc e.story)) part
-      ∙ ready_open lc n.takes conf e.story w.closed (subst (λ (d : Told). IsEarOf h d conf) part e.hears) (e.past ∙ ap (λ (d : Told). d.past) part)
+      ∙ (ap (λ cs. all_former h e.part.before ++ filter is_lively_chunk cs) (ready settings settings.ssrc e.story e.heard e.gave)
+      ∙ (ap (λ (d : Told). all_former h d.before ++ filter is_lively_chunk (ready_chunks settings settings.ssrc e.story)) part
+      ∙ ready_open lc n.takes settings e.story w.closed (subst (λ (d : Told). IsEarOf h d settings) part e.hears) (e.past ∙ ap (λ (d : Told). d.past) part)
       (e.at_moment (going_if l.state giving not_ending) ∙ ap (λ (d : Told). d.moment) part))))) in
-      marked l m x (no_text l.state c) (no_fault l.state c) same (subst (λ (st : State). Turns l.state st) (sym state) (turns_idle l.state giving not_ending)) conf_is gives front first items n
-      (subst (λ (st : State). PhaseAt st F h n.takes (items ++ x ∷ [])) (sym state) (record { open_still = w.closed; are = with_mark false lc n.takes items x all w }))
+      marked l m x (no_text l.state c) (no_fault l.state c) same (subst (λ (st : State). Turns l.state st) (sym state) (turns_idle l.state giving not_ending)) settings_is gives front first items n
+      (subst (λ (st : State). PhaseAt st F h n.takes (items ++ x ∷ [])) (sym state) (record { open_still = w.closed; are = with_signal false lc n.takes items x all w }))
 
-  pub gives_said : (l m : LinkLeg L) (c : Chunk) (said : ItemKind) → said ≡ seen_as l.state → is_heard l.state ≡ true → is_ending l.state ≡ false → m.state ≡ Idle → Same l m → conf_of m.ear ≡ conf_of l.ear
+  pub gives_said : (l m : LinkLeg L) (c : Chunk) (said : ItemKind) → said ≡ seen_as l.state → is_heard l.state ≡ true → is_ending l.state ≡ false → m.state ≡ Idle → Same l m → settings_of m.ear ≡ settings_of l.ear
       → GivesNone l.ear m.ear → GaveReady l.ear → GaveFront m.ear → GivesOf g l m (items_with (Some said) c)
-  gives_said l m c said is giving open_still state same conf_is gives ready front first items n =
-      subst (λ (k : ItemKind). LegStands g first m (items ++ item_with k c ∷ [])) (sym is) (gives_seen l m c giving open_still state same conf_is gives ready front first items n)
+  gives_said l m c said is giving open_still state same settings_is gives ready front first items n =
+      subst (λ (k : ItemKind). LegStands g first m (items ++ item_with k c ∷ [])) (sym is) (gives_seen l m c giving open_still state same settings_is gives ready front first items n)
 
-  pub gives_end : (l m : LinkLeg L) → is_ending l.state ≡ true → m.state ≡ Over → Same l m → conf_of m.ear ≡ conf_of l.ear
+  pub gives_end : (l m : LinkLeg L) → is_ending l.state ≡ true → m.state ≡ Over → Same l m → settings_of m.ear ≡ settings_of l.ear
       → GivesNone l.ear m.ear → GaveReady l.ear → GaveFront m.ear → GivesOf g l m (End ∷ [])
-  gives_end l m ending state same conf_is gives ready front first items n =
-      let lc = first.conf in
+  gives_end l m ending state same settings_is gives ready front first items n =
+      let lc = first.settings in
       let h = hearing_of lc in
       let e = n.ear in
-      let conf = conf_of l.ear in
+      let settings = settings_of l.ear in
       let F = Rose (g.faults first.link) (g.faults m.link) in
       let w = ending_is l.state _ h n.takes items ending n.phase in
       let heard = heard_if l.state ending in
       let part = part_now l.state h n.takes l.packet.value e.part heard e.part_is in
       let all : texts_in 0 (items ++ End ∷ []) ≡ ready_by h n.takes = texts_same 0 items End refl
       ∙ (e.texts ∙ (ap (λ cs. all_former h e.part.before ++ cs) (as_now l.state l.senders.moment (filter is_lively_chunk e.heard) heard)
-      ∙ (ap (λ cs. all_former h e.part.before ++ filter is_lively_chunk cs) (ready conf conf.ssrc e.story e.heard e.gave ∙ e.all (ending_last l.state ending))
-      ∙ (ap (λ (d : Told). all_former h d.before ++ filter is_lively_chunk (story_chunks conf conf.ssrc e.story)) part
-      ∙ ready_closed lc n.takes conf e.story w.closed (subst (λ (d : Told). IsEarOf h d conf) part e.hears) (e.past ∙ ap (λ (d : Told). d.past) part))))) in
-      marked l m End (λ leg. refl) refl same (subst (λ (st : State). Turns l.state st) (sym state) (turns_over l.state ending)) conf_is gives front first items n
+      ∙ (ap (λ cs. all_former h e.part.before ++ filter is_lively_chunk cs) (ready settings settings.ssrc e.story e.heard e.gave ∙ e.all (ending_last l.state ending))
+      ∙ (ap (λ (d : Told). all_former h d.before ++ filter is_lively_chunk (story_chunks settings settings.ssrc e.story)) part
+      ∙ ready_closed lc n.takes settings e.story w.closed (subst (λ (d : Told). IsEarOf h d settings) part e.hears) (e.past ∙ ap (λ (d : Told). d.past) part))))) in
+      marked l m End (λ leg. refl) refl same (subst (λ (st : State). Turns l.state st) (sym state) (turns_over l.state ending)) settings_is gives front first items n
       (subst (λ (st : State). PhaseAt st F h n.takes (items ++ End ∷ [])) (sym state)
-      (inl (record { closed = closing_by h n.takes items w; some = record { last = w.last; past = w.past; takes_are = w.takes_are; closes = w.closes; open_before = w.open_before }; are = with_mark true lc n.takes items End all w })))
+      (inl (record { closed = closing_by h n.takes items w; some = record { last = w.last; past = w.past; takes_are = w.takes_are; closes = w.closes; open_before = w.open_before }; are = with_signal true lc n.takes items End all w })))
 
   -- all of a sender was given from whom another took over: a marker, and the other is heard
-  gives_turn : (l m : LinkLeg L) (mid : Ear) (c : Chunk) → l.state ≡ Parting → m.state ≡ Giving → Same l m → conf_of mid ≡ conf_of l.ear → GivesNone l.ear mid → GaveReady l.ear
+  gives_turn : (l m : LinkLeg L) (mid : Ear) (c : Chunk) → l.state ≡ Parting → m.state ≡ Giving → Same l m → settings_of mid ≡ settings_of l.ear → GivesNone l.ear mid → GaveReady l.ear
       → BeginsWith mid m.ear (unwrap_or l.senders.sender 0) l.senders.moment l.packet.value → c ≡ chunk 0 l.senders.moment marker → GivesOf g l m (Text c.ready c.text ∷ [])
-  gives_turn l m mid c parting state same conf_is gives ready begins is first items n =
-      let lc = first.conf in
+  gives_turn l m mid c parting state same settings_is gives ready begins is first items n =
+      let lc = first.settings in
       let h = hearing_of lc in
       let e = subst (λ (st : State). EarStands l.ear st l.senders.moment l.packet.value h n.takes items) parting n.ear in
-      let conf = conf_of l.ear in
+      let settings = settings_of l.ear in
       let moment = l.senders.moment in
       let v = e.part_is in
       let x = Text c.ready c.text in
       let at : moment ≡ max e.part.moment v.at = n.knows.moment ∙ ap (λ (d : Told). d.moment) v.over in
       let there : l.senders.sender ≡ Some v.packet.ssrc = n.knows.sender ∙ ap (λ (d : Told). d.sender) v.over in
-      let gone = gives conf conf.ssrc e.story e.heard e.gave in
+      let gone = gives settings settings.ssrc e.story e.heard e.gave in
       let all : filter is_lively_chunk e.heard ≡ last_chunks h e.part.sender e.part.past =
-      ap (λ cs. filter is_lively_chunk cs) (ready conf conf.ssrc e.story e.heard e.gave ∙ e.all refl) ∙ part_chunks lc e.part conf e.story e.hears e.past in
+      ap (λ cs. filter is_lively_chunk cs) (ready settings settings.ssrc e.story e.heard e.gave ∙ e.all refl) ∙ part_chunks lc e.part settings e.story e.hears e.past in
       let texts : texts_in 0 (items ++ x ∷ []) ≡ all_former h (taken_over e.part v.at v.packet).before = texts_append 0 items (x ∷ [])
       ∙ (ap (λ cs. cs ++ texts_in 0 (x ∷ [])) (e.texts ∙ ap (λ cs. all_former h e.part.before ++ map (ready_until moment) cs) all)
       ∙ (append_assoc (all_former h e.part.before) (map (ready_until moment) (last_chunks h e.part.sender e.part.past)) (texts_in 0 (x ∷ []))
@@ -476,8 +476,8 @@ module _ {L : Type 0} (g : links.Ghosts L) where
       ∙ sym (over_former h e.part v.at v.ssrc v.sender))))) in
       let ear : EarStands m.ear m.state moment l.packet.value h n.takes (items ++ x ∷ []) =
       first_heard lc mid m.ear m.state moment l.packet.value l.packet.value n.takes (items ++ x ∷ []) e.part v.at v.packet (unwrap_or l.senders.sender 0)
-      (record e.story { given = gone.0 }) e.heard (subst (λ (k : EarConf). Gave mid k k.ssrc (record e.story { given = gone.0 }) e.heard) (sym conf_is) gone.1)
-      (ap (λ (k : EarConf). k.pts) conf_is ∙ e.hears.pts) (ap (λ (k : EarConf). k.wait) conf_is ∙ e.hears.wait)
+      (record e.story { given = gone.0 }) e.heard (subst (λ (k : EarSettings). Gave mid k k.ssrc (record e.story { given = gone.0 }) e.heard) (sym settings_is) gone.1)
+      (ap (λ (k : EarSettings). k.payload_types) settings_is ∙ e.hears.payload_types) (ap (λ (k : EarSettings). k.wait) settings_is ∙ e.hears.wait)
       begins (ap (λ (o : Option ℕ). unwrap_or o 0) there) at v.reads v.over state texts in
       stands_more first l m items (x ∷ []) refl same n ear
       (subst (λ cs. IsFront cs (all_by h n.takes)) (sym texts)
@@ -486,9 +486,9 @@ module _ {L : Type 0} (g : links.Ghosts L) where
       (subst (λ (st : State). PhaseAt st (Rose (g.faults first.link) (g.faults m.link)) h n.takes (items ++ x ∷ [])) (sym state)
       (with_text false Seen h n.takes items x refl (subst (λ (st : State). PhaseAt st (Rose (g.faults first.link) (g.faults l.link)) h n.takes items) parting n.phase)))
 
-  pub gives_marker : (l m : LinkLeg L) (mid : Ear) (c : Chunk) → l.state ≡ Parting → m.state ≡ Giving → Same l m → conf_of mid ≡ conf_of l.ear → GivesNone l.ear mid → GaveReady l.ear
+  pub gives_marker : (l m : LinkLeg L) (mid : Ear) (c : Chunk) → l.state ≡ Parting → m.state ≡ Giving → Same l m → settings_of mid ≡ settings_of l.ear → GivesNone l.ear mid → GaveReady l.ear
       → BeginsWith mid m.ear (unwrap_or l.senders.sender 0) l.senders.moment l.packet.value → c ≡ chunk 0 l.senders.moment marker → GivesOf g l m (items_with (Some kind.Text) c)
-  gives_marker l m mid c parting state same conf_is gives ready begins is = gives_turn l m mid c parting state same conf_is gives ready begins is
+  gives_marker l m mid c parting state same settings_is gives ready begins is = gives_turn l m mid c parting state same settings_is gives ready begins is
 
   -- ---- as items that are used again
   pub gave_with : (l m : LinkLeg L) (given : Option ItemKind) (some : Bool) (x : LegItem) → some ≡ is_some given → x.kind ≡ unwrap_or given kind.Seen

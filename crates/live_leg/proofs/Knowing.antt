@@ -2,14 +2,14 @@
 use Rattle.std.proofs.Common.{◌≡◌, ℕ, Bool, true, false, Option, Some, None, List, [], ◌∷◌, Result, Ok, Err, refl, ap, sym, ◌∙◌, subst}
 use Rattle.std.specs.Prelude.{◌+◌, ◌==◌, ◌&&◌, ◌||◌, map, max, nat_le, not, take, zero, suc, if◌then◌else◌}
 use Rattle.std.specs.List.{list_any}
-use Rattle.rtt_base.specs.declared.text_packets.Pts.{Pts}
+use Rattle.rtt_base.specs.declared.text_packets.PayloadTypes.{PayloadTypes}
 use Rattle.wire_spec.specs.declared.faults.TextFault.{TextFault}
 use Rattle.wire_spec.specs.Packets.{Packet}
 use Rattle.wire_spec.specs.Text.{text_of}
 use Rattle.live_spec.specs.Told.{Former, Hearing, Told, former_after, is_sender, known_senders, last_moment, quiet_time, taken_over, takes_over, told_packet, with_packet}
 use Rattle.live_leg.specs.declared.senders.Senders.{Senders}
-use Rattle.live_leg.specs.declared.senders.Sent.{Sent}
-use Rattle.live_leg.specs.declared.senders.Sent.TheVariants.{Refused, Foreign, Sender, First, Other}
+use Rattle.live_leg.specs.declared.senders.DatagramSender.{DatagramSender}
+use Rattle.live_leg.specs.declared.senders.DatagramSender.TheVariants.{Refused, Foreign, Sender, First, Other}
 use Rattle.live_leg.specs.Senders.{IsMet, Knows, Meets, MeetsText, Notes, Passes, Remembers, TakesOver, known_after, over_from, remembered, sent_of}
 
 -- ---- the last 64
@@ -26,10 +26,10 @@ known_more (Some s) d t known e = ap (λ xs. s ∷ xs) (ap (λ (xs : List ℕ). 
 abbrev pub told_if : Told → ℕ → Packet → Bool → Bool → Told
 told_if d t p a b = if a then with_packet d t p else (if b then taken_over d t p else d)
 
-abbrev pub sent_if : Told → Bool → Bool → Sent
+abbrev pub sent_if : Told → Bool → Bool → DatagramSender
 sent_if d a b = if a then Sender else (if b then over_from d.sender else Foreign)
 
-met : (old new : Senders) (t : ℕ) (p : Packet) (sent : Sent) (h : Hearing) (d : Told) (a b : Bool) → is_sender d.sender p.ssrc ≡ a → takes_over h d t p.ssrc ≡ b
+met : (old new : Senders) (t : ℕ) (p : Packet) (sent : DatagramSender) (h : Hearing) (d : Told) (a b : Bool) → is_sender d.sender p.ssrc ≡ a → takes_over h d t p.ssrc ≡ b
     → Knows new h (told_if d t p a b) → sent ≡ sent_if d a b → IsMet old new t (λ _. Ok p) sent h d
 met old new t p sent h d a b ea eb k s = record {
   knows = subst (λ (x : Bool). Knows new h (told_if d t p x (takes_over h d t p.ssrc))) (sym ea) (subst (λ (y : Bool). Knows new h (told_if d t p a y)) (sym eb) k);
@@ -55,7 +55,7 @@ pub meets_sender : (old new : Senders) (t ssrc : ℕ) → is_sender old.sender s
 meets_sender old new t ssrc is n p e h d k =
     met old new t p Sender h d true (takes_over h d t p.ssrc) (sender_by old h d p ssrc true k e is) refl
     (record {
-      pts = n.pts ∙ k.pts;
+      payload_types = n.payload_types ∙ k.payload_types;
       follow = n.follow ∙ k.follow;
       sender = n.sender ∙ k.sender;
       known = n.known ∙ k.known;
@@ -69,11 +69,11 @@ meets_foreign s t ssrc is never p e h d k =
     met s s t p Foreign h d false false (sender_by s h d p ssrc false k e is) (takes_by s h d t p ssrc false k e never) k refl
 
 -- one of who takes over
-pub meets_other : (old new : Senders) (t ssrc : ℕ) (sent : Sent) → is_sender old.sender ssrc ≡ false → over_by old t ssrc ≡ true → TakesOver old new t ssrc sent → MeetsText old new t ssrc sent
+pub meets_other : (old new : Senders) (t ssrc : ℕ) (sent : DatagramSender) → is_sender old.sender ssrc ≡ false → over_by old t ssrc ≡ true → TakesOver old new t ssrc sent → MeetsText old new t ssrc sent
 meets_other old new t ssrc sent is may over p e h d k =
     met old new t p sent h d false true (sender_by old h d p ssrc false k e is) (takes_by old h d t p ssrc true k e may)
     (record {
-      pts = over.pts ∙ k.pts;
+      payload_types = over.payload_types ∙ k.payload_types;
       follow = over.follow ∙ k.follow;
       sender = over.sender ∙ ap (λ (x : ℕ). Some x) (sym e);
       known = over.known ∙ (ap (λ (o : Option ℕ). known_after o old.known.items) k.sender ∙ known_more d.sender d (max d.moment t) old.known.items k.known);
@@ -83,10 +83,10 @@ meets_other old new t ssrc sent is may over p e h d k =
     (over.sent_is ∙ ap over_from k.sender)
 
 -- who sends is the sender from now on
-pub takes_from : (old mid noted new : Senders) (t ssrc sender : ℕ) → old.sender ≡ Some sender → mid.pts ≡ old.pts → mid.follow ≡ old.follow → mid.sender ≡ Some ssrc → mid.known.items ≡ old.known.items → mid.moment ≡ old.moment
+pub takes_from : (old mid noted new : Senders) (t ssrc sender : ℕ) → old.sender ≡ Some sender → mid.payload_types ≡ old.payload_types → mid.follow ≡ old.follow → mid.sender ≡ Some ssrc → mid.known.items ≡ old.known.items → mid.moment ≡ old.moment
     → Notes mid noted t → Remembers noted new sender → TakesOver old new t ssrc Other
-takes_from old mid noted new t ssrc sender is pts follow now known moment n r = record {
-  pts = r.pts ∙ (n.pts ∙ pts);
+takes_from old mid noted new t ssrc sender is payload_types follow now known moment n r = record {
+  payload_types = r.payload_types ∙ (n.payload_types ∙ payload_types);
   follow = r.follow ∙ (n.follow ∙ follow);
   sender = r.sender ∙ (n.sender ∙ now);
   known = r.known ∙ (ap (remembered sender) (n.known ∙ known) ∙ ap (λ (o : Option ℕ). known_after o old.known.items) (sym is));
@@ -95,10 +95,10 @@ takes_from old mid noted new t ssrc sender is pts follow now known moment n r = 
   sent_is = ap over_from (sym is);
 }
 
-pub takes_first : (old mid new : Senders) (t ssrc : ℕ) → old.sender ≡ None → mid.pts ≡ old.pts → mid.follow ≡ old.follow → mid.sender ≡ Some ssrc → mid.known.items ≡ old.known.items → mid.moment ≡ old.moment
+pub takes_first : (old mid new : Senders) (t ssrc : ℕ) → old.sender ≡ None → mid.payload_types ≡ old.payload_types → mid.follow ≡ old.follow → mid.sender ≡ Some ssrc → mid.known.items ≡ old.known.items → mid.moment ≡ old.moment
     → Notes mid new t → TakesOver old new t ssrc First
-takes_first old mid new t ssrc is pts follow now known moment n = record {
-  pts = n.pts ∙ pts;
+takes_first old mid new t ssrc is payload_types follow now known moment n = record {
+  payload_types = n.payload_types ∙ payload_types;
   follow = n.follow ∙ follow;
   sender = n.sender ∙ now;
   known = n.known ∙ (known ∙ ap (λ (o : Option ℕ). known_after o old.known.items) (sym is));
@@ -108,9 +108,9 @@ takes_first old mid new t ssrc is pts follow now known moment n = record {
 }
 
 -- ---- time
-pub passes_on : (old new : Senders) (t : ℕ) → new.pts ≡ old.pts → new.follow ≡ old.follow → new.sender ≡ old.sender → new.known.items ≡ old.known.items → new.moment ≡ max old.moment t → new.last ≡ old.last → Passes old new t
-passes_on old new t pts follow sender known moment last h d k = record {
-  pts = pts ∙ k.pts;
+pub passes_on : (old new : Senders) (t : ℕ) → new.payload_types ≡ old.payload_types → new.follow ≡ old.follow → new.sender ≡ old.sender → new.known.items ≡ old.known.items → new.moment ≡ max old.moment t → new.last ≡ old.last → Passes old new t
+passes_on old new t payload_types follow sender known moment last h d k = record {
+  payload_types = payload_types ∙ k.payload_types;
   follow = follow ∙ k.follow;
   sender = sender ∙ k.sender;
   known = known ∙ k.known;
@@ -119,22 +119,22 @@ passes_on old new t pts follow sender known moment last h d k = record {
 }
 
 -- ---- octets
-abbrev same_knows : (s u : Senders) (h : Hearing) (d : Told) → u.pts ≡ s.pts → u.follow ≡ s.follow → u.sender ≡ s.sender → u.known.items ≡ s.known.items → u.moment ≡ s.moment → u.last ≡ s.last → Knows s h d → Knows u h d
-same_knows s u h d a b c e f i k = record { pts = a ∙ k.pts; follow = b ∙ k.follow; sender = c ∙ k.sender; known = e ∙ k.known; moment = f ∙ k.moment; last = i ∙ k.last }
+abbrev same_knows : (s u : Senders) (h : Hearing) (d : Told) → u.payload_types ≡ s.payload_types → u.follow ≡ s.follow → u.sender ≡ s.sender → u.known.items ≡ s.known.items → u.moment ≡ s.moment → u.last ≡ s.last → Knows s h d → Knows u h d
+same_knows s u h d a b c e f i k = record { payload_types = a ∙ k.payload_types; follow = b ∙ k.follow; sender = c ∙ k.sender; known = e ∙ k.known; moment = f ∙ k.moment; last = i ∙ k.last }
 
-pub meets_text : (old read new : Senders) (t : ℕ) (octets : List ℕ) (p : Packet) (ssrc : ℕ) (sent : Sent) → ((h : Hearing) (d : Told) → Knows old h d → Knows read h d)
-    → text_of octets None old.pts ≡ Ok p → p.ssrc ≡ ssrc → MeetsText read new t ssrc sent → Meets old new t octets sent
+pub meets_text : (old read new : Senders) (t : ℕ) (octets : List ℕ) (p : Packet) (ssrc : ℕ) (sent : DatagramSender) → ((h : Hearing) (d : Told) → Knows old h d → Knows read h d)
+    → text_of octets None old.payload_types ≡ Ok p → p.ssrc ≡ ssrc → MeetsText read new t ssrc sent → Meets old new t octets sent
 meets_text old read new t octets p ssrc sent same reads who m h d k =
     let one = m p who h d (same h d k) in
-    let e : text_of octets None h.pts ≡ Ok p = ap (λ (pts : Pts). text_of octets None pts) (sym k.pts) ∙ reads in
+    let e : text_of octets None h.payload_types ≡ Ok p = ap (λ (payload_types : PayloadTypes). text_of octets None payload_types) (sym k.payload_types) ∙ reads in
     record {
       knows = subst (λ (r : Result Packet TextFault). Knows new h (told_packet h d t r)) (sym e) one.knows;
       sent_is = one.sent_is ∙ ap (sent_of h d t) (sym e);
     }
 
-pub meets_none : (old new : Senders) (t : ℕ) (octets : List ℕ) (f : TextFault) → ((h : Hearing) (d : Told) → Knows old h d → Knows new h d) → text_of octets None old.pts ≡ Err f → Meets old new t octets Refused
+pub meets_none : (old new : Senders) (t : ℕ) (octets : List ℕ) (f : TextFault) → ((h : Hearing) (d : Told) → Knows old h d → Knows new h d) → text_of octets None old.payload_types ≡ Err f → Meets old new t octets Refused
 meets_none old new t octets f same reads h d k =
-    let e : text_of octets None h.pts ≡ Err f = ap (λ (pts : Pts). text_of octets None pts) (sym k.pts) ∙ reads in
+    let e : text_of octets None h.payload_types ≡ Err f = ap (λ (payload_types : PayloadTypes). text_of octets None payload_types) (sym k.payload_types) ∙ reads in
     record {
       knows = subst (λ (r : Result Packet TextFault). Knows new h (told_packet h d t r)) (sym e) (same h d k);
       sent_is = ap (sent_of h d t) (sym e);

@@ -8,17 +8,17 @@ use Rattle.rtt_io.specs.Counts.{Rose}
 use Rattle.link_io.specs.declared.ends.LinkIn as links
 use Rattle.link_io.specs.declared.ends.Came.{Came}
 use Rattle.link_io.specs.declared.ends.Came.TheVariants as came
-use Rattle.link_io.specs.declared.ends.Taken.{Taken}
+use Rattle.link_io.specs.declared.ends.LinkTake.{LinkTake}
 use Rattle.link_io.specs.Taking.{taken_of, closes, came_of}
 use Rattle.link_spec.specs.Links.{Takes, is_closed, is_closing}
 use Rattle.wire_spec.specs.Text.{text_of}
 use Rattle.live_spec.specs.Told.{Hearing, all_by, last_chunks, ready_by, told_by}
 use Rattle.live_spec.specs.Tally.{tally_by}
 use Rattle.live_spec.proofs.Fronts.{came_closed}
-use Rattle.live_leg.specs.declared.confs.LegConf.{LegConf}
+use Rattle.live_leg.specs.declared.settings.LegSettings.{LegSettings}
 use Rattle.live_leg.specs.declared.senders.Senders.{Senders}
-use Rattle.live_leg.specs.declared.senders.Sent.{Sent}
-use Rattle.live_leg.specs.declared.senders.Sent.TheVariants.{Refused, Foreign, Sender, First, Other}
+use Rattle.live_leg.specs.declared.senders.DatagramSender.{DatagramSender}
+use Rattle.live_leg.specs.declared.senders.DatagramSender.TheVariants.{Refused, Foreign, Sender, First, Other}
 use Rattle.live_leg.specs.declared.states.State.{State}
 use Rattle.live_leg.specs.declared.states.State.TheVariants.{Idle, Over}
 use Rattle.live_leg.specs.declared.legs.LinkLeg.{LinkLeg}
@@ -27,7 +27,7 @@ use Rattle.live_leg.specs.Senders.{Knows, sent_of}
 use Rattle.live_leg.specs.Tallies.{CountsTaken, IsTally}
 use Rattle.live_leg.specs.Stories.{hearing_of, state_of_sent}
 use Rattle.live_leg.specs.Taking.{Follows, HearsTaken}
-use Rattle.live_leg.specs.Items.{AreItems, Item, Seen, has_fault, is_fault, mark_of, text_in, texts_in}
+use Rattle.live_leg.specs.Items.{AreItems, Item, Seen, has_fault, is_fault, signal_of, text_in, texts_in}
 use Rattle.live_leg.specs.Stands.{Counts, EarStands, GivesThen, IsGivingSome, IsIdle, IsStop, Listens, PhaseAt}
 use Rattle.live_leg.proofs.Telling.{told_more}
 use Rattle.live_leg.proofs.Texts.{fault_append, texts_same}
@@ -36,7 +36,7 @@ idle_is : (st : State) (F : Type 0) (h : Hearing) (takes : Takes) (items : List 
 idle_is st F h takes items e p = subst (λ (x : State). PhaseAt x F h takes items) e p
 
 -- all that is ready was given
-ready_is : (lc : LegConf) (takes : Takes) (items : List Item) → AreItems (hearing_of lc) takes items → texts_in 0 items ≡ ready_by (hearing_of lc) takes
+ready_is : (lc : LegSettings) (takes : Takes) (items : List Item) → AreItems (hearing_of lc) takes items → texts_in 0 items ≡ ready_by (hearing_of lc) takes
 ready_is lc [] items a = ap (texts_in 0) a ∙ go lc.follow
   where
     go : (b : Bool) → [] ≡ filter (is_ready_by 0) (last_chunks (hearing_of lc) (if b then None else Some lc.ear.ssrc) [])
@@ -77,7 +77,7 @@ module _ {L : Type 0} (g : links.Ghosts L) where
       → IsIdle h takes items → Follows old new before after t c octets st h (told_by h takes) → PhaseAt st F h (record { at = t; came = came_of c octets } ∷ takes) items
   begins F h takes items t c octets old new before after st i f = go c f (some c)
     where
-      some : (c : Came) → IsGivingSome (closes c) (mark_of (came_of c octets)) h (record { at = t; came = came_of c octets } ∷ takes) items
+      some : (c : Came) → IsGivingSome (closes c) (signal_of (came_of c octets)) h (record { at = t; came = came_of c octets } ∷ takes) items
       some c = record {
         last = record { at = t; came = came_of c octets };
         past = takes;
@@ -88,12 +88,12 @@ module _ {L : Type 0} (g : links.Ghosts L) where
         are = i.are;
         texts = tt;
         closes = closing_is c octets;
-        marks = refl;
+        signals = refl;
         open_before = i.open_still;
         closed = closed_now h takes t c octets i.open_still;
       }
 
-      sent : (x : Sent) → st ≡ state_of_sent x → IsGivingSome false Seen h (record { at = t; came = came_of came.Datagram octets } ∷ takes) items
+      sent : (x : DatagramSender) → st ≡ state_of_sent x → IsGivingSome false Seen h (record { at = t; came = came_of came.Datagram octets } ∷ takes) items
           → PhaseAt st F h (record { at = t; came = came_of came.Datagram octets } ∷ takes) items
       sent Refused e w = subst (λ (y : State). PhaseAt y F h (record { at = t; came = came_of came.Datagram octets } ∷ takes) items) (sym e) w
       sent Foreign e w = subst (λ (y : State). PhaseAt y F h (record { at = t; came = came_of came.Datagram octets } ∷ takes) items) (sym e) w
@@ -101,29 +101,29 @@ module _ {L : Type 0} (g : links.Ghosts L) where
       sent First e w = subst (λ (y : State). PhaseAt y F h (record { at = t; came = came_of came.Datagram octets } ∷ takes) items) (sym e) w
       sent Other e w = subst (λ (y : State). PhaseAt y F h (record { at = t; came = came_of came.Datagram octets } ∷ takes) items) (sym e) w
 
-      go : (c : Came) → Follows old new before after t c octets st h (told_by h takes) → IsGivingSome (closes c) (mark_of (came_of c octets)) h (record { at = t; came = came_of c octets } ∷ takes) items
+      go : (c : Came) → Follows old new before after t c octets st h (told_by h takes) → IsGivingSome (closes c) (signal_of (came_of c octets)) h (record { at = t; came = came_of c octets } ∷ takes) items
           → PhaseAt st F h (record { at = t; came = came_of c octets } ∷ takes) items
-      go came.Datagram f w = sent (sent_of h (told_by h takes) t (text_of octets None h.pts)) f.hears.1 w
+      go came.Datagram f w = sent (sent_of h (told_by h takes) t (text_of octets None h.payload_types)) f.hears.1 w
       go came.Large f w = subst (λ (y : State). PhaseAt y F h (record { at = t; came = came_of came.Large octets } ∷ takes) items) (sym f.hears.1) w
       go came.Quiet f w = subst (λ (y : State). PhaseAt y F h (record { at = t; came = came_of came.Quiet octets } ∷ takes) items) (sym f.hears.1) w
       go came.Closed f w = subst (λ (y : State). PhaseAt y F h (record { at = t; came = came_of came.Closed octets } ∷ takes) items) (sym f.hears.1) w
 
-  pub listens : (l m : LinkLeg L) (taken : Taken) (octets : List ℕ) → l.state ≡ Idle → m.conf ≡ l.conf → m.packet.value ≡ octets → HearsTaken l.ear m.ear l.senders m.senders taken octets m.state → CountsTaken l.senders l.tally m.tally taken octets
+  pub listens : (l m : LinkLeg L) (taken : LinkTake) (octets : List ℕ) → l.state ≡ Idle → m.settings ≡ l.settings → m.packet.value ≡ octets → HearsTaken l.ear m.ear l.senders m.senders taken octets m.state → CountsTaken l.senders l.tally m.tally taken octets
       → (g.tells → g.taken m.link ≡ taken_of taken octets ∷ g.taken l.link) → g.closed m.link ≡ (g.closed l.link || closes taken.came)
       → g.faults l.link ≤ g.faults m.link → g.faults m.link ≡ g.faults l.link → g.port m.link ≡ g.port l.link
       → Listens g l m
   listens l m taken octets idle same packet hears counts appended closing falls calm port first items s =
       let n = s.so in
-      let h = hearing_of first.conf in
+      let h = hearing_of first.settings in
       let F = Rose (g.faults first.link) (g.faults m.link) in
       let i = idle_is l.state _ h n.takes items idle n.phase in
       let f = hears h (told_by h n.takes) n.knows in
       let ear = subst (λ (st : State). EarStands l.ear st l.senders.moment l.packet.value h n.takes items) idle n.ear in
       record {
         takes = taken_of taken octets ∷ n.takes;
-        conf = same ∙ n.conf;
+        settings = same ∙ n.settings;
         ear = subst (λ (os : List ℕ). EarStands m.ear m.state m.senders.moment os h (taken_of taken octets ∷ n.takes) items) (sym packet)
-            (told_more first.conf n.takes items l.ear m.ear octets l.packet.value l.senders.moment l.senders m.senders taken.at taken.came m.state ear i.open_still (ready_is first.conf n.takes items i.are) f);
+            (told_more first.settings n.takes items l.ear m.ear octets l.packet.value l.senders.moment l.senders m.senders taken.at taken.came m.state ear i.open_still (ready_is first.settings n.takes items i.are) f);
         knows = f.knows;
         tally = counts h (told_by h n.takes) n.knows (tally_by h n.takes) n.tally;
         taken = λ t. appended t ∙ ap (λ (ps : Takes). taken_of taken octets ∷ ps) (n.taken t);
@@ -150,13 +150,13 @@ module _ {L : Type 0} (g : links.Ghosts L) where
   }
 
   -- it is over, with this last item
-  pub stops : (l m : LinkLeg L) (x : Item) → ((leg : ℕ) → text_in leg x ≡ []) → l.state ≡ Idle → m.state ≡ Over → m.ear ≡ l.ear → m.conf ≡ l.conf → m.senders ≡ l.senders → m.tally ≡ l.tally
+  pub stops : (l m : LinkLeg L) (x : Item) → ((leg : ℕ) → text_in leg x ≡ []) → l.state ≡ Idle → m.state ≡ Over → m.ear ≡ l.ear → m.settings ≡ l.settings → m.senders ≡ l.senders → m.tally ≡ l.tally
       → (g.tells → g.taken m.link ≡ g.taken l.link) → g.closed m.link ≡ g.closed l.link → g.faults l.link ≤ g.faults m.link → g.port m.link ≡ g.port l.link
       → ((f : ℕ) → f ≤ g.faults l.link → IsStop x (Rose f (g.faults m.link)))
       → ((b : Bool) (f : ℕ) → f ≤ g.faults l.link → Counts b f (g.faults l.link) → Counts (b || (is_fault x || false)) f (g.faults m.link))
       → GivesThen g l m (x ∷ [])
-  stops l m x none idle state ear conf senders tally same closed falls port stop counts first items s =
-      let h = hearing_of first.conf in
+  stops l m x none idle state ear settings senders tally same closed falls port stop counts first items s =
+      let h = hearing_of first.settings in
       let n = s.so in
       let texts = texts_same 0 items x (none 0) in
       let i = idle_is l.state _ h n.takes items idle n.phase in
@@ -165,7 +165,7 @@ module _ {L : Type 0} (g : links.Ghosts L) where
       record {
         so = record {
           takes = n.takes;
-          conf = conf ∙ n.conf;
+          settings = settings ∙ n.settings;
           ear = subst (λ (st : State). EarStands m.ear st m.senders.moment m.packet.value h n.takes (items ++ x ∷ [])) (sym state)
               (subst (λ (e : Ear). EarStands e Over m.senders.moment m.packet.value h n.takes (items ++ x ∷ [])) (sym ear)
               (over_ear l.ear l.senders.moment m.senders.moment l.packet.value m.packet.value h n.takes items x (none 0) before));

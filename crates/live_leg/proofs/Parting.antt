@@ -10,36 +10,36 @@ use Rattle.stream_spec.specs.Ready.{Chunk, chunk, chunks}
 use Rattle.stream_spec.specs.Still.{is_lively_chunk, still}
 use Rattle.stream_spec.proofs.StillChunks.{chunks_still}
 use Rattle.gap_tracker.specs.Stories.{Story}
-use Rattle.ear.specs.declared.confs.EarConf.{EarConf}
+use Rattle.ear.specs.declared.settings.EarSettings.{EarSettings}
 use Rattle.ear.specs.declared.ears.Ear.{Ear}
-use Rattle.ear.specs.Hears.{Gave, GaveFront, conf_of, story_chunks}
+use Rattle.ear.specs.Hears.{Gave, GaveFront, settings_of, story_chunks}
 use Rattle.link_spec.specs.Links.{Takes}
 use Rattle.live_spec.specs.Told.{Hearing, Told, all_by, all_former, all_told, former_after, last_chunks, ready_by, ready_until, taken_over, told_by}
 use Rattle.live_spec.proofs.Fronts.{all_good, as_it_was, behind, more, ready_is}
-use Rattle.live_leg.specs.declared.confs.LegConf.{LegConf}
+use Rattle.live_leg.specs.declared.settings.LegSettings.{LegSettings}
 use Rattle.live_leg.specs.declared.states.State.{State}
 use Rattle.live_leg.specs.declared.states.State.TheVariants.{Idle, Giving, Blank, Parting, Ending, Over}
 use Rattle.live_leg.specs.Stands.{IsPart, given_as}
 use Rattle.live_leg.specs.Stories.{IsEarOf, IsOf, hearing_of}
 
 -- what is heard by an ear's story, but for keep-alives, are the texts of the sender
-pub part_chunks : (lc : LegConf) (d : Told) (conf : EarConf) (story : Story) → IsEarOf (hearing_of lc) d conf → story.past ≡ d.past
-    → filter is_lively_chunk (story_chunks conf conf.ssrc story) ≡ last_chunks (hearing_of lc) d.sender d.past
-part_chunks lc d conf story e s =
-    sym (chunks_still conf.wait 0 story.past conf.ssrc)
-    ∙ (ap (λ (a : List Arrival). chunks conf.wait 0 (still a) conf.ssrc) s
-    ∙ (ap (λ (w : ℕ). chunks w 0 (still d.past) conf.ssrc) e.wait ∙ go d.sender e.sender))
+pub part_chunks : (lc : LegSettings) (d : Told) (settings : EarSettings) (story : Story) → IsEarOf (hearing_of lc) d settings → story.past ≡ d.past
+    → filter is_lively_chunk (story_chunks settings settings.ssrc story) ≡ last_chunks (hearing_of lc) d.sender d.past
+part_chunks lc d settings story e s =
+    sym (chunks_still settings.wait 0 story.past settings.ssrc)
+    ∙ (ap (λ (a : List Arrival). chunks settings.wait 0 (still a) settings.ssrc) s
+    ∙ (ap (λ (w : ℕ). chunks w 0 (still d.past) settings.ssrc) e.wait ∙ go d.sender e.sender))
   where
-    go : (o : Option ℕ) → IsOf o conf.ssrc d.past → chunks lc.ear.wait 0 (still d.past) conf.ssrc ≡ last_chunks (hearing_of lc) o d.past
-    go None p = ap (λ (a : List Arrival). chunks lc.ear.wait 0 (still a) conf.ssrc) p
+    go : (o : Option ℕ) → IsOf o settings.ssrc d.past → chunks lc.ear.wait 0 (still d.past) settings.ssrc ≡ last_chunks (hearing_of lc) o d.past
+    go None p = ap (λ (a : List Arrival). chunks lc.ear.wait 0 (still a) settings.ssrc) p
     go (Some s) q = ap (λ (x : ℕ). chunks lc.ear.wait 0 (still d.past) x) q
 
 -- what it gave so far is a front of them
-pub part_front : (lc : LegConf) (d : Told) (e : Ear) (story : Story) (cs : List Chunk) → GaveFront e → IsEarOf (hearing_of lc) d (conf_of e) → story.past ≡ d.past → Gave e (conf_of e) (conf_of e).ssrc story cs
+pub part_front : (lc : LegSettings) (d : Told) (e : Ear) (story : Story) (cs : List Chunk) → GaveFront e → IsEarOf (hearing_of lc) d (settings_of e) → story.past ≡ d.past → Gave e (settings_of e) (settings_of e).ssrc story cs
     → IsFront (filter is_lively_chunk cs) (last_chunks (hearing_of lc) d.sender d.past)
 part_front lc d e story cs f hears s w =
-    let r = f (conf_of e) (conf_of e).ssrc story cs w in
-    (filter is_lively_chunk r.0, sym (part_chunks lc d (conf_of e) story hears s) ∙ (ap (λ xs. filter is_lively_chunk xs) r.1 ∙ filter-append is_lively_chunk cs r.0))
+    let r = f (settings_of e) (settings_of e).ssrc story cs w in
+    (filter is_lively_chunk r.0, sym (part_chunks lc d (settings_of e) story hears s) ∙ (ap (λ xs. filter is_lively_chunk xs) r.1 ∙ filter-append is_lively_chunk cs r.0))
 
 -- ---- of all that is heard
 -- one took over: what is left of the sender before, with its marker, is no longer the last

@@ -6,14 +6,14 @@ use Rattle.wire_spec.specs.Packets.{Packet}
 use Rattle.wire_spec.specs.Text.{text_of}
 use Rattle.link_io.specs.declared.ends.Came.{Came}
 use Rattle.link_io.specs.declared.ends.Came.TheVariants as came
-use Rattle.link_io.specs.declared.ends.Taken.{Taken}
+use Rattle.link_io.specs.declared.ends.LinkTake.{LinkTake}
 use Rattle.link_io.specs.Taking.{came_of}
 use Rattle.live_spec.specs.Told.{Hearing, Told, is_sender, takes_over}
 use Rattle.view_spec.specs.declared.tallies.Tally.{Tally}
 use Rattle.live_spec.specs.Tally.{tally_came, tally_packet, with_foreign, with_refused, with_sender, with_text}
 use Rattle.live_leg.specs.declared.senders.Senders.{Senders}
-use Rattle.live_leg.specs.declared.senders.Sent.{Sent}
-use Rattle.live_leg.specs.declared.senders.Sent.TheVariants.{Foreign, Sender}
+use Rattle.live_leg.specs.declared.senders.DatagramSender.{DatagramSender}
+use Rattle.live_leg.specs.declared.senders.DatagramSender.TheVariants.{Foreign, Sender}
 use Rattle.live_leg.specs.declared.tallies.LegTally.{LegTally}
 use Rattle.live_leg.specs.Senders.{Meets, over_from, sent_of}
 use Rattle.live_leg.specs.Tallies.{CountsTaken, CountsWith, IsTally, counts_sent}
@@ -32,18 +32,18 @@ sent_as h d t (Ok p) y = go (is_sender d.sender p.ssrc) (takes_over h d t p.ssrc
     go false true = over d.sender
     go false false = refl
 
-pub counts_datagram : (before after : Senders) (old new : LegTally) (taken : Taken) (octets : List ℕ) (sent : Sent) → taken.came ≡ came.Datagram → Meets before after taken.at octets sent
+pub counts_datagram : (before after : Senders) (old new : LegTally) (taken : LinkTake) (octets : List ℕ) (sent : DatagramSender) → taken.came ≡ came.Datagram → Meets before after taken.at octets sent
     → CountsWith (counts_sent sent) old new → CountsTaken before old new taken octets
 counts_datagram before after old new taken octets sent is meets counts h d k =
-    let r = text_of octets None h.pts in
+    let r = text_of octets None h.payload_types in
     subst (λ (c : Came). CountsWith (tally_came h d taken.at (came_of c octets)) old new) (sym is)
-    (λ y now. subst (λ (z : Tally). IsTally new z) (ap (λ (x : Sent). counts_sent x y) (meets h d k).sent_is ∙ sent_as h d taken.at r y) (counts y now))
+    (λ y now. subst (λ (z : Tally). IsTally new z) (ap (λ (x : DatagramSender). counts_sent x y) (meets h d k).sent_is ∙ sent_as h d taken.at r y) (counts y now))
 
-pub counts_large : (senders : Senders) (old new : LegTally) (taken : Taken) (octets : List ℕ) → taken.came ≡ came.Large → CountsWith with_refused old new → CountsTaken senders old new taken octets
+pub counts_large : (senders : Senders) (old new : LegTally) (taken : LinkTake) (octets : List ℕ) → taken.came ≡ came.Large → CountsWith with_refused old new → CountsTaken senders old new taken octets
 counts_large senders old new taken octets is counts h d k = subst (λ (c : Came). CountsWith (tally_came h d taken.at (came_of c octets)) old new) (sym is) counts
 
-pub counts_quiet : (senders : Senders) (tally : LegTally) (taken : Taken) (octets : List ℕ) → taken.came ≡ came.Quiet → CountsTaken senders tally tally taken octets
+pub counts_quiet : (senders : Senders) (tally : LegTally) (taken : LinkTake) (octets : List ℕ) → taken.came ≡ came.Quiet → CountsTaken senders tally tally taken octets
 counts_quiet senders tally taken octets is h d k = subst (λ (c : Came). CountsWith (tally_came h d taken.at (came_of c octets)) tally tally) (sym is) (λ y now. now)
 
-pub counts_closed : (senders : Senders) (tally : LegTally) (taken : Taken) (octets : List ℕ) → taken.came ≡ came.Closed → CountsTaken senders tally tally taken octets
+pub counts_closed : (senders : Senders) (tally : LegTally) (taken : LinkTake) (octets : List ℕ) → taken.came ≡ came.Closed → CountsTaken senders tally tally taken octets
 counts_closed senders tally taken octets is h d k = subst (λ (c : Came). CountsWith (tally_came h d taken.at (came_of c octets)) tally tally) (sym is) (λ y now. now)

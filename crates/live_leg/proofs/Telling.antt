@@ -2,7 +2,7 @@
 use Rattle.std.proofs.Common.{◌≡◌, ◌≤◌, ℕ, Bool, true, false, true≢false, Option, None, Some, List, [], ◌∷◌, ◌++◌, Result, Ok, Err, refl, ap, sym, ◌∙◌, subst, arith}
 use Rattle.std.specs.Prelude.{filter, max, unwrap_or}
 use Rattle.std.proofs.lemmas.List.{append-nil}
-use Rattle.rtt_base.specs.declared.text_packets.Pts.{Pts}
+use Rattle.rtt_base.specs.declared.text_packets.PayloadTypes.{PayloadTypes}
 use Rattle.wire_spec.specs.declared.faults.TextFault.{TextFault}
 use Rattle.wire_spec.specs.Packets.{Arrival, Packet}
 use Rattle.wire_spec.specs.Text.{text_of}
@@ -10,9 +10,9 @@ use Rattle.stream_spec.specs.Fronts.{is_ready_by}
 use Rattle.stream_spec.specs.Ready.{Chunk}
 use Rattle.stream_spec.specs.Still.{is_lively_chunk}
 use Rattle.gap_tracker.specs.Stories.{Story, begun, came, ended, went}
-use Rattle.ear.specs.declared.confs.EarConf.{EarConf}
+use Rattle.ear.specs.declared.settings.EarSettings.{EarSettings}
 use Rattle.ear.specs.declared.ears.Ear.{Ear}
-use Rattle.ear.specs.Hears.{Gave, conf_of, ready_chunks, story_chunks, text_for, told}
+use Rattle.ear.specs.Hears.{Gave, settings_of, ready_chunks, story_chunks, text_for, told}
 use Rattle.link_io.specs.declared.ends.Came.{Came}
 use Rattle.link_io.specs.declared.ends.Came.TheVariants as came
 use Rattle.link_io.specs.Taking.{came_of}
@@ -20,7 +20,7 @@ use Rattle.link_spec.specs.Links.{Takes}
 use Rattle.link_spec.specs.Links as link
 use Rattle.live_spec.specs.Told.{Former, Hearing, Told, all_former, arrival_at, former_after, is_sender, last_chunks, ready_by, taken_over, takes_over, told_by, told_moment, told_packet, with_packet}
 use Rattle.live_spec.proofs.Asked.{eqb_true, own_asked}
-use Rattle.live_leg.specs.declared.confs.LegConf.{LegConf}
+use Rattle.live_leg.specs.declared.settings.LegSettings.{LegSettings}
 use Rattle.live_leg.specs.declared.senders.Senders.{Senders}
 use Rattle.live_leg.specs.declared.states.State.{State}
 use Rattle.live_leg.specs.declared.states.State.TheVariants.{Idle, Giving, Blank, Parting, Ending}
@@ -37,33 +37,33 @@ sender_there None x e = absurd (true≢false (sym e))
 sender_there (Some s) x e = ap (λ (n : ℕ). Some n) (sym (eqb_true x s e))
 
 -- a packet that is read is read by an ear that is asked for its SSRC
-pub read_here : (octets : List ℕ) (pts : Pts) (p : Packet) (conf : EarConf) → conf.pts ≡ pts → conf.ssrc ≡ p.ssrc → text_of octets None pts ≡ Ok p → text_for conf octets ≡ Ok p
-read_here octets pts p conf e s r =
-    ap (λ (x : ℕ). text_of octets (Some x) conf.pts) s ∙ (ap (λ (x : Pts). text_of octets (Some p.ssrc) x) e ∙ own_asked octets pts p r)
+pub read_here : (octets : List ℕ) (payload_types : PayloadTypes) (p : Packet) (settings : EarSettings) → settings.payload_types ≡ payload_types → settings.ssrc ≡ p.ssrc → text_of octets None payload_types ≡ Ok p → text_for settings octets ≡ Ok p
+read_here octets payload_types p settings e s r =
+    ap (λ (x : ℕ). text_of octets (Some x) settings.payload_types) s ∙ (ap (λ (x : PayloadTypes). text_of octets (Some p.ssrc) x) e ∙ own_asked octets payload_types p r)
 
 -- an ear that hears the first packet of its sender, and nothing before
-pub first_heard : (lc : LegConf) (old new : Ear) (state : State) (moment : ℕ) (packet octets : List ℕ) (takes : Takes) (items : List Item) (d : Told) (t : ℕ) (p : Packet) (ssrc : ℕ)
-    (story : Story) (heard : List Chunk) → Gave old (conf_of old) (conf_of old).ssrc story heard → (conf_of old).pts ≡ lc.ear.pts → (conf_of old).wait ≡ lc.ear.wait
-    → BeginsWith old new ssrc moment octets → ssrc ≡ p.ssrc → moment ≡ max d.moment t → text_of octets None lc.ear.pts ≡ Ok p → told_by (hearing_of lc) takes ≡ taken_over d t p → state ≡ Giving
+pub first_heard : (lc : LegSettings) (old new : Ear) (state : State) (moment : ℕ) (packet octets : List ℕ) (takes : Takes) (items : List Item) (d : Told) (t : ℕ) (p : Packet) (ssrc : ℕ)
+    (story : Story) (heard : List Chunk) → Gave old (settings_of old) (settings_of old).ssrc story heard → (settings_of old).payload_types ≡ lc.ear.payload_types → (settings_of old).wait ≡ lc.ear.wait
+    → BeginsWith old new ssrc moment octets → ssrc ≡ p.ssrc → moment ≡ max d.moment t → text_of octets None lc.ear.payload_types ≡ Ok p → told_by (hearing_of lc) takes ≡ taken_over d t p → state ≡ Giving
     → texts_in 0 items ≡ all_former (hearing_of lc) (taken_over d t p).before
     → EarStands new state moment packet (hearing_of lc) takes items
-first_heard lc old new state moment packet octets takes items d t p ssrc story heard gave pts wait b same at reads is stands texts = subst (λ (st : State). EarStands new st moment packet (hearing_of lc) takes items) (sym stands) (
-    let conf = conf_of old in
-    let mine : EarConf = record conf { ssrc = ssrc } in
-    let here = read_here octets lc.ear.pts p mine pts same reads in
+first_heard lc old new state moment packet octets takes items d t p ssrc story heard gave payload_types wait b same at reads is stands texts = subst (λ (st : State). EarStands new st moment packet (hearing_of lc) takes items) (sym stands) (
+    let settings = settings_of old in
+    let mine : EarSettings = record settings { ssrc = ssrc } in
+    let here = read_here octets lc.ear.payload_types p mine payload_types same reads in
     let h = hearing_of lc in
-    let now : Story = came (begun conf.wait) moment p in
+    let now : Story = came (begun settings.wait) moment p in
     let time : max 0 moment ≡ max d.moment t = (let z : max 0 moment ≡ moment = omega arith in z ∙ at) in
     record {
       part = taken_over d t p;
       story = now;
       heard = [];
-      gave = subst (λ (k : EarConf). Gave new k k.ssrc now []) (sym b.conf)
-          (subst (λ (r : Result Packet TextFault). Gave new mine ssrc (told (begun conf.wait) moment r) []) here (b.begins conf conf.ssrc story heard gave));
+      gave = subst (λ (k : EarSettings). Gave new k k.ssrc now []) (sym b.settings)
+          (subst (λ (r : Result Packet TextFault). Gave new mine ssrc (told (begun settings.wait) moment r) []) here (b.begins settings settings.ssrc story heard gave));
       hears = record {
-        pts = ap (λ (k : EarConf). k.pts) b.conf ∙ pts;
-        wait = ap (λ (k : EarConf). k.wait) b.conf ∙ wait;
-        sender = ap (λ (k : EarConf). k.ssrc) b.conf ∙ same;
+        payload_types = ap (λ (k : EarSettings). k.payload_types) b.settings ∙ payload_types;
+        wait = ap (λ (k : EarSettings). k.wait) b.settings ∙ wait;
+        sender = ap (λ (k : EarSettings). k.ssrc) b.settings ∙ same;
       };
       past = ap (λ (n : ℕ). record { time = n; packet = p } ∷ []) time;
       at_moment = λ _. time;
@@ -88,7 +88,7 @@ as_blank e moment octets h takes items s = record {
 }
 
 -- ---- behind all that is ready was given
-module _ (lc : LegConf) (takes : Takes) (items : List Item) (l m : Ear) (before octets : List ℕ) (old : ℕ) (s : EarStands l Idle old before (hearing_of lc) takes items)
+module _ (lc : LegSettings) (takes : Takes) (items : List Item) (l m : Ear) (before octets : List ℕ) (old : ℕ) (s : EarStands l Idle old before (hearing_of lc) takes items)
     (open_still : (told_by (hearing_of lc) takes).closed ≡ false) (ready : texts_in 0 items ≡ ready_by (hearing_of lc) takes) (moment ssrc t : ℕ) where
   abbrev h : Hearing
   h = hearing_of lc
@@ -97,8 +97,8 @@ module _ (lc : LegConf) (takes : Takes) (items : List Item) (l m : Ear) (before 
   d = told_by (hearing_of lc) takes
 
   -- what is known of the part, of all that was told
-  hears_now : IsEarOf (hearing_of lc) (told_by (hearing_of lc) takes) (conf_of l)
-  hears_now = subst (λ (x : Told). IsEarOf (hearing_of lc) x (conf_of l)) s.part_is s.hears
+  hears_now : IsEarOf (hearing_of lc) (told_by (hearing_of lc) takes) (settings_of l)
+  hears_now = subst (λ (x : Told). IsEarOf (hearing_of lc) x (settings_of l)) s.part_is s.hears
 
   past_now : s.story.past ≡ (told_by (hearing_of lc) takes).past
   past_now = s.past ∙ ap (λ (x : Told). x.past) s.part_is
@@ -125,17 +125,17 @@ module _ (lc : LegConf) (takes : Takes) (items : List Item) (l m : Ear) (before 
   })
 
   -- the sender's story goes on
-  goes_on : (next : Takes) (e : Told) (story : Story) → e.before ≡ d.before → Gave m (conf_of l) (conf_of l).ssrc story s.heard → conf_of m ≡ conf_of l → IsOf e.sender (conf_of l).ssrc e.past
+  goes_on : (next : Takes) (e : Told) (story : Story) → e.before ≡ d.before → Gave m (settings_of l) (settings_of l).ssrc story s.heard → settings_of m ≡ settings_of l → IsOf e.sender (settings_of l).ssrc e.past
       → story.past ≡ e.past → story.moment ≡ e.moment → told_by (hearing_of lc) next ≡ e → EarStands m Giving moment octets (hearing_of lc) next items
-  goes_on next e story same gave conf of past at is = record {
+  goes_on next e story same gave settings of past at is = record {
     part = e;
     story = story;
     heard = s.heard;
-    gave = subst (λ (k : EarConf). Gave m k k.ssrc story s.heard) (sym conf) gave;
+    gave = subst (λ (k : EarSettings). Gave m k k.ssrc story s.heard) (sym settings) gave;
     hears = record {
-      pts = ap (λ (k : EarConf). k.pts) conf ∙ s.hears.pts;
-      wait = ap (λ (k : EarConf). k.wait) conf ∙ s.hears.wait;
-      sender = subst (λ (k : EarConf). IsOf e.sender k.ssrc e.past) (sym conf) of;
+      payload_types = ap (λ (k : EarSettings). k.payload_types) settings ∙ s.hears.payload_types;
+      wait = ap (λ (k : EarSettings). k.wait) settings ∙ s.hears.wait;
+      sender = subst (λ (k : EarSettings). IsOf e.sender k.ssrc e.past) (sym settings) of;
     };
     past = past;
     at_moment = λ _. at;
@@ -150,18 +150,18 @@ module _ (lc : LegConf) (takes : Takes) (items : List Item) (l m : Ear) (before 
     part = record d { closed = true };
     story = ended s.story;
     heard = s.heard;
-    gave = subst (λ (k : EarConf). Gave m k k.ssrc (ended s.story) s.heard) (sym ends.conf) (ends.becomes.gave (conf_of l) (conf_of l).ssrc s.story s.heard s.gave);
-    hears = subst (λ (k : EarConf). IsEarOf (hearing_of lc) (record d { closed = true }) k) (sym ends.conf) (record { pts = hears_now.pts; wait = hears_now.wait; sender = hears_now.sender });
+    gave = subst (λ (k : EarSettings). Gave m k k.ssrc (ended s.story) s.heard) (sym ends.settings) (ends.becomes.gave (settings_of l) (settings_of l).ssrc s.story s.heard s.gave);
+    hears = subst (λ (k : EarSettings). IsEarOf (hearing_of lc) (record d { closed = true }) k) (sym ends.settings) (record { payload_types = hears_now.payload_types; wait = hears_now.wait; sender = hears_now.sender });
     past = past_now;
     at_moment = λ q. absurd (true≢false (sym q));
-    all = λ _. subst (λ (k : EarConf). ready_chunks k k.ssrc (ended s.story) ≡ story_chunks k k.ssrc (ended s.story)) (sym ends.conf)
-        ((ends.all (conf_of l) ((conf_of l).ssrc ∷ []) s.story s.gave.hears).chunks (conf_of l).ssrc);
+    all = λ _. subst (λ (k : EarSettings). ready_chunks k k.ssrc (ended s.story) ≡ story_chunks k k.ssrc (ended s.story)) (sym ends.settings)
+        ((ends.all (settings_of l) ((settings_of l).ssrc ∷ []) s.story s.gave.hears).chunks (settings_of l).ssrc);
     part_is = sym is;
     texts = texts_now;
   }
 
   -- or since one took over from it
-  parts : (p : Packet) (x : ℕ) → d.sender ≡ Some x → moment ≡ max d.moment t → text_of octets None lc.ear.pts ≡ Ok p → Ends l m
+  parts : (p : Packet) (x : ℕ) → d.sender ≡ Some x → moment ≡ max d.moment t → text_of octets None lc.ear.payload_types ≡ Ok p → Ends l m
       → told_by (hearing_of lc) (record { at = t; came = link.Datagram octets } ∷ takes) ≡ taken_over d t p
       → EarStands m Parting moment octets (hearing_of lc) (record { at = t; came = link.Datagram octets } ∷ takes) items
   parts p x there at reads ends is =
@@ -171,37 +171,37 @@ module _ (lc : LegConf) (takes : Takes) (items : List Item) (l m : Ear) (before 
         part = d;
         story = ended s.story;
         heard = s.heard;
-        gave = subst (λ (k : EarConf). Gave m k k.ssrc (ended s.story) s.heard) (sym ends.conf) (ends.becomes.gave (conf_of l) (conf_of l).ssrc s.story s.heard s.gave);
-        hears = subst (λ (k : EarConf). IsEarOf (hearing_of lc) d k) (sym ends.conf) hears_now;
+        gave = subst (λ (k : EarSettings). Gave m k k.ssrc (ended s.story) s.heard) (sym ends.settings) (ends.becomes.gave (settings_of l) (settings_of l).ssrc s.story s.heard s.gave);
+        hears = subst (λ (k : EarSettings). IsEarOf (hearing_of lc) d k) (sym ends.settings) hears_now;
         past = past_now;
         at_moment = λ q. absurd (true≢false (sym q));
-        all = λ _. subst (λ (k : EarConf). ready_chunks k k.ssrc (ended s.story) ≡ story_chunks k k.ssrc (ended s.story)) (sym ends.conf)
-            ((ends.all (conf_of l) ((conf_of l).ssrc ∷ []) s.story s.gave.hears).chunks (conf_of l).ssrc);
+        all = λ _. subst (λ (k : EarSettings). ready_chunks k k.ssrc (ended s.story) ≡ story_chunks k k.ssrc (ended s.story)) (sym ends.settings)
+            ((ends.all (settings_of l) ((settings_of l).ssrc ∷ []) s.story s.gave.hears).chunks (settings_of l).ssrc);
         part_is = record { at = t; past = takes; takes_are = refl; part_is = refl; packet = p; reads = reads; over = is; ssrc = x; sender = there };
         texts = texts_now ∙ ap (λ cs. all_former (hearing_of lc) d.before ++ cs) (sym soon);
       }
 
   -- one took over from nobody
-  begins : (next : Takes) (p : Packet) → d.sender ≡ None → ssrc ≡ p.ssrc → moment ≡ max d.moment t → text_of octets None lc.ear.pts ≡ Ok p → BeginsWith l m ssrc moment octets
+  begins : (next : Takes) (p : Packet) → d.sender ≡ None → ssrc ≡ p.ssrc → moment ≡ max d.moment t → text_of octets None lc.ear.payload_types ≡ Ok p → BeginsWith l m ssrc moment octets
       → told_by (hearing_of lc) next ≡ taken_over d t p → EarStands m Giving moment octets (hearing_of lc) next items
   begins next p none same at reads b is =
       let empty : filter is_lively_chunk s.heard ≡ [] = ready_part (hearing_of lc) takes (filter is_lively_chunk s.heard) open_still (sym texts_now ∙ ready)
       ∙ ap (λ (o : Option ℕ). filter (is_ready_by d.moment) (last_chunks (hearing_of lc) o d.past)) none in
-      first_heard lc l m Giving moment octets octets next items d t p ssrc s.story s.heard s.gave hears_now.pts hears_now.wait b same at reads is refl
+      first_heard lc l m Giving moment octets octets next items d t p ssrc s.story s.heard s.gave hears_now.payload_types hears_now.wait b same at reads is refl
       (texts_now ∙ (ap (λ cs. all_former (hearing_of lc) d.before ++ cs) empty
       ∙ (append-nil (all_former (hearing_of lc) d.before) ∙ ap (λ (o : Option ℕ). all_former (hearing_of lc) (former_after o d.past (max d.moment t) d.before)) (sym none))))
 
   -- a packet of the sender
-  hears_more : (next : Takes) (p : Packet) → is_sender d.sender p.ssrc ≡ true → moment ≡ max d.moment t → text_of octets None lc.ear.pts ≡ Ok p → HearsMore l m moment octets
+  hears_more : (next : Takes) (p : Packet) → is_sender d.sender p.ssrc ≡ true → moment ≡ max d.moment t → text_of octets None lc.ear.payload_types ≡ Ok p → HearsMore l m moment octets
       → told_by (hearing_of lc) next ≡ with_packet d t p → EarStands m Giving moment octets (hearing_of lc) next items
   hears_more next p is_one at reads b is =
       let there = sender_there d.sender p.ssrc is_one in
-      let mine : (conf_of l).ssrc ≡ p.ssrc = subst (λ (o : Option ℕ). IsOf o (conf_of l).ssrc d.past) there hears_now.sender in
-      let here = read_here octets lc.ear.pts p (conf_of l) hears_now.pts mine reads in
+      let mine : (settings_of l).ssrc ≡ p.ssrc = subst (λ (o : Option ℕ). IsOf o (settings_of l).ssrc d.past) there hears_now.sender in
+      let here = read_here octets lc.ear.payload_types p (settings_of l) hears_now.payload_types mine reads in
       let time : max s.story.moment moment ≡ max d.moment t = (let n = moment_now in omega (arith, n, at)) in
       goes_on next (with_packet d t p) (came s.story moment p) refl
-      (subst (λ (r : Result Packet TextFault). Gave m (conf_of l) (conf_of l).ssrc (told s.story moment r) s.heard) here (b.becomes.gave (conf_of l) (conf_of l).ssrc s.story s.heard s.gave))
-      b.conf (subst (λ (o : Option ℕ). IsOf o (conf_of l).ssrc (arrival_at d t p ∷ d.past)) (sym there) mine)
+      (subst (λ (r : Result Packet TextFault). Gave m (settings_of l) (settings_of l).ssrc (told s.story moment r) s.heard) here (b.becomes.gave (settings_of l) (settings_of l).ssrc s.story s.heard s.gave))
+      b.settings (subst (λ (o : Option ℕ). IsOf o (settings_of l).ssrc (arrival_at d t p ∷ d.past)) (sym there) mine)
       (ap (λ (n : ℕ). record { time = n; packet = p } ∷ s.story.past) time ∙ ap (λ (ps : List Arrival). arrival_at d t p ∷ ps) past_now)
       time is
 
@@ -209,7 +209,7 @@ module _ (lc : LegConf) (takes : Takes) (items : List Item) (l m : Ear) (before 
   abbrev next_takes : Takes
   next_takes = record { at = t; came = link.Datagram octets } ∷ takes
 
-  datagram : (r : Result Packet TextFault) (st : State) → text_of octets None lc.ear.pts ≡ r → told_by (hearing_of lc) (record { at = t; came = link.Datagram octets } ∷ takes) ≡ told_packet (hearing_of lc) d t r
+  datagram : (r : Result Packet TextFault) (st : State) → text_of octets None lc.ear.payload_types ≡ r → told_by (hearing_of lc) (record { at = t; came = link.Datagram octets } ∷ takes) ≡ told_packet (hearing_of lc) d t r
       → ((p : Packet) → r ≡ Ok p → (told_packet (hearing_of lc) d t r).sender ≡ Some p.ssrc → ssrc ≡ p.ssrc)
       → moment ≡ (told_packet (hearing_of lc) d t r).moment
       → HearsSent (sent_of (hearing_of lc) d t r) l m ssrc moment octets → st ≡ state_of_sent (sent_of (hearing_of lc) d t r)
@@ -232,17 +232,17 @@ module _ (lc : LegConf) (takes : Takes) (items : List Item) (l m : Ear) (before 
   -- time goes on
   waits : (next : Takes) → Waits l m t → told_by (hearing_of lc) next ≡ told_moment d t → EarStands m Giving moment octets (hearing_of lc) next items
   waits next w is =
-      goes_on next (told_moment d t) (went s.story t) refl (w.becomes.gave (conf_of l) (conf_of l).ssrc s.story s.heard s.gave) w.conf hears_now.sender past_now (ap (λ n. max n t) moment_now) is
+      goes_on next (told_moment d t) (went s.story t) refl (w.becomes.gave (settings_of l) (settings_of l).ssrc s.story s.heard s.gave) w.settings hears_now.sender past_now (ap (λ n. max n t) moment_now) is
 
 -- ---- whatever came
-pub told_more : (lc : LegConf) (takes : Takes) (items : List Item) (l m : Ear) (octets first : List ℕ) (old : ℕ) (before after : Senders) (t : ℕ) (c : Came) (st : State)
+pub told_more : (lc : LegSettings) (takes : Takes) (items : List Item) (l m : Ear) (octets first : List ℕ) (old : ℕ) (before after : Senders) (t : ℕ) (c : Came) (st : State)
     → EarStands l Idle old first (hearing_of lc) takes items → (told_by (hearing_of lc) takes).closed ≡ false → texts_in 0 items ≡ ready_by (hearing_of lc) takes
     → Follows l m before after t c octets st (hearing_of lc) (told_by (hearing_of lc) takes)
     → EarStands m st after.moment octets (hearing_of lc) (record { at = t; came = came_of c octets } ∷ takes) items
 told_more lc takes items l m octets first old before after t came.Datagram st s o ready f =
     let h = hearing_of lc in
     let d = told_by h takes in
-    datagram lc takes items l m first octets old s o ready after.moment (unwrap_or after.sender 0) t (text_of octets None lc.ear.pts) st refl refl
+    datagram lc takes items l m first octets old s o ready after.moment (unwrap_or after.sender 0) t (text_of octets None lc.ear.payload_types) st refl refl
     (λ p e q. ap (λ (x : Option ℕ). unwrap_or x 0) (f.knows.sender ∙ q)) f.knows.moment f.hears.0 f.hears.1
 told_more lc takes items l m octets first old before after t came.Large st s o ready f =
     let next : Takes = record { at = t; came = link.Large } ∷ takes in

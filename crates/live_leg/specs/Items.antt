@@ -49,18 +49,18 @@ texts_in leg [] = []
 texts_in leg (x ∷ xs) = text_in leg x ++ texts_in leg xs
 
 -- it says that all was given
-abbrev pub is_mark : Item → Bool
-is_mark (Text ready octets) = false
-is_mark Seen = true
-is_mark Silent = true
-is_mark End = true
-is_mark Quit = false
-is_mark Fault = false
+abbrev pub is_signal : Item → Bool
+is_signal (Text ready octets) = false
+is_signal Seen = true
+is_signal Silent = true
+is_signal End = true
+is_signal Quit = false
+is_signal Fault = false
 
 -- how often it said so: once for each take
-abbrev pub marks_in : List Item → ℕ
-marks_in [] = 0
-marks_in (x ∷ xs) = (if is_mark x then 1 else 0) + marks_in xs
+abbrev pub signals_in : List Item → ℕ
+signals_in [] = 0
+signals_in (x ∷ xs) = (if is_signal x then 1 else 0) + signals_in xs
 
 abbrev pub is_fault : Item → Bool
 is_fault Fault = true
@@ -80,16 +80,16 @@ AreTexts [] = Unit {0}
 AreTexts (x ∷ xs) = (is_text x ≡ true) × AreTexts xs
 
 -- what it says behind the texts that are ready by what came
-abbrev pub mark_of : Came → Item
-mark_of (Datagram octets) = Seen
-mark_of Large = Seen
-mark_of Quiet = Silent
-mark_of Closed = End
+abbrev pub signal_of : Came → Item
+signal_of (Datagram octets) = Seen
+signal_of Large = Seen
+signal_of Quiet = Silent
+signal_of Closed = End
 
 -- Take by take, newest first: what it gave before, then texts, and that this was all. The texts are those that are ready by these
 -- takes, but for keep-alives.
 abbrev pub AreItems : Hearing → Takes → List Item → Type 0
 AreItems h [] items = items ≡ []
 AreItems h (t ∷ past) items =
-    (before : List Item) × (news : List Item) × (items ≡ before ++ (news ++ mark_of t.came ∷ []))
+    (before : List Item) × (news : List Item) × (items ≡ before ++ (news ++ signal_of t.came ∷ []))
     × AreItems h past before × AreTexts news × (texts_in h.leg items ≡ ready_by h (t ∷ past))

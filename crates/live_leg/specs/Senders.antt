@@ -5,12 +5,12 @@ use Rattle.wire_spec.specs.Packets.{Packet}
 use Rattle.wire_spec.specs.Text.{text_of}
 use Rattle.live_spec.specs.Told.{Hearing, Told, is_sender, known_senders, last_moment, takes_over, told_moment, told_packet, untold}
 use Rattle.live_leg.specs.declared.senders.Senders.{Senders}
-use Rattle.live_leg.specs.declared.senders.Sent.{Sent}
-use Rattle.live_leg.specs.declared.senders.Sent.TheVariants.{Refused, Foreign, Sender, First, Other}
+use Rattle.live_leg.specs.declared.senders.DatagramSender.{DatagramSender}
+use Rattle.live_leg.specs.declared.senders.DatagramSender.TheVariants.{Refused, Foreign, Sender, First, Other}
 
 -- What is kept of a leg that is heard so, and of which that was told.
 pub record Knows (s : Senders) (h : Hearing) (d : Told) : Type 0 where
-  pub pts : s.pts ≡ h.pts
+  pub payload_types : s.payload_types ≡ h.payload_types
   pub follow : s.follow ≡ h.follow
   pub sender : s.sender ≡ d.sender
   pub known : s.known.items ≡ known_senders d.before
@@ -25,27 +25,27 @@ abbrev pub Passes : Senders → Senders → ℕ → Type 0
 Passes old new t = (h : Hearing) (d : Told) → Knows old h d → Knows new h (told_moment d t)
 
 -- who takes over is the first sender, or takes over from one
-abbrev pub over_from : Option ℕ → Sent
+abbrev pub over_from : Option ℕ → DatagramSender
 over_from None = First
 over_from (Some s) = Other
 
 -- who sent a packet that comes at the moment t
-abbrev pub sent_of : Hearing → Told → ℕ → Result Packet TextFault → Sent
+abbrev pub sent_of : Hearing → Told → ℕ → Result Packet TextFault → DatagramSender
 sent_of h d t (Ok p) =
     if is_sender d.sender p.ssrc then Sender
     else (if takes_over h d t p.ssrc then over_from d.sender else Foreign)
 sent_of h d t (Err fault) = Refused
 
 -- what is known is known after what comes at the moment t, and this is who sent it
-pub record IsMet (old new : Senders) (t : ℕ) (r : Hearing → Result Packet TextFault) (sent : Sent) (h : Hearing) (d : Told) : Type 0 where
+pub record IsMet (old new : Senders) (t : ℕ) (r : Hearing → Result Packet TextFault) (sent : DatagramSender) (h : Hearing) (d : Told) : Type 0 where
   pub knows : Knows new h (told_packet h d t (r h))
   pub sent_is : sent ≡ sent_of h d t (r h)
 
-abbrev pub MeetsText : Senders → Senders → ℕ → ℕ → Sent → Type 0
+abbrev pub MeetsText : Senders → Senders → ℕ → ℕ → DatagramSender → Type 0
 MeetsText old new t ssrc sent = (p : Packet) → p.ssrc ≡ ssrc → (h : Hearing) (d : Told) → Knows old h d → IsMet old new t (λ _. Ok p) sent h d
 
-abbrev pub Meets : Senders → Senders → ℕ → List ℕ → Sent → Type 0
-Meets old new t octets sent = (h : Hearing) (d : Told) → Knows old h d → IsMet old new t (λ g. text_of octets None g.pts) sent h d
+abbrev pub Meets : Senders → Senders → ℕ → List ℕ → DatagramSender → Type 0
+Meets old new t octets sent = (h : Hearing) (d : Told) → Knows old h d → IsMet old new t (λ g. text_of octets None g.payload_types) sent h d
 
 -- ---- inside
 -- one more sender before: the last 64 are known
@@ -58,7 +58,7 @@ known_after (Some sender) known = remembered sender known
 
 -- a packet of the sender comes at the moment t
 pub record Notes (old new : Senders) (t : ℕ) : Type 0 where
-  pub pts : new.pts ≡ old.pts
+  pub payload_types : new.payload_types ≡ old.payload_types
   pub follow : new.follow ≡ old.follow
   pub sender : new.sender ≡ old.sender
   pub known : new.known.items ≡ old.known.items
@@ -67,7 +67,7 @@ pub record Notes (old new : Senders) (t : ℕ) : Type 0 where
 
 -- the sender of before is known
 pub record Remembers (old new : Senders) (ssrc : ℕ) : Type 0 where
-  pub pts : new.pts ≡ old.pts
+  pub payload_types : new.payload_types ≡ old.payload_types
   pub follow : new.follow ≡ old.follow
   pub sender : new.sender ≡ old.sender
   pub known : new.known.items ≡ remembered ssrc old.known.items
@@ -75,8 +75,8 @@ pub record Remembers (old new : Senders) (ssrc : ℕ) : Type 0 where
   pub last : new.last ≡ old.last
 
 -- one with this SSRC takes over at the moment t
-pub record TakesOver (old new : Senders) (t ssrc : ℕ) (sent : Sent) : Type 0 where
-  pub pts : new.pts ≡ old.pts
+pub record TakesOver (old new : Senders) (t ssrc : ℕ) (sent : DatagramSender) : Type 0 where
+  pub payload_types : new.payload_types ≡ old.payload_types
   pub follow : new.follow ≡ old.follow
   pub sender : new.sender ≡ Some ssrc
   pub known : new.known.items ≡ known_after old.sender old.known.items

@@ -8,7 +8,7 @@ use Rattle.gap_tracker.specs.Stories.{Story}
 use Rattle.wire_spec.specs.Packets.{Packet}
 use Rattle.wire_spec.specs.Text.{text_of}
 use Rattle.ear.specs.declared.ears.Ear.{Ear}
-use Rattle.ear.specs.Hears.{Gave, arrival_count, conf_of, ready_chunks, story_chunks}
+use Rattle.ear.specs.Hears.{Gave, arrival_count, settings_of, ready_chunks, story_chunks}
 use Rattle.rtt_io.specs.Counts.{Rose}
 use Rattle.link_io.specs.declared.ends.LinkIn as links
 use Rattle.link_spec.specs.Links.{Taken, Takes, Datagram, is_closed, is_closing}
@@ -22,7 +22,7 @@ use Rattle.live_leg.specs.Senders.{Knows}
 use Rattle.live_leg.specs.Tallies.{IsTally}
 use Rattle.live_leg.specs.Stories.{IsEarOf, hearing_of}
 use Rattle.live_leg.specs.States.{is_giving, is_going}
-use Rattle.live_leg.specs.Items.{AreItems, AreTexts, Item, Text, Seen, Silent, End, Quit, Fault, has_fault, items_of, mark_of, texts_in}
+use Rattle.live_leg.specs.Items.{AreItems, AreTexts, Item, Text, Seen, Silent, End, Quit, Fault, has_fault, items_of, signal_of, texts_in}
 
 -- This is the last item of a leg that was told to stop, or whose link failed.
 abbrev pub IsStop : Item → (Faulted : Type 0) → Type 0
@@ -44,8 +44,8 @@ pub record IsIdle (h : Hearing) (takes : Takes) (items : List Item) : Type 0 whe
   pub open_still : (told_by h takes).closed ≡ false
   pub are : AreItems h takes items
 
--- Some of what is ready by the takes was given; the last of them closed the link, or not, and has this mark.
-pub record IsGivingSome (closing : Bool) (mark : Item) (h : Hearing) (takes : Takes) (items : List Item) : Type 0 where
+-- Some of what is ready by the takes was given; the last of them closed the link, or not, and has this signal.
+pub record IsGivingSome (closing : Bool) (signal : Item) (h : Hearing) (takes : Takes) (items : List Item) : Type 0 where
   pub last : Taken
   pub past : Takes
   pub before : List Item
@@ -55,7 +55,7 @@ pub record IsGivingSome (closing : Bool) (mark : Item) (h : Hearing) (takes : Ta
   pub are : AreItems h past before
   pub texts : AreTexts news
   pub closes : is_closing last.came ≡ closing
-  pub marks : mark_of last.came ≡ mark
+  pub signals : signal_of last.came ≡ signal
   pub open_before : (told_by h past).closed ≡ false
   pub closed : (told_by h takes).closed ≡ closing
 
@@ -98,7 +98,7 @@ pub record IsTakenOver (h : Hearing) (takes : Takes) (octets : List ℕ) (part :
   pub takes_are : takes ≡ record { at = at; came = Datagram octets } ∷ past
   pub part_is : part ≡ told_by h past
   pub packet : Packet
-  pub reads : text_of octets None h.pts ≡ Ok packet
+  pub reads : text_of octets None h.payload_types ≡ Ok packet
   pub over : told_by h takes ≡ taken_over part at packet
   pub ssrc : ℕ
   pub sender : part.sender ≡ Some ssrc
@@ -132,11 +132,11 @@ pub record EarStands (e : Ear) (state : State) (moment : ℕ) (octets : List ℕ
   pub part : Told
   pub story : Story
   pub heard : List Chunk
-  pub gave : Gave e (conf_of e) (conf_of e).ssrc story heard
-  pub hears : IsEarOf h part (conf_of e)
+  pub gave : Gave e (settings_of e) (settings_of e).ssrc story heard
+  pub hears : IsEarOf h part (settings_of e)
   pub past : story.past ≡ part.past
   pub at_moment : is_going state ≡ true → story.moment ≡ part.moment
-  pub all : is_last state ≡ true → ready_chunks (conf_of e) (conf_of e).ssrc story ≡ story_chunks (conf_of e) (conf_of e).ssrc story
+  pub all : is_last state ≡ true → ready_chunks (settings_of e) (settings_of e).ssrc story ≡ story_chunks (settings_of e) (settings_of e).ssrc story
   pub part_is : IsPart state h takes octets part
   pub texts : texts_in 0 items ≡ all_former h part.before ++ given_as state moment (filter is_lively_chunk heard)
 
@@ -145,21 +145,21 @@ module _ {L : Type 0} (g : links.Ghosts L) where
   -- first.
   pub record Nearly (first now : LinkLeg L) (items : List Item) : Type 0 where
     pub takes : Takes
-    pub conf : now.conf ≡ first.conf
-    pub ear : EarStands now.ear now.state now.senders.moment now.packet.value (hearing_of first.conf) takes items
-    pub knows : Knows now.senders (hearing_of first.conf) (told_by (hearing_of first.conf) takes)
-    pub tally : IsTally now.tally (tally_by (hearing_of first.conf) takes)
+    pub settings : now.settings ≡ first.settings
+    pub ear : EarStands now.ear now.state now.senders.moment now.packet.value (hearing_of first.settings) takes items
+    pub knows : Knows now.senders (hearing_of first.settings) (told_by (hearing_of first.settings) takes)
+    pub tally : IsTally now.tally (tally_by (hearing_of first.settings) takes)
     pub taken : g.tells → g.taken now.link ≡ takes ++ g.taken first.link
     pub closed : is_closed takes ≡ true → g.closed now.link ≡ true
     pub never_falls : g.faults first.link ≤ g.faults now.link
     pub counts : Counts (has_fault items) (g.faults first.link) (g.faults now.link)
     pub port : g.port now.link ≡ g.port first.link
-    pub phase : PhaseAt now.state (Rose (g.faults first.link) (g.faults now.link)) (hearing_of first.conf) takes items
+    pub phase : PhaseAt now.state (Rose (g.faults first.link) (g.faults now.link)) (hearing_of first.settings) takes items
 
   -- and its texts are the first of all that are heard by these takes
   pub record LegStands (first now : LinkLeg L) (items : List Item) : Type 0 where
     pub so : Nearly first now items
-    pub front : IsFront (texts_in 0 items) (all_by (hearing_of first.conf) so.takes)
+    pub front : IsFront (texts_in 0 items) (all_by (hearing_of first.settings) so.takes)
 
   abbrev pub LegGave : LinkLeg L → LinkLeg L → List LegItem → Type 0
   LegGave first now gave = LegStands first now (items_of gave)

@@ -3,45 +3,45 @@ use Rattle.std.specs.Prelude.{◌≡◌, ℕ, Option, None, Some, List, []}
 use Rattle.stream_spec.specs.Ready.{Chunk}
 use Rattle.wire_spec.specs.Packets.{Arrival}
 use Rattle.gap_tracker.specs.Stories.{Story, begun, went, ended}
-use Rattle.ear.specs.declared.confs.EarConf.{EarConf}
+use Rattle.ear.specs.declared.settings.EarSettings.{EarSettings}
 use Rattle.ear.specs.declared.ears.Ear.{Ear}
-use Rattle.ear.specs.Hears.{AllReady, Becomes, Gave, conf_of, told, text_for}
+use Rattle.ear.specs.Hears.{AllReady, Becomes, Gave, settings_of, told, text_for}
 use Rattle.live_spec.specs.Told.{Hearing, Told}
-use Rattle.live_leg.specs.declared.confs.LegConf.{LegConf}
-use Rattle.live_leg.specs.declared.senders.Sent.{Sent}
-use Rattle.live_leg.specs.declared.senders.Sent.TheVariants.{Refused, Foreign, Sender, First, Other}
+use Rattle.live_leg.specs.declared.settings.LegSettings.{LegSettings}
+use Rattle.live_leg.specs.declared.senders.DatagramSender.{DatagramSender}
+use Rattle.live_leg.specs.declared.senders.DatagramSender.TheVariants.{Refused, Foreign, Sender, First, Other}
 use Rattle.live_leg.specs.declared.states.State.{State}
 use Rattle.live_leg.specs.declared.states.State.TheVariants.{Giving, Parting}
 
 -- what is heard of a leg that is asked for this, its texts with the source 0: whose they are is set by who mixes
-abbrev pub hearing_of : LegConf → Hearing
-hearing_of conf = record { leg = 0; ssrc = conf.ear.ssrc; pts = conf.ear.pts; wait = conf.ear.wait; follow = conf.follow }
+abbrev pub hearing_of : LegSettings → Hearing
+hearing_of settings = record { leg = 0; ssrc = settings.ear.ssrc; payload_types = settings.ear.payload_types; wait = settings.ear.wait; follow = settings.follow }
 
 -- ---- what an ear is told
 -- a packet of the sender came at `now`
 pub record HearsMore (old new : Ear) (now : ℕ) (octets : List ℕ) : Type 0 where
-  pub becomes : Becomes old new (λ conf story. told story now (text_for conf octets))
-  pub conf : conf_of new ≡ conf_of old
+  pub becomes : Becomes old new (λ settings story. told story now (text_for settings octets))
+  pub settings : settings_of new ≡ settings_of old
 
 -- whatever it heard before, it hears the packets of this SSRC now, of which this is the first
 pub record BeginsWith (old new : Ear) (ssrc now : ℕ) (octets : List ℕ) : Type 0 where
-  pub begins : (conf : EarConf) (source : ℕ) (story : Story) (gave : List Chunk) → Gave old conf source story gave
-      → Gave new (record conf { ssrc = ssrc }) ssrc (told (begun conf.wait) now (text_for (record conf { ssrc = ssrc }) octets)) []
-  pub conf : conf_of new ≡ record (conf_of old) { ssrc = ssrc }
+  pub begins : (settings : EarSettings) (source : ℕ) (story : Story) (gave : List Chunk) → Gave old settings source story gave
+      → Gave new (record settings { ssrc = ssrc }) ssrc (told (begun settings.wait) now (text_for (record settings { ssrc = ssrc }) octets)) []
+  pub settings : settings_of new ≡ record (settings_of old) { ssrc = ssrc }
 
 -- time goes on to `now`
 pub record Waits (old new : Ear) (now : ℕ) : Type 0 where
-  pub becomes : Becomes old new (λ conf story. went story now)
-  pub conf : conf_of new ≡ conf_of old
+  pub becomes : Becomes old new (λ settings story. went story now)
+  pub settings : settings_of new ≡ settings_of old
 
 -- nothing of it is waited for any longer
 pub record Ends (old new : Ear) : Type 0 where
-  pub becomes : Becomes old new (λ conf story. ended story)
+  pub becomes : Becomes old new (λ settings story. ended story)
   pub all : AllReady old
-  pub conf : conf_of new ≡ conf_of old
+  pub settings : settings_of new ≡ settings_of old
 
 -- who sent a datagram, and what the ear is told of it; `now` is the greatest moment, `ssrc` that of the sender
-abbrev pub HearsSent : Sent → (old new : Ear) (ssrc now : ℕ) (octets : List ℕ) → Type 0
+abbrev pub HearsSent : DatagramSender → (old new : Ear) (ssrc now : ℕ) (octets : List ℕ) → Type 0
 HearsSent Refused old new ssrc now octets = new ≡ old
 HearsSent Foreign old new ssrc now octets = new ≡ old
 HearsSent Sender old new ssrc now octets = HearsMore old new now octets
@@ -49,7 +49,7 @@ HearsSent First old new ssrc now octets = BeginsWith old new ssrc now octets
 HearsSent Other old new ssrc now octets = Ends old new
 
 -- how far a leg is of which that was sent: who takes over from another waits until what is left of that one is given
-abbrev pub state_of_sent : Sent → State
+abbrev pub state_of_sent : DatagramSender → State
 state_of_sent Refused = Giving
 state_of_sent Foreign = Giving
 state_of_sent Sender = Giving
@@ -63,7 +63,7 @@ IsOf None ssrc past = past ≡ []
 IsOf (Some s) ssrc past = ssrc ≡ s
 
 -- an ear asked for this hears the sender
-pub record IsEarOf (h : Hearing) (d : Told) (conf : EarConf) : Type 0 where
-  pub pts : conf.pts ≡ h.pts
-  pub wait : conf.wait ≡ h.wait
-  pub sender : IsOf d.sender conf.ssrc d.past
+pub record IsEarOf (h : Hearing) (d : Told) (settings : EarSettings) : Type 0 where
+  pub payload_types : settings.payload_types ≡ h.payload_types
+  pub wait : settings.wait ≡ h.wait
+  pub sender : IsOf d.sender settings.ssrc d.past

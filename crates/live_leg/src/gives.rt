@@ -2,11 +2,11 @@
 use crate::items::LegItem;
 use crate::kinds::ItemKind;
 use crate::legs::LinkLeg;
-use item_queue::Gives;
+use item_queue::Producer;
 use link_io::LinkIn;
 use std::sync::Wait;
 
-impl<L: LinkIn> Gives<LegItem> for LinkLeg<L> {
+impl<L: LinkIn> Producer<LegItem> for LinkLeg<L> {
     ghost use Rattle.live_leg.specs.Stands.{GetsOn, LegGave};
     ghost use Rattle.live_leg.specs.States.{is_over};
 

@@ -3,7 +3,7 @@ ghost use Rattle.stream_spec.specs.Ready.{chunk_of};
 ghost use Rattle.live_leg.specs.Texts.{HasText};
 
 use crate::kinds::ItemKind;
-use item_queue::Reuse;
+use item_queue::Reusable;
 use rtt_base::{Chunk, NoMemory};
 use std::alloc::Global;
 
@@ -18,7 +18,7 @@ pub struct LegItem {
     ghost text: { HasText kind (chunk_of chunk.value) },
 }
 
-impl Reuse for LegItem {
+impl Reusable for LegItem {
     fn blank(alloc: Global) -> Result<LegItem, NoMemory> {
         let Ok(chunk) = Box::new(alloc, Chunk::default()) else {
             return Err(NoMemory);

@@ -4,7 +4,7 @@ ghost use Rattle.ear.specs.Hears.{IsGiving, is_finished, is_quiet};
 ghost use Rattle.live_leg.specs.States.{is_going};
 ghost use Rattle.live_leg.specs.declared.states.State.TheVariants.{Idle};
 
-use crate::confs::LegConf;
+use crate::settings::LegSettings;
 use crate::paces::Pace;
 use crate::senders::Senders;
 use crate::states::State;
@@ -19,7 +19,7 @@ use std::sync::atomic::AtomicBool;
 #[derive(Drop)]
 pub struct LinkLeg<L> {
     /// What it was asked for.
-    pub(crate) conf: LegConf,
+    pub(crate) settings: LegSettings,
     /// Hears the sender.
     pub(crate) ear: Ear,
     pub(crate) senders: Senders,

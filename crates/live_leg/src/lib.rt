@@ -1,20 +1,20 @@
 //! A leg over a link: what is heard of the datagrams that come, item by item.
 #![tactic(auto)]
 
-mod confs;
+mod settings;
 mod gives;
-mod hearing;
+mod takes;
 mod items;
 mod kinds;
 mod legs;
-mod meeting;
+mod encounters;
 mod paces;
 mod senders;
 mod states;
-mod stepping;
+mod steps;
 mod tallies;
 
-pub use confs::LegConf;
+pub use settings::LegSettings;
 pub use items::LegItem;
 pub use kinds::ItemKind;
 pub use legs::LinkLeg;

@@ -1,7 +1,7 @@
 //! Until when a leg waits for a datagram.
 ghost use Rattle.std.specs.Prelude.{◌≡◌, ◌<◌};
 
-use link_io::{Came, Taken};
+use link_io::{Came, LinkTake};
 
 /// At which moment a leg's link was asked last, and until which one it may wait: turns are at the multiples of `tick` of its clock.
 /// All are in milliseconds.
@@ -36,7 +36,7 @@ impl Pace {
     }
 
     /// The same behind a take that gave this. Where the link had nothing, the next one may wait until the turn behind it.
-    pub(crate) fn after(self, taken: Taken) -> Pace {
+    pub(crate) fn after(self, taken: LinkTake) -> Pace {
         let until = match taken.came {
             Came::Quiet => taken.at.saturating_add(self.tick - taken.at % self.tick),
             _ => self.until,

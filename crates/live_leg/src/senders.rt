@@ -3,14 +3,14 @@ ghost use Rattle.std.specs.Prelude.{◌<◌};
 ghost use Rattle.rtt_base.specs.declared.limits.TheConstants.{END_OF_MOMENTS};
 
 use arrayvec::ArrayVec;
-use rtt_base::{Pts, TextPacket};
+use rtt_base::{PayloadTypes, TextPacket};
 
 /// How many of the senders before are known.
 pub(crate) const MOST_KNOWN: usize = 64;
 
 /// Who sent a datagram.
 #[derive(Clone, Copy, Debug, PartialEq, Eq)]
-pub(crate) enum Sent {
+pub(crate) enum DatagramSender {
     /// Nobody: it is no packet of text with the payload types of the leg.
     Refused,
     /// One who is not heard: it is passed over.
@@ -26,7 +26,7 @@ pub(crate) enum Sent {
 /// Who is heard of a leg, and who was before. Moments are in milliseconds.
 #[derive(Drop)]
 pub(crate) struct Senders {
-    pub(crate) pts: Pts,
+    pub(crate) payload_types: PayloadTypes,
     pub(crate) follow: bool,
     /// The SSRC of the sender.
     pub(crate) sender: Option<u32>,

@@ -3,7 +3,7 @@ ghost use Rattle.std.specs.Prelude.{◌≡◌, ◌+◌};
 ghost use Rattle.live_spec.specs.Tally.{as_kept, untallied, with_foreign, with_refused, with_sender, with_text};
 ghost use Rattle.live_leg.specs.Tallies.{CountsWith, IsTally, counts_sent};
 
-use crate::senders::Sent;
+use crate::senders::DatagramSender;
 
 /// What came of a leg's link, counted. A count that has come to 2^64 - 1 stays there.
 #[derive(Clone, Copy, Debug, Default, PartialEq, Eq)]
@@ -76,14 +76,14 @@ impl LegTally {
     }
 
     /// Counts a datagram that was sent so.
-    pub(crate) fn count(&mut self, sent: Sent)
+    pub(crate) fn count(&mut self, sent: DatagramSender)
         ensures { CountsWith (counts_sent sent) self.old self.new }
     {
         match sent {
-            Sent::Refused => self.refuse(),
-            Sent::Foreign => self.pass_over(),
-            Sent::Sender => self.hear(),
-            Sent::First | Sent::Other => self.hear_other(),
+            DatagramSender::Refused => self.refuse(),
+            DatagramSender::Foreign => self.pass_over(),
+            DatagramSender::Sender => self.hear(),
+            DatagramSender::First | DatagramSender::Other => self.hear_other(),
         }
     }
 }

@@ -1,28 +1,28 @@
 ghost use Rattle.std.specs.Prelude.{◌≤◌};
 ghost use Rattle.rtt_base.specs.declared.limits.TheConstants.{LONGEST_WAIT};
 
-use crate::{ItemKind, LegConf, LegItem, LegTally, LinkLeg};
-use ear::EarConf;
-use item_queue::{Gives, Reuse};
-use link_io::{Came, MemIn, Planned};
-use rtt_base::{NoMemory, Pts};
+use crate::{ItemKind, LegSettings, LegItem, LegTally, LinkLeg};
+use ear::EarSettings;
+use item_queue::{Producer, Reusable};
+use link_io::{Came, MemIn, PlannedTake};
+use rtt_base::{NoMemory, PayloadTypes};
 use std::alloc::Global;
 use std::sync::atomic::AtomicBool;
 use std::sync::{Arc, Wait};
 use std::test::Fail;
 
-const EAR: EarConf = EarConf {
+const EAR: EarSettings = EarSettings {
     ssrc: 1001,
-    pts: Pts { t140: 98, red: 100 },
+    payload_types: PayloadTypes { t140: 98, red: 100 },
     wait: 1000,
 };
 
-const ANN: LegConf = LegConf {
+const ANN: LegSettings = LegSettings {
     ear: EAR,
     follow: false,
 };
 
-const FOLLOWED: LegConf = LegConf {
+const FOLLOWED: LegSettings = LegSettings {
     ear: EAR,
     follow: true,
 };
@@ -33,38 +33,38 @@ const TYPED: &[u8] = b"\x80\xE2\0\0\0\0\0\0\0\0\x03\xE9A";
 const IDLE: &[u8] = b"\x80\x62\0\x01\0\0\x01\x2C\0\0\x03\xE9\xEF\xBB\xBF";
 
 // What comes at Ann's link: the moment (milliseconds), what it is, and the octets of a datagram.
-type Coming = (u32, Came, &'static [u8]);
+type LinkEvent = (u32, Came, &'static [u8]);
 
-const SHE_TYPES: Coming = (100, Came::Datagram, TYPED);
+const SHE_TYPES: LinkEvent = (100, Came::Datagram, TYPED);
 
-const SHE_IDLES: Coming = (100, Came::Datagram, IDLE);
+const SHE_IDLES: LinkEvent = (100, Came::Datagram, IDLE);
 
-const SHE_CLOSES: Coming = (200, Came::Closed, b"");
+const SHE_CLOSES: LinkEvent = (200, Came::Closed, b"");
 
 // Her leg over this link, followed or not, told to stop or not, and an item for what it gives.
 fn over(
     alloc: Global,
     link: MemIn,
-    conf: LegConf,
+    settings: LegSettings,
     is_stopped: bool,
 ) -> Result<(LinkLeg<MemIn>, LegItem), NoMemory>
-    requires { conf.ear.wait ≤ LONGEST_WAIT }
+    requires { settings.ear.wait ≤ LONGEST_WAIT }
 {
     let item = LegItem::blank(alloc)?;
     let Ok(stop) = Arc::new(alloc, AtomicBool::new(is_stopped)) else {
         return Err(NoMemory);
     };
-    match LinkLeg::new(alloc, link, conf, 100, stop) {
+    match LinkLeg::new(alloc, link, settings, 100, stop) {
         Ok(leg) => Ok((leg, item)),
         Err(_) => Err(NoMemory),
     }
 }
 
 // A link where this comes.
-fn linked(alloc: Global, comings: &[Coming]) -> Result<MemIn, NoMemory> {
+fn linked(alloc: Global, comings: &[LinkEvent]) -> Result<MemIn, NoMemory> {
     let mut link = MemIn::new(alloc, 5001);
     for (at, came, octets) in comings {
-        link.plan(Planned::new(alloc, *at, *came, *octets)?)?;
+        link.plan(PlannedTake::new(alloc, *at, *came, *octets)?)?;
     }
     Ok(link)
 }
@@ -72,19 +72,19 @@ fn linked(alloc: Global, comings: &[Coming]) -> Result<MemIn, NoMemory> {
 // Her leg where this comes.
 fn ann(
     alloc: Global,
-    comings: &[Coming],
+    comings: &[LinkEvent],
     is_stopped: bool,
 ) -> Result<(LinkLeg<MemIn>, LegItem), NoMemory> {
     over(alloc, linked(alloc, comings)?, ANN, is_stopped)
 }
 
 // The same, where she is followed.
-fn followed(alloc: Global, comings: &[Coming]) -> Result<(LinkLeg<MemIn>, LegItem), NoMemory> {
+fn followed(alloc: Global, comings: &[LinkEvent]) -> Result<(LinkLeg<MemIn>, LegItem), NoMemory> {
     over(alloc, linked(alloc, comings)?, FOLLOWED, false)
 }
 
 // What a leg gives next, if it gives something.
-fn next<Q, F: Gives<Q>, R: Wait>(rt: &R, leg: &mut F, item: &mut Q) -> bool {
+fn next<Q, F: Producer<Q>, R: Wait>(rt: &R, leg: &mut F, item: &mut Q) -> bool {
     if leg.is_over() {
         return false;
     }
@@ -92,7 +92,7 @@ fn next<Q, F: Gives<Q>, R: Wait>(rt: &R, leg: &mut F, item: &mut Q) -> bool {
 }
 
 // What it gives next is of this kind.
-fn gives<F: Gives<LegItem>, R: Wait>(
+fn gives<F: Producer<LegItem>, R: Wait>(
     rt: &R,
     leg: &mut F,
     item: &mut LegItem,
@@ -148,7 +148,7 @@ fn a_fault_is_the_last(rt: HostRuntime) -> Result<(), Fail> {
 }
 
 // Whether its link has nothing then, as it says at this moment.
-fn is_silent_at<F: Gives<LegItem>, R: Wait>(
+fn is_silent_at<F: Producer<LegItem>, R: Wait>(
     rt: &R,
     leg: &mut F,
     item: &mut LegItem,
@@ -174,7 +174,7 @@ const C5: &[u8] = b"\x80\x62\0\x02\0\0\0\x64\0\0\0\x05C";
 const B6: &[u8] = b"\x80\x62\0\0\0\0\0\0\0\0\0\x06B";
 
 // What it says next is this text, from this moment on.
-fn says<F: Gives<LegItem>, R: Wait>(
+fn says<F: Producer<LegItem>, R: Wait>(
     rt: &R,
     leg: &mut F,
     item: &mut LegItem,
@@ -249,10 +249,10 @@ fn whoever_sends_first_is_heard(rt: HostRuntime) -> Result<(), Fail> {
 // What is no packet, and what is too large.
 const NOISE: &[u8] = b"\0\x01";
 
-const TOO_LARGE: Coming = (200, Came::Large, b"");
+const TOO_LARGE: LinkEvent = (200, Came::Large, b"");
 
 // It gives what came, as far as this many items go.
-fn gives_all<F: Gives<LegItem>, R: Wait>(rt: &R, leg: &mut F, item: &mut LegItem, most: u32) {
+fn gives_all<F: Producer<LegItem>, R: Wait>(rt: &R, leg: &mut F, item: &mut LegItem, most: u32) {
     for _ in 0..most {
         let _ = next(rt, leg, item);
     }

@@ -1,7 +1,7 @@
 -- A live call before its first turn.
 use Rattle.std.proofs.Common.{◌≡◌, ℕ, Some, None, List, [], ◌∷◌, refl, ap, sym, ◌∙◌, arith}
 use Rattle.std.specs.Prelude.{Bool, if◌then◌else◌}
-use Rattle.rtt_base.specs.declared.text_packets.Pts.{Pts}
+use Rattle.rtt_base.specs.declared.text_packets.PayloadTypes.{PayloadTypes}
 use Rattle.stream_spec.specs.Ready.{chunk_of}
 use Rattle.mixer_spec.specs.Setups.{Setup}
 use Rattle.mixer_spec.specs.Table.{Call, Admit, Hush, Leave, Offer, Taken, Turn, after_calls, chunks_taken, free_place}
@@ -10,7 +10,7 @@ use Rattle.mixer_spec.specs.Legs.{held}
 use Rattle.mixer_spec.proofs.Legs.{come_taken}
 use Rattle.live_leg.specs.Items.{Item}
 use Rattle.live_loop.specs.declared.ports.LivePort.{LivePort}
-use Rattle.live_loop.specs.Handed.{AreLiveCalls, HasMarks, hand_after}
+use Rattle.live_loop.specs.Handed.{AreLiveCalls, HasSignals, hand_after}
 use Rattle.live_loop.specs.Ports.{PortAt}
 use Rattle.live_loop.specs.Begun.{AreAdmits, IsUnpopped, MayBegin}
 
@@ -36,7 +36,7 @@ none_taken s i = by_admits s (λ calls. took s i calls ≡ []) refl
 live_admits : (s : Setup) (items : ℕ → List Item) (calls : List Call) → AreAdmits s calls → AreLiveCalls s items [] calls
 live_admits s items = by_admits s (AreLiveCalls s items []) tt (λ j l past a h. (a.0, h))
 
-port_begun : {I : Type 0} (popped : I → List Item) (s : Setup) (calls : List Call) (i : ℕ) (p : LivePort I) → AreAdmits s calls → IsUnpopped popped p → PortAt popped s calls i (HasMarks 0) p
+port_begun : {I : Type 0} (popped : I → List Item) (s : Setup) (calls : List Call) (i : ℕ) (p : LivePort I) → AreAdmits s calls → IsUnpopped popped p → PortAt popped s calls i (HasSignals 0) p
 port_begun popped s calls i p a u = record {
   before = [];
   tail = [];
@@ -49,8 +49,8 @@ port_begun popped s calls i p a u = record {
   enough = omega arith;
 }
 
-pub may_begin : {I M : Type 0} (popped : I → List Item) (stands : M → Setup → (ℕ → Pts) → List Call → Type 0) → MayBegin popped stands
-may_begin popped stands s pts calls ps m made a seated u = record {
+pub may_begin : {I M : Type 0} (popped : I → List Item) (stands : M → Setup → (ℕ → PayloadTypes) → List Call → Type 0) → MayBegin popped stands
+may_begin popped stands s payload_types calls ps m made a seated u = record {
   calls = calls;
   counts = [];
   made = made;

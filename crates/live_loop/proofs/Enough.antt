@@ -1,13 +1,13 @@
 -- What was said in items.
 use Rattle.std.proofs.Common.{◌≡◌, ◌≤◌, ℕ, ◌+◌, true, false, List, [], ◌∷◌, ◌++◌, ◌||◌, refl, ap, ◌∙◌, arith}
 use Rattle.std.specs.Prelude.{Bool}
-use Rattle.live_leg.specs.Items.{Item, has_fault, marks_in}
+use Rattle.live_leg.specs.Items.{Item, has_fault, signals_in}
 use Rattle.live_leg.proofs.Texts.{fault_append}
-use Rattle.live_loop.specs.Handed.{HasMarks, IsEnough, has_end, is_end}
+use Rattle.live_loop.specs.Handed.{HasSignals, IsEnough, has_end, is_end}
 
-pub marks_append : (xs ys : List Item) → marks_in (xs ++ ys) ≡ marks_in xs + marks_in ys
-marks_append [] ys = omega arith
-marks_append (x ∷ xs) ys = let r = marks_append xs ys in omega (arith, r)
+pub signals_append : (xs ys : List Item) → signals_in (xs ++ ys) ≡ signals_in xs + signals_in ys
+signals_append [] ys = omega arith
+signals_append (x ∷ xs) ys = let r = signals_append xs ys in omega (arith, r)
 
 pub or_none : (b : Bool) → (b || false) ≡ b
 or_none true = refl
@@ -38,14 +38,14 @@ fault_before xs ys e = fault_append xs ys ∙ ap (λ b. b || has_fault ys) e
 pub fault_behind : (xs ys : List Item) → has_fault ys ≡ true → has_fault (xs ++ ys) ≡ true
 fault_behind xs ys e = fault_append xs ys ∙ (ap (λ b. has_fault xs || b) e ∙ or_some (has_fault xs))
 
-pub marks_more : (n m : ℕ) (xs ys : List Item) → m ≤ n + marks_in ys → HasMarks n xs → HasMarks m (xs ++ ys)
-marks_more n m xs ys l e =
-    let a = marks_append xs ys in
-    let k : n ≤ marks_in xs = e in
-    let r : m ≤ marks_in (xs ++ ys) = omega (arith, l, k, a) in
+pub signals_more : (n m : ℕ) (xs ys : List Item) → m ≤ n + signals_in ys → HasSignals n xs → HasSignals m (xs ++ ys)
+signals_more n m xs ys l e =
+    let a = signals_append xs ys in
+    let k : n ≤ signals_in xs = e in
+    let r : m ≤ signals_in (xs ++ ys) = omega (arith, l, k, a) in
     r
 
 -- what is enough was said so often
-pub has_marks : (blocked : Bool) (n : ℕ) (items : List Item) → IsEnough blocked n items → HasMarks n items
-has_marks true n items e = e
-has_marks false n items e = e.0
+pub has_signals : (blocked : Bool) (n : ℕ) (items : List Item) → IsEnough blocked n items → HasSignals n items
+has_signals true n items e = e
+has_signals false n items e = e.0

@@ -10,13 +10,13 @@ use Rattle.mixer_spec.specs.Calls.{took}
 use Rattle.mixer_spec.specs.Legs.{held}
 use Rattle.mixer_spec.proofs.Lists.{set_same}
 use Rattle.mixer_spec.proofs.Legs.{chunks_more}
-use Rattle.live_leg.specs.Items.{Item, marks_in, texts_in}
+use Rattle.live_leg.specs.Items.{Item, signals_in, texts_in}
 use Rattle.live_leg.proofs.Texts.{texts_append}
 use Rattle.live_spec.specs.Live.{is_held_back}
 use Rattle.live_loop.specs.declared.ports.LivePort.{LivePort}
-use Rattle.live_loop.specs.Handed.{HasMarks, hand_after, has_end, is_blocked_after}
+use Rattle.live_loop.specs.Handed.{HasSignals, hand_after, has_end, is_blocked_after}
 use Rattle.live_loop.specs.Ports.{PortAt, hand_of}
-use Rattle.live_loop.proofs.Enough.{end_none, marks_more}
+use Rattle.live_loop.proofs.Enough.{end_none, signals_more}
 
 -- ---- by the calls
 module _ (s : Setup) (calls : List Call) (c : Chunk) (i : ℕ) (own : c.source ≡ i) where
@@ -61,7 +61,7 @@ module _ (s : Setup) (calls : List Call) (c : Chunk) (i : ℕ) (own : c.source �
 module _ {I : Type 0} (popped : I → List Item) (s : Setup) (calls : List Call) (i n : ℕ) where
   -- the text behind the others was offered
   pub offered_at : (c : Chunk) (before tail : List Item) (p : LivePort I) (taken : Bool) → c.source ≡ i → popped p.inlet ≡ before ++ tail → texts_in i before ≡ took s i calls → texts_in i tail ≡ c ∷ []
-      → chunk_of p.hand ≡ c → p.full ≡ not taken → taken ≡ has_room s c.source c (after_calls s calls) → p.ended ≡ has_end before → has_end tail ≡ false → HasMarks n before → PortAt popped s (Offer c ∷ calls) i (HasMarks n) p
+      → chunk_of p.hand ≡ c → p.full ≡ not taken → taken ≡ has_room s c.source c (after_calls s calls) → p.ended ≡ has_end before → has_end tail ≡ false → HasSignals n before → PortAt popped s (Offer c ∷ calls) i (HasSignals n) p
   offered_at c before tail p true own items texts text hand full room ends goes enough = record {
     before = before ++ tail;
     tail = [];
@@ -71,7 +71,7 @@ module _ {I : Type 0} (popped : I → List Item) (s : Setup) (calls : List Call)
     hand_is = ap (λ b. if b then Some (chunk_of p.hand) else None) full ∙ sym (hand_taken s calls c i own (sym room));
     ended = ends ∙ sym (end_none before tail goes);
     goes_on = refl;
-    enough = marks_more n n before tail (omega arith) enough;
+    enough = signals_more n n before tail (omega arith) enough;
   }
   offered_at c before tail p false own items texts text hand full room ends goes enough =
       let held_is : hand_of p ≡ Some c = ap (λ b. if b then Some (chunk_of p.hand) else None) full ∙ ap Some hand in
@@ -91,8 +91,8 @@ module _ {I : Type 0} (popped : I → List Item) (s : Setup) (calls : List Call)
   pub as_enough : (E F : List Item → Type 0) (p : LivePort I) (a : PortAt popped s calls i E p) → F a.before → PortAt popped s calls i F p
   as_enough E F p a f = record { before = a.before; tail = a.tail; popped_are = a.popped_are; taken = a.taken; in_hand = a.in_hand; hand_is = a.hand_is; ended = a.ended; goes_on = a.goes_on; enough = f }
 
-  pub less : (m : ℕ) (p : LivePort I) → n ≤ m → PortAt popped s calls i (HasMarks m) p → PortAt popped s calls i (HasMarks n) p
+  pub less : (m : ℕ) (p : LivePort I) → n ≤ m → PortAt popped s calls i (HasSignals m) p → PortAt popped s calls i (HasSignals n) p
   less m p l a =
-      let e : m ≤ marks_in a.before = a.enough in
-      let r : n ≤ marks_in a.before = omega (arith, l, e) in
-      as_enough (HasMarks m) (HasMarks n) p a r
+      let e : m ≤ signals_in a.before = a.enough in
+      let r : n ≤ signals_in a.before = omega (arith, l, e) in
+      as_enough (HasSignals m) (HasSignals n) p a r

@@ -3,7 +3,7 @@ use Rattle.std.proofs.Common.{◌≡◌, ◌<◌, ◌≤◌, ◌+◌, ◌*◌, �
 use Rattle.std.specs.Prelude.{Bool, ◌&&◌, not, if◌then◌else◌, slice_get, zero}
 use Rattle.std.specs.List.{list_all}
 use Rattle.std.proofs.lemmas.Bool.{cases_eq}
-use Rattle.rtt_base.specs.declared.text_packets.Pts.{Pts}
+use Rattle.rtt_base.specs.declared.text_packets.PayloadTypes.{PayloadTypes}
 use Rattle.stream_spec.specs.Ready.{Chunk, chunk_of}
 use Rattle.mixer_spec.specs.Setups.{Setup}
 use Rattle.mixer_spec.specs.Table.{Admit, Call, Hush, Leave, Offer, Seats, Table, Turn, after_calls, given, has_room, is_seated}
@@ -11,11 +11,11 @@ use Rattle.mixer_spec.specs.Calls.{turns_made}
 use Rattle.mix_loop.specs.Mixers.{TellsIdle, Turns}
 use Rattle.mix_loop.proofs.Lists.{get_set_other, get_set_same, get_within}
 use Rattle.live_spec.specs.Live.{AllSeated, at_last}
-use Rattle.live_leg.specs.Items.{Item, marks_in}
+use Rattle.live_leg.specs.Items.{Item, signals_in}
 use Rattle.live_loop.specs.declared.ports.LivePort.{LivePort}
 use Rattle.live_loop.specs.Clocks.{AtTicks, RiseTo, moments_of}
 use Rattle.live_loop.specs.Order.{SameTurns}
-use Rattle.live_loop.specs.Handed.{AreLiveCalls, HasMarks, IsEnough, IsNext, is_blocked_after}
+use Rattle.live_loop.specs.Handed.{AreLiveCalls, HasSignals, IsEnough, IsNext, is_blocked_after}
 use Rattle.live_loop.specs.Ports.{AreNext, Gathered, Grew, PortAt, with_offers}
 use Rattle.live_loop.specs.Walks.{AllGrew, AllNext, AreAt, AreOf, HasFailed, IsServing, MayBeTurned, NoneFailed, NoneFailedBelow, WalkedTo, is_spent}
 use Rattle.live_loop.proofs.Advancing.{offers_append, same_grew, then_grew}
@@ -165,17 +165,17 @@ module _ {I : Type 0} (popped : I → List Item) (began : I → I → Type 0) wh
       let is = a j now.0 now.1 in
       (now.2.more ++ is.0, is.1 ∙ (ap (λ l. l ++ is.0) now.2.popped_are ∙ append_assoc (popped p.inlet) now.2.more is.0))
 
-  module _ {M : Type 0} (stands : M → Setup → (ℕ → Pts) → List Call → Type 0) where
-    pub walk_none : (s : Setup) (pts : ℕ → Pts) (calls : List Call) (last : ℕ → ℕ) (ps : List (LivePort I)) (m : M) → stands m s pts calls
-        → ((j : ℕ) (p : LivePort I) → slice_get ps j ≡ Some p → PortAt popped s calls j (HasMarks (last j)) p) → WalkedTo popped stands s pts calls last 0 ps m
-    walk_none s pts calls last ps m made at = record { offers = []; next = tt; made = made; at = at; fresh = λ j p low. absurd (omega arith) }
+  module _ {M : Type 0} (stands : M → Setup → (ℕ → PayloadTypes) → List Call → Type 0) where
+    pub walk_none : (s : Setup) (payload_types : ℕ → PayloadTypes) (calls : List Call) (last : ℕ → ℕ) (ps : List (LivePort I)) (m : M) → stands m s payload_types calls
+        → ((j : ℕ) (p : LivePort I) → slice_get ps j ≡ Some p → PortAt popped s calls j (HasSignals (last j)) p) → WalkedTo popped stands s payload_types calls last 0 ps m
+    walk_none s payload_types calls last ps m made at = record { offers = []; next = tt; made = made; at = at; fresh = λ j p low. absurd (omega arith) }
 
-    pub walk_more : (s : Setup) (pts : ℕ → Pts) (calls : List Call) (last : ℕ → ℕ) (i : ℕ) (ps : List (LivePort I)) (m m' : M) (p q : LivePort I) → i < s.legs → slice_get ps i ≡ Some p → p.leg ≡ i → Gathered popped stands p q m m'
-        → WalkedTo popped stands s pts calls last i ps m → WalkedTo popped stands s pts calls last (i + 1) (set ps i q) m'
-    walk_more s pts calls last i ps m m' p q few e here gathered w =
+    pub walk_more : (s : Setup) (payload_types : ℕ → PayloadTypes) (calls : List Call) (last : ℕ → ℕ) (i : ℕ) (ps : List (LivePort I)) (m m' : M) (p q : LivePort I) → i < s.legs → slice_get ps i ≡ Some p → p.leg ≡ i → Gathered popped stands p q m m'
+        → WalkedTo popped stands s payload_types calls last i ps m → WalkedTo popped stands s payload_types calls last (i + 1) (set ps i q) m'
+    walk_more s payload_types calls last i ps m m' p q few e here gathered w =
         let before = with_offers w.offers calls in
         let n = last i in
-        let x = gathered s pts before n w.made (subst (λ (k : ℕ). PortAt popped s before k (HasMarks n) p) (sym here) (w.at i p e)) in
+        let x = gathered s payload_types before n w.made (subst (λ (k : ℕ). PortAt popped s before k (HasSignals n) p) (sym here) (w.at i p e)) in
         let low = get_within ps i p e in
         let next : AreNext s i x.offers before = subst (λ (k : ℕ). AreNext s k x.offers before) here x.next in
         let after = with_offers x.offers before in
@@ -183,13 +183,13 @@ module _ {I : Type 0} (popped : I → List Item) (began : I → I → Type 0) wh
         record {
           offers = x.offers ++ w.offers;
           next = all_append s i x.offers w.offers calls few next w.next;
-          made = subst (λ (k : List Call). stands m' s pts k) (sym all) x.made;
-          at = λ j r there. subst (λ (k : List Call). PortAt popped s k j (HasMarks (last j)) r) (sym all) (elim (cases_eq j i) [
+          made = subst (λ (k : List Call). stands m' s payload_types k) (sym all) x.made;
+          at = λ j r there. subst (λ (k : List Call). PortAt popped s k j (HasSignals (last j)) r) (sym all) (elim (cases_eq j i) [
             | inl same ↦
                 let is : Some q ≡ Some r = sym (get_set_same ps i q low) ∙ (ap (slice_get (set ps i q)) (sym same) ∙ there) in
                 let port : q ≡ r = cc is in
-                subst (λ (y : LivePort I). PortAt popped s after j (HasMarks (last j)) y) port (subst (λ (k : ℕ). PortAt popped s after k (HasMarks (last k)) q) (sym same) (subst (λ (k : ℕ). PortAt popped s after k (HasMarks n) q) here x.port))
-            | inr other ↦ others_at s j popped i (HasMarks (last j)) r x.offers before other next (w.at j r (sym (get_set_other ps i q j other) ∙ there))
+                subst (λ (y : LivePort I). PortAt popped s after j (HasSignals (last j)) y) port (subst (λ (k : ℕ). PortAt popped s after k (HasSignals (last k)) q) (sym same) (subst (λ (k : ℕ). PortAt popped s after k (HasSignals n) q) here x.port))
+            | inr other ↦ others_at s j popped i (HasSignals (last j)) r x.offers before other next (w.at j r (sym (get_set_other ps i q j other) ∙ there))
           ]);
           fresh = λ j r lower there well. subst (λ (k : List Call). PortAt popped s k j (IsEnough (is_blocked_after s j k) (last j)) r) (sym all) (elim (cases_eq j i) [
             | inl same ↦
@@ -206,9 +206,9 @@ module _ {I : Type 0} (popped : I → List Item) (began : I → I → Type 0) wh
         }
 
     -- all legs offered what they could
-    pub walked : (s : Setup) (pts : ℕ → Pts) (turns : ℕ) (ps ps' : List (LivePort I)) (m m' : M) → AllGrew popped began ps ps' → (v : IsServing popped stands s pts turns ps m)
-        → WalkedTo popped stands s pts v.calls (at_last v.counts) (length ps') ps' m' → (w : MayBeTurned popped stands s pts turns ps' m') × SameTurns v.calls w.serving.calls
-    walked s pts turns ps ps' m m' grew v w =
+    pub walked : (s : Setup) (payload_types : ℕ → PayloadTypes) (turns : ℕ) (ps ps' : List (LivePort I)) (m m' : M) → AllGrew popped began ps ps' → (v : IsServing popped stands s payload_types turns ps m)
+        → WalkedTo popped stands s payload_types v.calls (at_last v.counts) (length ps') ps' m' → (w : MayBeTurned popped stands s payload_types turns ps' m') × SameTurns v.calls w.serving.calls
+    walked s payload_types turns ps ps' m m' grew v w =
         let now = with_offers w.offers v.calls in (
           record {
             serving = record {
@@ -226,17 +226,17 @@ module _ {I : Type 0} (popped : I → List Item) (began : I → I → Type 0) wh
         )
 
     -- a turn was made, where not all legs have ended with an empty hand while the mixer is idle
-    pub turn_made : (s : Setup) (pts : ℕ → Pts) (turns now : ℕ) (ps : List (LivePort I)) (m m' : M) → s.legs ≡ length ps → NoneFailed ps → Turns stands m m' now → (list_all is_spent ps ≡ true → TellsIdle stands m false)
-        → (v : MayBeTurned popped stands s pts turns ps m) → (w : IsServing popped stands s pts (turns + 1) ps m') × (w.calls ≡ Turn now ∷ v.serving.calls)
-    turn_made s pts turns now ps m m' legs well t busy v =
+    pub turn_made : (s : Setup) (payload_types : ℕ → PayloadTypes) (turns now : ℕ) (ps : List (LivePort I)) (m m' : M) → s.legs ≡ length ps → NoneFailed ps → Turns stands m m' now → (list_all is_spent ps ≡ true → TellsIdle stands m false)
+        → (v : MayBeTurned popped stands s payload_types turns ps m) → (w : IsServing popped stands s payload_types (turns + 1) ps m') × (w.calls ≡ Turn now ∷ v.serving.calls)
+    turn_made s payload_types turns now ps m m' legs well t busy v =
         let w = v.serving in
         let IsPort : ℕ → LivePort I → Type 0 = λ j p. PortAt popped s w.calls j (IsEnough (is_blocked_after s j w.calls) (at_last w.counts j)) p in
-        let c = counts_for ps (λ j p n. (f : IsPort j p) × (n ≡ marks_in f.before)) (λ j p e. let f = v.fresh j p e (well j p e) in (marks_in f.before, (f, refl))) in
+        let c = counts_for ps (λ j p n. (f : IsPort j p) × (n ≡ signals_in f.before)) (λ j p e. let f = v.fresh j p e (well j p e) in (signals_in f.before, (f, refl))) in
         let there : (i : ℕ) → i < s.legs → (p : LivePort I) × (slice_get ps i ≡ Some p) = λ i low. some_there ps i (omega (arith, low, legs)) in (
           record {
             calls = Turn now ∷ w.calls;
             counts = c.0 ∷ w.counts;
-            made = t s pts w.calls w.made;
+            made = t s payload_types w.calls w.made;
             live = λ items a. (
               record {
                 each = λ i low.
@@ -258,7 +258,7 @@ module _ {I : Type 0} (popped : I → List Item) (began : I → I → Type 0) wh
                     let x = h j low in
                     let is : (there j low).0 ≡ p = cc (sym (there j low).1 ∙ e) in
                     subst (λ (q : LivePort I). is_spent q ≡ true) is (is_and (there j low).0.ended (there j low).0.full (f.0.ended ∙ x.0) (none_full (there j low).0.full (chunk_of (there j low).0.hand) (f.0.hand_is ∙ x.1)))) in
-                    true≢false (sym idle ∙ sym (busy spent s pts w.calls w.made));
+                    true≢false (sym idle ∙ sym (busy spent s payload_types w.calls w.made));
               },
               w.live items a,
             );
@@ -266,7 +266,7 @@ module _ {I : Type 0} (popped : I → List Item) (began : I → I → Type 0) wh
             seated = λ j low. w.seated j low;
             at = λ j p e.
                 let f = c.1 j p e in
-                let n : c.0 j ≡ marks_in f.0.before = f.1 in
+                let n : c.0 j ≡ signals_in f.0.before = f.1 in
                 record {
                   before = f.0.before;
                   tail = f.0.tail;
@@ -283,6 +283,6 @@ module _ {I : Type 0} (popped : I → List Item) (began : I → I → Type 0) wh
         )
 
     -- a mixer of which something else is known by its calls
-    pub becomes : (meets : M → Setup → (ℕ → Pts) → List Call → Type 0) (s : Setup) (pts : ℕ → Pts) (turns : ℕ) (ps : List (LivePort I)) (m m' : M) (v : IsServing popped stands s pts turns ps m) → meets m' s pts v.calls
-        → (w : IsServing popped meets s pts turns ps m') × (w.calls ≡ v.calls)
-    becomes meets s pts turns ps m m' v made = (record { calls = v.calls; counts = v.counts; made = made; live = v.live; turned = v.turned; seated = v.seated; at = v.at }, refl)
+    pub becomes : (meets : M → Setup → (ℕ → PayloadTypes) → List Call → Type 0) (s : Setup) (payload_types : ℕ → PayloadTypes) (turns : ℕ) (ps : List (LivePort I)) (m m' : M) (v : IsServing popped stands s payload_types turns ps m) → meets m' s payload_types v.calls
+        → (w : IsServing popped meets s payload_types turns ps m') × (w.calls ≡ v.calls)
+    becomes meets s payload_types turns ps m m' v made = (record { calls = v.calls; counts = v.counts; made = made; live = v.live; turned = v.turned; seated = v.seated; at = v.at }, refl)

@@ -1,6 +1,6 @@
 -- A live call before its first turn.
 use Rattle.std.specs.Prelude.{◌≡◌, ℕ, false, Some, List, [], ◌∷◌, slice_get}
-use Rattle.rtt_base.specs.declared.text_packets.Pts.{Pts}
+use Rattle.rtt_base.specs.declared.text_packets.PayloadTypes.{PayloadTypes}
 use Rattle.mixer_spec.specs.Setups.{Setup}
 use Rattle.mixer_spec.specs.Table.{Call, Admit, Hush, Leave, Offer, Turn, after_calls}
 use Rattle.mixer_spec.specs.Calls.{IsAdmit}
@@ -29,11 +29,11 @@ module _ {I : Type 0} (popped : I → List Item) where
   AllUnpopped ps = (j : ℕ) (p : LivePort I) → slice_get ps j ≡ Some p → IsUnpopped p
 
   -- Where all legs came and nothing was popped, turns may begin.
-  abbrev pub MayBegin : {M : Type 0} → (M → Setup → (ℕ → Pts) → List Call → Type 0) → Type 0
+  abbrev pub MayBegin : {M : Type 0} → (M → Setup → (ℕ → PayloadTypes) → List Call → Type 0) → Type 0
   MayBegin {M} stands =
-      (s : Setup) (pts : ℕ → Pts) (calls : List Call) (ps : List (LivePort I)) (m : M)
-      → stands m s pts calls
+      (s : Setup) (payload_types : ℕ → PayloadTypes) (calls : List Call) (ps : List (LivePort I)) (m : M)
+      → stands m s payload_types calls
       → AreAdmits s calls
       → AllSeated s (after_calls s calls)
       → AllUnpopped ps
-      → IsServing popped stands s pts 0 ps m
+      → IsServing popped stands s payload_types 0 ps m

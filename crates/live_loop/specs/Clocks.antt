@@ -1,6 +1,6 @@
 -- What passes while turns are made.
 use Rattle.std.specs.Prelude.{◌≡◌, ◌≤◌, ◌<◌, ◌+◌, ◌*◌, ◌^◌, ℕ, List, [], ◌∷◌, length}
-use Rattle.rtt_base.specs.declared.text_packets.Pts.{Pts}
+use Rattle.rtt_base.specs.declared.text_packets.PayloadTypes.{PayloadTypes}
 use Rattle.mixer_spec.specs.Setups.{Setup}
 use Rattle.mixer_spec.specs.Table.{Call, Admit, Hush, Leave, Offer, Turn}
 use Rattle.link_io.specs.Ports.{Same}
@@ -36,8 +36,8 @@ pub record ArePaced (tick old new : ℕ) (calls : List Call) : Type 0 where
   pub told : RiseTo new (moments_of calls)
 
 -- what is known of a mixer of which these calls were made, that, where links tell, their turns are paced, and what is known of their order
-abbrev pub StandsPaced : {M : Type 0} → (tells : Type 0) → (tick old new : ℕ) → (order stands : M → Setup → (ℕ → Pts) → List Call → Type 0) → M → Setup → (ℕ → Pts) → List Call → Type 0
-StandsPaced tells tick old new order stands m s pts calls = stands m s pts calls × (tells → ArePaced tick old new calls) × order m s pts calls
+abbrev pub StandsPaced : {M : Type 0} → (tells : Type 0) → (tick old new : ℕ) → (order stands : M → Setup → (ℕ → PayloadTypes) → List Call → Type 0) → M → Setup → (ℕ → PayloadTypes) → List Call → Type 0
+StandsPaced tells tick old new order stands m s payload_types calls = stands m s payload_types calls × (tells → ArePaced tick old new calls) × order m s payload_types calls
 
 -- ---- time
 -- So many ticks have passed since a moment, which was no earlier than the first, and no later than the last: so long as clocks tell

@@ -6,7 +6,7 @@ use Rattle.mixer_spec.specs.Setups.{Setup}
 use Rattle.mixer_spec.specs.Table.{Call, Admit, Hush, Leave, Offer, Turn, after_calls, has_room, is_idle, is_seated}
 use Rattle.mixer_spec.specs.Calls.{IsAdmit, took}
 use Rattle.live_spec.specs.Live.{AllSeated, at_last, but_last, is_held_back, most_takes}
-use Rattle.live_leg.specs.Items.{Item, End, Silent, marks_in, texts_in}
+use Rattle.live_leg.specs.Items.{Item, End, Silent, signals_in, texts_in}
 
 -- the chunk that was offered last of the leg, where it was not taken
 abbrev pub hand_after : Setup → ℕ → List Call → Option Chunk
@@ -34,16 +34,16 @@ abbrev pub EndsSilent : List Item → Type 0
 EndsSilent items = (before : List Item) × (items ≡ before ++ Silent ∷ [])
 
 -- it was said so often that all was given
-abbrev pub HasMarks : ℕ → List Item → Type 0
-HasMarks n items = n ≤ marks_in items
+abbrev pub HasSignals : ℕ → List Item → Type 0
+HasSignals n items = n ≤ signals_in items
 
 -- That was said so often, where a turn is blocked for the leg. Else it was said since that the link had nothing, or as often as a
 -- link is asked, or the end was given.
 abbrev pub IsEnough : Bool → ℕ → List Item → Type 0
-IsEnough true n items = n ≤ marks_in items
+IsEnough true n items = n ≤ signals_in items
 IsEnough false n items =
-    (n ≤ marks_in items)
-    × (((n < marks_in items) × EndsSilent items) ⊎ ((n + most_takes ≤ marks_in items) ⊎ (has_end items ≡ true)))
+    (n ≤ signals_in items)
+    × (((n < signals_in items) × EndsSilent items) ⊎ ((n + most_takes ≤ signals_in items) ⊎ (has_end items ≡ true)))
 
 -- ---- turns
 -- Before the turn after these calls: of the items of the leg some first ones had all its texts that were taken, and were enough.
@@ -53,7 +53,7 @@ pub record IsFreshAt (s : Setup) (items : List Item) (past : List Call) (before 
   pub more : List Item
   pub items_are : items ≡ given ++ more
   pub taken : texts_in i given ≡ took s i past
-  pub count : now ≡ marks_in given
+  pub count : now ≡ signals_in given
   pub enough : IsEnough (is_blocked_after s i past) before given
   pub seated : is_seated (after_calls s past).seats i ≡ true
 

@@ -1,6 +1,6 @@
 -- That what a turn sends is given before the pause behind it.
 use Rattle.std.specs.Prelude.{◌≡◌, ◌<◌, ◌+◌, ℕ, suc, List, [], ◌∷◌, if◌then◌else◌, nat_lt}
-use Rattle.rtt_base.specs.declared.text_packets.Pts.{Pts}
+use Rattle.rtt_base.specs.declared.text_packets.PayloadTypes.{PayloadTypes}
 use Rattle.rtt_io.specs.Counts.{last_count}
 use Rattle.mixer_spec.specs.Setups.{Setup}
 use Rattle.mixer_spec.specs.Table.{Call, Admit, Hush, Leave, Offer, Turn}
@@ -22,14 +22,14 @@ pub record SameTurns (old new : List Call) : Type 0 where
   pub moments : moments_of new ≡ moments_of old
   pub up_to : (n : ℕ) → up_to_turn n new ≡ up_to_turn n old
 
-module _ {M : Type 0} (stands : M → Setup → (ℕ → Pts) → List Call → Type 0) (addresses : M → List Address) where
+module _ {M : Type 0} (stands : M → Setup → (ℕ → PayloadTypes) → List Call → Type 0) (addresses : M → List Address) where
   -- By the time that so many pauses were made there was given at the addresses what some mixer had given that stood for these calls.
-  pub record WereGivenBy (pauses : ℕ) (m : M) (s : Setup) (pts : ℕ → Pts) (calls : List Call) : Type 0 where
+  pub record WereGivenBy (pauses : ℕ) (m : M) (s : Setup) (payload_types : ℕ → PayloadTypes) (calls : List Call) : Type 0 where
     pub other : M
-    pub stood : stands other s pts calls
+    pub stood : stands other s payload_types calls
     pub gave : addresses_by pauses (addresses m) ≡ addresses other
 
   -- So of each turn, before the pause behind it: k pauses were made since this count before the turn k, from 0 on; so long as pauses
   -- are counted.
-  abbrev pub AreInTurn : (paused : ℕ) → M → Setup → (ℕ → Pts) → List Call → Type 0
-  AreInTurn paused m s pts calls = (k : ℕ) → k < turns_made calls → paused + k < last_count → WereGivenBy (paused + k) m s pts (up_to_turn (suc k) calls)
+  abbrev pub AreInTurn : (paused : ℕ) → M → Setup → (ℕ → PayloadTypes) → List Call → Type 0
+  AreInTurn paused m s payload_types calls = (k : ℕ) → k < turns_made calls → paused + k < last_count → WereGivenBy (paused + k) m s payload_types (up_to_turn (suc k) calls)

@@ -9,13 +9,13 @@ use Rattle.live_leg.specs.Items as item
 use Rattle.live_leg.specs.Items.{Item, has_fault, text_in, texts_in}
 use Rattle.mix_loop.specs.Addresses.{Address}
 use Rattle.mix_loop.specs.Mixers.{Keeps}
-use Rattle.live_loop.specs.declared.gathering.Advanced.{Advanced}
-use Rattle.live_loop.specs.declared.gathering.Advanced.TheVariants as advanced
-use Rattle.live_loop.specs.declared.gathering.Looked.{Looked}
-use Rattle.live_loop.specs.declared.gathering.Looked.TheVariants.{Text, Seen, Silent, End, Fault, Quit, Nothing}
+use Rattle.live_loop.specs.declared.offers.StepAnswer.{StepAnswer}
+use Rattle.live_loop.specs.declared.offers.StepAnswer.TheVariants as advanced
+use Rattle.live_loop.specs.declared.offers.PopAnswer.{PopAnswer}
+use Rattle.live_loop.specs.declared.offers.PopAnswer.TheVariants.{Text, Seen, Silent, End, Fault, Quit, Nothing}
 use Rattle.live_loop.specs.declared.ports.LivePort.{LivePort}
-use Rattle.live_loop.specs.Handed.{EndsSilent, HasMarks, IsEnough, IsNext, hand_after, has_end, is_blocked_after}
-use Rattle.rtt_base.specs.declared.text_packets.Pts.{Pts}
+use Rattle.live_loop.specs.Handed.{EndsSilent, HasSignals, IsEnough, IsNext, hand_after, has_end, is_blocked_after}
+use Rattle.rtt_base.specs.declared.text_packets.PayloadTypes.{PayloadTypes}
 
 -- the mixer's calls with these offers behind them, newest first
 abbrev pub with_offers : List Chunk → List Call → List Call
@@ -69,7 +69,7 @@ module _ {I : Type 0} where
       (new.inlet ≡ old.inlet) × (new.leg ≡ old.leg) × (new.ended ≡ old.ended) × (new.failed ≡ old.failed) × (chunk_of new.hand ≡ chunk_of old.hand)
 
   -- an item was popped that is no text
-  pub record PullsMark (popped : I → List Item) (old new : LivePort I) (x : Item) (ended failed : Bool) : Type 0 where
+  pub record PullsSignal (popped : I → List Item) (old new : LivePort I) (x : Item) (ended failed : Bool) : Type 0 where
     pub more : IsMore popped old new x
     pub empty : new.full ≡ false
     pub ends : new.ended ≡ ended
@@ -93,70 +93,70 @@ module _ {I : Type 0} where
     pub fails : new.failed ≡ old.failed
 
   -- this was popped of a port with an empty hand
-  abbrev pub Pulls : (I → List Item) → LivePort I → LivePort I → Looked → Type 0
+  abbrev pub Pulls : (I → List Item) → LivePort I → LivePort I → PopAnswer → Type 0
   Pulls popped old new Text = PullsText popped old new
-  Pulls popped old new Seen = PullsMark popped old new item.Seen old.ended old.failed
-  Pulls popped old new Silent = PullsMark popped old new item.Silent old.ended old.failed
-  Pulls popped old new End = PullsMark popped old new item.End true old.failed
-  Pulls popped old new Fault = PullsMark popped old new item.Fault old.ended true
-  Pulls popped old new Quit = PullsMark popped old new item.Quit old.ended old.failed
+  Pulls popped old new Seen = PullsSignal popped old new item.Seen old.ended old.failed
+  Pulls popped old new Silent = PullsSignal popped old new item.Silent old.ended old.failed
+  Pulls popped old new End = PullsSignal popped old new item.End true old.failed
+  Pulls popped old new Fault = PullsSignal popped old new item.Fault old.ended true
+  Pulls popped old new Quit = PullsSignal popped old new item.Quit old.ended old.failed
   Pulls popped old new Nothing = PullsNothing popped old new
 
   -- From these calls on: offers of the leg i were made, and it said n times that all was given.
-  pub record OffersTo {M : Type 0} (popped : I → List Item) (stands : M → Setup → (ℕ → Pts) → List Call → Type 0) (s : Setup) (pts : ℕ → Pts) (calls : List Call) (i n : ℕ) (p : LivePort I) (m : M) : Type 0 where
+  pub record OffersTo {M : Type 0} (popped : I → List Item) (stands : M → Setup → (ℕ → PayloadTypes) → List Call → Type 0) (s : Setup) (payload_types : ℕ → PayloadTypes) (calls : List Call) (i n : ℕ) (p : LivePort I) (m : M) : Type 0 where
     pub offers : List Chunk
     pub next : AreNext s i offers calls
-    pub made : stands m s pts (with_offers offers calls)
-    pub port : PortAt popped s (with_offers offers calls) i (HasMarks n) p
+    pub made : stands m s payload_types (with_offers offers calls)
+    pub port : PortAt popped s (with_offers offers calls) i (HasSignals n) p
 
   -- The same before a turn, for which it is enough.
-  pub record GatheredTo {M : Type 0} (popped : I → List Item) (stands : M → Setup → (ℕ → Pts) → List Call → Type 0) (s : Setup) (pts : ℕ → Pts) (calls : List Call) (i n : ℕ) (p : LivePort I) (m : M) : Type 0 where
+  pub record GatheredTo {M : Type 0} (popped : I → List Item) (stands : M → Setup → (ℕ → PayloadTypes) → List Call → Type 0) (s : Setup) (payload_types : ℕ → PayloadTypes) (calls : List Call) (i n : ℕ) (p : LivePort I) (m : M) : Type 0 where
     pub offers : List Chunk
     pub next : AreNext s i offers calls
-    pub made : stands m s pts (with_offers offers calls)
-    pub port : PortAt popped s (with_offers offers calls) i (HasMarks n) p
+    pub made : stands m s payload_types (with_offers offers calls)
+    pub port : PortAt popped s (with_offers offers calls) i (HasSignals n) p
     pub fresh : p.failed ≡ false → PortAt popped s (with_offers offers calls) i (IsEnough (is_blocked_after s i (with_offers offers calls)) n) p
 
   -- whatever calls were made before
-  abbrev pub Gathered : {M : Type 0} → (I → List Item) → (M → Setup → (ℕ → Pts) → List Call → Type 0) → LivePort I → LivePort I → M → M → Type 0
+  abbrev pub Gathered : {M : Type 0} → (I → List Item) → (M → Setup → (ℕ → PayloadTypes) → List Call → Type 0) → LivePort I → LivePort I → M → M → Type 0
   Gathered popped stands p p' m m' =
-      (s : Setup) (pts : ℕ → Pts) (calls : List Call) (n : ℕ) → stands m s pts calls → PortAt popped s calls p.leg (HasMarks n) p
-      → GatheredTo popped stands s pts calls p.leg n p' m'
+      (s : Setup) (payload_types : ℕ → PayloadTypes) (calls : List Call) (n : ℕ) → stands m s payload_types calls → PortAt popped s calls p.leg (HasSignals n) p
+      → GatheredTo popped stands s payload_types calls p.leg n p' m'
 
   -- whatever calls were made before, and however often that was said
-  abbrev pub Goes : {M : Type 0} → (ℕ → ℕ) → (I → List Item) → (M → Setup → (ℕ → Pts) → List Call → Type 0) → LivePort I → LivePort I → M → M → Type 0
+  abbrev pub Goes : {M : Type 0} → (ℕ → ℕ) → (I → List Item) → (M → Setup → (ℕ → PayloadTypes) → List Call → Type 0) → LivePort I → LivePort I → M → M → Type 0
   Goes f popped stands p p' m m' =
-      (s : Setup) (pts : ℕ → Pts) (calls : List Call) (n : ℕ) → stands m s pts calls → PortAt popped s calls p.leg (HasMarks n) p
-      → OffersTo popped stands s pts calls p.leg (f n) p' m'
+      (s : Setup) (payload_types : ℕ → PayloadTypes) (calls : List Call) (n : ℕ) → stands m s payload_types calls → PortAt popped s calls p.leg (HasSignals n) p
+      → OffersTo popped stands s payload_types calls p.leg (f n) p' m'
 
   -- the last text that was offered was not taken
-  pub record BlockedTo {M : Type 0} (popped : I → List Item) (stands : M → Setup → (ℕ → Pts) → List Call → Type 0) (s : Setup) (pts : ℕ → Pts) (calls : List Call) (i n : ℕ) (p : LivePort I) (m : M) : Type 0 where
-    pub goes : OffersTo popped stands s pts calls i n p m
+  pub record BlockedTo {M : Type 0} (popped : I → List Item) (stands : M → Setup → (ℕ → PayloadTypes) → List Call → Type 0) (s : Setup) (payload_types : ℕ → PayloadTypes) (calls : List Call) (i n : ℕ) (p : LivePort I) (m : M) : Type 0 where
+    pub goes : OffersTo popped stands s payload_types calls i n p m
     pub blocked : is_blocked_after s i (with_offers goes.offers calls) ≡ true
 
-  abbrev pub Blocks : {M : Type 0} → (I → List Item) → (M → Setup → (ℕ → Pts) → List Call → Type 0) → LivePort I → LivePort I → M → M → Type 0
+  abbrev pub Blocks : {M : Type 0} → (I → List Item) → (M → Setup → (ℕ → PayloadTypes) → List Call → Type 0) → LivePort I → LivePort I → M → M → Type 0
   Blocks popped stands p p' m m' =
-      (s : Setup) (pts : ℕ → Pts) (calls : List Call) (n : ℕ) → stands m s pts calls → PortAt popped s calls p.leg (HasMarks n) p
-      → BlockedTo popped stands s pts calls p.leg n p' m'
+      (s : Setup) (payload_types : ℕ → PayloadTypes) (calls : List Call) (n : ℕ) → stands m s payload_types calls → PortAt popped s calls p.leg (HasSignals n) p
+      → BlockedTo popped stands s payload_types calls p.leg n p' m'
 
   -- the link had nothing, and that is the last item
-  pub record SilentTo {M : Type 0} (popped : I → List Item) (stands : M → Setup → (ℕ → Pts) → List Call → Type 0) (s : Setup) (pts : ℕ → Pts) (calls : List Call) (i n : ℕ) (p : LivePort I) (m : M) : Type 0 where
-    pub goes : OffersTo popped stands s pts calls i n p m
+  pub record SilentTo {M : Type 0} (popped : I → List Item) (stands : M → Setup → (ℕ → PayloadTypes) → List Call → Type 0) (s : Setup) (payload_types : ℕ → PayloadTypes) (calls : List Call) (i n : ℕ) (p : LivePort I) (m : M) : Type 0 where
+    pub goes : OffersTo popped stands s payload_types calls i n p m
     pub silent : EndsSilent goes.port.before
 
-  abbrev pub Silences : {M : Type 0} → (ℕ → ℕ) → (I → List Item) → (M → Setup → (ℕ → Pts) → List Call → Type 0) → LivePort I → LivePort I → M → M → Type 0
+  abbrev pub Silences : {M : Type 0} → (ℕ → ℕ) → (I → List Item) → (M → Setup → (ℕ → PayloadTypes) → List Call → Type 0) → LivePort I → LivePort I → M → M → Type 0
   Silences f popped stands p p' m m' =
-      (s : Setup) (pts : ℕ → Pts) (calls : List Call) (n : ℕ) → stands m s pts calls → PortAt popped s calls p.leg (HasMarks n) p
-      → SilentTo popped stands s pts calls p.leg (f n) p' m'
+      (s : Setup) (payload_types : ℕ → PayloadTypes) (calls : List Call) (n : ℕ) → stands m s payload_types calls → PortAt popped s calls p.leg (HasSignals n) p
+      → SilentTo popped stands s payload_types calls p.leg (f n) p' m'
 
-  abbrev pub GoesOn : {M : Type 0} → (ℕ → ℕ) → (I → List Item) → (M → Setup → (ℕ → Pts) → List Call → Type 0) → LivePort I → LivePort I → M → M → Type 0
+  abbrev pub GoesOn : {M : Type 0} → (ℕ → ℕ) → (I → List Item) → (M → Setup → (ℕ → PayloadTypes) → List Call → Type 0) → LivePort I → LivePort I → M → M → Type 0
   GoesOn f popped stands p p' m m' = (p'.full ≡ false) × Goes f popped stands p p' m m'
 
-  abbrev pub Retries : {M : Type 0} → (I → List Item) → (M → Setup → (ℕ → Pts) → List Call → Type 0) → LivePort I → LivePort I → M → M → Bool → Type 0
+  abbrev pub Retries : {M : Type 0} → (I → List Item) → (M → Setup → (ℕ → PayloadTypes) → List Call → Type 0) → LivePort I → LivePort I → M → M → Bool → Type 0
   Retries popped stands p p' m m' true = GoesOn (λ n. n) popped stands p p' m m'
   Retries popped stands p p' m m' false = Blocks popped stands p p' m m'
 
-  abbrev pub Advances : {M : Type 0} → (I → List Item) → (M → Setup → (ℕ → Pts) → List Call → Type 0) → LivePort I → LivePort I → M → M → Advanced → Type 0
+  abbrev pub Advances : {M : Type 0} → (I → List Item) → (M → Setup → (ℕ → PayloadTypes) → List Call → Type 0) → LivePort I → LivePort I → M → M → StepAnswer → Type 0
   Advances popped stands p p' m m' advanced.Going = GoesOn (λ n. n) popped stands p p' m m'
   Advances popped stands p p' m m' advanced.Seen = GoesOn suc popped stands p p' m m'
   Advances popped stands p p' m m' advanced.Silent = (p'.full ≡ false) × Silences suc popped stands p p' m m'
@@ -164,7 +164,7 @@ module _ {I : Type 0} where
   Advances popped stands p p' m m' advanced.Blocked = Blocks popped stands p p' m m'
 
   -- where a leg was asked since the last turn, and has said so often that all was given
-  pub record IsGathering {M : Type 0} (popped : I → List Item) (began : I → I → Type 0) (stands : M → Setup → (ℕ → Pts) → List Call → Type 0) (legs turns : M → ℕ) (addresses : M → List Address) (takes : ℕ) (p p' : LivePort I) (m m' : M) : Type 0 where
+  pub record IsGathering {M : Type 0} (popped : I → List Item) (began : I → I → Type 0) (stands : M → Setup → (ℕ → PayloadTypes) → List Call → Type 0) (legs turns : M → ℕ) (addresses : M → List Address) (takes : ℕ) (p p' : LivePort I) (m m' : M) : Type 0 where
     pub empty : p'.full ≡ false
     pub same : p'.leg ≡ p.leg
     pub grew : Grew popped began p p'
@@ -172,5 +172,5 @@ module _ {I : Type 0} where
     pub goes : Goes (λ n. takes + n) popped stands p p' m m'
 
 -- what becomes of a text that was offered
-abbrev pub after_offer : Bool → Advanced
+abbrev pub after_offer : Bool → StepAnswer
 after_offer taken = if taken then advanced.Going else advanced.Blocked

@@ -2,8 +2,8 @@
 ghost use Rattle.std.specs.Prelude.{◌≡◌};
 ghost use Rattle.stream_spec.specs.Ready.{chunk_of};
 
-use crate::pops::Pops;
-use item_lanes::Lane;
+use crate::pops::Consumer;
+use item_lanes::Worker;
 use link_io::LinkIn;
 use live_leg::{ItemKind, LegItem, LinkLeg};
 use mix_loop::copy_chunk;
@@ -20,7 +20,7 @@ fn hand_out(item: &LegItem, chunk: &mut Chunk) -> ItemKind
     item.kind
 }
 
-impl<L: LinkIn, G: Gate> Pops for Lane<LegItem, LinkLeg<L>, G> {
+impl<L: LinkIn, G: Gate> Consumer for Worker<LegItem, LinkLeg<L>, G> {
     ghost use Rattle.item_lanes.specs.Lanes.{LaneFollows, popped_of};
     ghost use Rattle.live_leg.specs.Items.{items_of};
     ghost use Rattle.live_leg.specs.Stands.{LegGave};
@@ -31,7 +31,7 @@ impl<L: LinkIn, G: Gate> Pops for Lane<LegItem, LinkLeg<L>, G> {
 
     /// What is given was popped. That the queue is asked is tested.
     fn pop<R: Wait>(&mut self, rt: &R, chunk: &mut Chunk, at: &mut u64) -> Option<ItemKind> {
-        match Lane::pop(self, rt) {
+        match Worker::pop(self, rt) {
             Some(item) => {
                 let kind = hand_out(&item, chunk);
                 *at = item.at;
@@ -44,6 +44,6 @@ impl<L: LinkIn, G: Gate> Pops for Lane<LegItem, LinkLeg<L>, G> {
 
     /// That a leg without a thread is stepped is tested.
     fn wait<R: Wait>(&mut self, rt: &R) {
-        Lane::wait(self, rt);
+        Worker::wait(self, rt);
     }
 }

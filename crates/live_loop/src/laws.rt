@@ -1,10 +1,10 @@
 //! A law of a live call.
 ghost use Rattle.live_loop.specs.Begun.{MayBegin};
 
-use crate::pops::Pops;
-use mix_loop::Mixes;
+use crate::pops::Consumer;
+use mix_loop::MixerCalls;
 
 /// Where all legs came and nothing was popped of them, turns may begin.
-pub fn turns_may_begin<I: Pops, M: Mixes>()
+pub fn turns_may_begin<I: Consumer, M: MixerCalls>()
     ensures { MayBegin I.popped M.stands }
 {}

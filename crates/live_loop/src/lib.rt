@@ -2,8 +2,8 @@
 #![tactic(auto)]
 
 mod clocks;
-mod draining;
-mod gathering;
+mod drains;
+mod offers;
 mod lanes;
 mod laws;
 mod moments;
@@ -13,12 +13,12 @@ mod ports;
 mod turns;
 
 pub use clocks::TurnClock;
-pub use draining::drain_all;
+pub use drains::drain_all;
 pub use laws::turns_may_begin;
-pub use pops::Pops;
+pub use pops::Consumer;
 pub use port_lists::{inlets_of, ports_over};
 pub use ports::LivePort;
-pub use turns::{Turned, take_turns};
+pub use turns::{TurnsEnd, take_turns};
 
 #[cfg(test)]
 mod tests;

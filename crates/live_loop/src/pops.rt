@@ -9,7 +9,7 @@ use rtt_base::Chunk;
 use std::sync::Wait;
 
 /// The end of a leg's queue at which its items are popped.
-pub trait Pops {
+pub trait Consumer {
     /// What was popped, oldest first.
     ghost popped: { Self → List Item };
 

@@ -4,13 +4,13 @@ ghost use Rattle.item_lanes.specs.Lanes.{AreNew};
 ghost use Rattle.live_leg.specs.Stands.{LegGave, LegStands};
 ghost use Rattle.live_loop.specs.Walks.{AreAt};
 
-use crate::{LivePort, Turned, drain_all, inlets_of, ports_over, take_turns};
-use ear::EarConf;
-use item_lanes::{Lane, LaneRoom, Started, join_lanes, keep_lanes, start_lanes};
-use link_io::{Beat, Came, LinkIn, Links, MemIn, MemLinks, Planned};
-use live_leg::{LegConf, LegItem, LinkLeg};
-use mix_loop::Mixes;
-use rtt_base::{Bytes, Chunk, Full, NoMemory, Pts};
+use crate::{LivePort, TurnsEnd, drain_all, inlets_of, ports_over, take_turns};
+use ear::EarSettings;
+use item_lanes::{Worker, WorkerRoom, WorkerSet, join_lanes, keep_lanes, start_lanes};
+use link_io::{Beat, Came, LinkIn, Links, MemIn, MemLinks, PlannedTake};
+use live_leg::{LegSettings, LegItem, LinkLeg};
+use mix_loop::MixerCalls;
+use rtt_base::{Bytes, Chunk, Full, NoMemory, PayloadTypes};
 use rtt_io::StillGate;
 use std::alloc::Global;
 use std::process::Abort;
@@ -22,7 +22,7 @@ use std::thread::{Scope, Threads};
 
 // Takes each text, and counts them and the turns. It stands for no calls.
 #[derive(Drop)]
-struct Counting {
+struct CountMixer {
     legs: usize,
     taken: u64,
     turns: u64,
@@ -32,16 +32,16 @@ struct Counting {
     first: u64,
 }
 
-impl Mixes for Counting {
+impl MixerCalls for CountMixer {
     ghost use Rattle.std.specs.Prelude.{◌^◌, []};
 
     type Fault = NoMemory;
 
     type Clock = MemLinks;
 
-    ghost stands = { λ m s pts calls. ⊥ };
+    ghost stands = { λ m s payload_types calls. ⊥ };
 
-    ghost halted = { λ m s pts calls now. Unit {0} };
+    ghost halted = { λ m s payload_types calls now. Unit {0} };
 
     ghost legs = { λ m. m.legs };
 
@@ -95,7 +95,7 @@ fn plan_typed(alloc: Global, link: &mut MemIn, count: u16, at: u32) -> Result<()
     for number in 0..count {
         let mut octets = Bytes::new(alloc);
         octets.append(&typed(number))?;
-        link.plan(Planned {
+        link.plan(PlannedTake {
             at,
             came: Came::Datagram,
             octets,
@@ -109,7 +109,7 @@ fn link(alloc: Global, count: u16, closes: bool) -> Result<MemIn, NoMemory> {
     let mut link = MemIn::new(alloc, 5001);
     plan_typed(alloc, &mut link, count, 100)?;
     if closes {
-        link.plan(Planned {
+        link.plan(PlannedTake {
             at: 200,
             came: Came::Closed,
             octets: Bytes::new(alloc),
@@ -118,14 +118,14 @@ fn link(alloc: Global, count: u16, closes: bool) -> Result<MemIn, NoMemory> {
     Ok(link)
 }
 
-type AnnLane = Lane<LegItem, LinkLeg<MemIn>, StillGate>;
+type AnnLane = Worker<LegItem, LinkLeg<MemIn>, StillGate>;
 
 type AnnPort = LivePort<AnnLane>;
 
 // How the turns of a call ended, how many there were, and how many texts were taken.
 #[derive(Clone, Copy, PartialEq)]
-struct Ran {
-    turned: Turned<NoMemory>,
+struct TurnCount {
+    turned: TurnsEnd<NoMemory>,
     turns: u64,
     taken: u64,
     moments: [u64; 3],
@@ -136,10 +136,10 @@ struct Ran {
 fn turn_and_drain<R: Wait>(
     rt: &R,
     ports: &mut [AnnPort],
-    mixer: &mut Counting,
+    mixer: &mut CountMixer,
     world: &mut MemLinks,
     stop: &AtomicBool,
-) -> Turned<NoMemory>
+) -> TurnsEnd<NoMemory>
     requires at { AreAt ports.old }
     requires legs { mixer.old.legs ≡ length ports.old }
     requires none { mixer.old.turns ≡ 0 }
@@ -163,10 +163,10 @@ fn alone(alloc: Global, leg: LinkLeg<MemIn>) -> Option<Vec<LinkLeg<MemIn>>>
     }
 }
 
-const ANN: LegConf = LegConf {
-    ear: EarConf {
+const ANN: LegSettings = LegSettings {
+    ear: EarSettings {
         ssrc: 1001,
-        pts: Pts { t140: 98, red: 100 },
+        payload_types: PayloadTypes { t140: 98, red: 100 },
         wait: 1000,
     },
     follow: false,
@@ -187,11 +187,11 @@ fn ann(alloc: Global, link: MemIn, stop: &Arc<AtomicBool, Global>) -> Option<Vec
 }
 
 // A mixer of so many legs.
-fn new_mixer(legs: usize) -> Counting
+fn new_mixer(legs: usize) -> CountMixer
     ensures legs { result.legs ≡ legs }
     ensures none { result.turns ≡ 0 }
 {
-    Counting {
+    CountMixer {
         legs,
         taken: 0,
         turns: 0,
@@ -201,9 +201,9 @@ fn new_mixer(legs: usize) -> Counting
 }
 
 // What this mixer counted of turns that ended so.
-fn ran_of(turned: Turned<NoMemory>, mixer: Counting) -> Ran {
+fn ran_of(turned: TurnsEnd<NoMemory>, mixer: CountMixer) -> TurnCount {
     let moments = mixer.moments;
-    Ran {
+    TurnCount {
         turned,
         turns: mixer.turns,
         taken: mixer.taken,
@@ -213,12 +213,12 @@ fn ran_of(turned: Turned<NoMemory>, mixer: Counting) -> Ran {
 }
 
 // A call of one leg, which begins at this moment.
-fn run<R: Threads + Wait>(rt: &R, alloc: Global, link: MemIn, begin: u64) -> Option<Ran> {
+fn run<R: Threads + Wait>(rt: &R, alloc: Global, link: MemIn, begin: u64) -> Option<TurnCount> {
     let Ok(stop) = Arc::new(alloc, AtomicBool::new(false)) else {
         return None;
     };
     let legs = ann(alloc, link, &stop)?;
-    let Ok(room) = LaneRoom::new(alloc, legs.len()) else {
+    let Ok(room) = WorkerRoom::new(alloc, legs.len()) else {
         return None;
     };
     let Ok(ports) = Vec::with_capacity(alloc, legs.len()) else {
@@ -233,7 +233,7 @@ fn run<R: Threads + Wait>(rt: &R, alloc: Global, link: MemIn, begin: u64) -> Opt
     let mut mixer = new_mixer(legs.len());
     let mut world = MemLinks::new(alloc);
     world.pause_until(begin);
-    let Started {
+    let WorkerSet {
         lanes,
         back: joined,
     } = keep_lanes(StillGate, legs, room);
@@ -250,7 +250,7 @@ fn call<R: Threads + Wait>(
     alloc: Global,
     count: u16,
     closes: bool,
-) -> Result<Ran, NoMemory> {
+) -> Result<TurnCount, NoMemory> {
     let link = link(alloc, count, closes)?;
     match run(rt, alloc, link, 0) {
         Some(ran) => Ok(ran),
@@ -261,7 +261,7 @@ fn call<R: Threads + Wait>(
 #[test]
 fn a_call_ends_where_its_links_are_closed(rt: HostRuntime) -> Result<(), Fail> {
     let ran = call(&rt, rt.alloc(), 1, true)?;
-    assert!(rt; ran.turned == Turned::Closed);
+    assert!(rt; ran.turned == TurnsEnd::Closed);
     assert!(rt; ran.taken == 1);
     Ok(())
 }
@@ -269,7 +269,7 @@ fn a_call_ends_where_its_links_are_closed(rt: HostRuntime) -> Result<(), Fail> {
 #[test]
 fn all_that_came_is_offered_before_the_first_turn(rt: HostRuntime) -> Result<(), Fail> {
     let ran = call(&rt, rt.alloc(), 20, true)?;
-    assert!(rt; ran.turned == Turned::Closed);
+    assert!(rt; ran.turned == TurnsEnd::Closed);
     assert!(rt; ran.turns == 0);
     assert!(rt; ran.taken == 20);
     Ok(())
@@ -278,7 +278,7 @@ fn all_that_came_is_offered_before_the_first_turn(rt: HostRuntime) -> Result<(),
 #[test]
 fn a_silent_leg_ends_with_the_turns(rt: HostRuntime) -> Result<(), Fail> {
     let ran = call(&rt, rt.alloc(), 1, false)?;
-    assert!(rt; ran.turned == Turned::Done);
+    assert!(rt; ran.turned == TurnsEnd::Done);
     assert!(rt; ran.turns == 5);
     assert!(rt; ran.taken == 1);
     Ok(())
@@ -287,7 +287,7 @@ fn a_silent_leg_ends_with_the_turns(rt: HostRuntime) -> Result<(), Fail> {
 #[test]
 fn a_flood_holds_no_turn_up(rt: HostRuntime) -> Result<(), Fail> {
     let ran = call(&rt, rt.alloc(), 1500, false)?;
-    assert!(rt; ran.turned == Turned::Done);
+    assert!(rt; ran.turned == TurnsEnd::Done);
     assert!(rt; ran.turns == 5);
     assert!(rt; ran.taken == 1280);
     Ok(())
@@ -306,7 +306,7 @@ fn turns_are_at_the_ticks_of_the_clock(rt: HostRuntime) -> Result<(), Fail> {
 // A link that has nothing at moment 0, and gives a text at moment 50.
 fn link_behind_a_silence(alloc: Global) -> Result<MemIn, NoMemory> {
     let mut link = MemIn::new(alloc, 5001);
-    link.plan(Planned {
+    link.plan(PlannedTake {
         at: 0,
         came: Came::Quiet,
         octets: Bytes::new(alloc),
@@ -352,8 +352,8 @@ fn start_alone<'s, 'e, R: Abort + Wait + Sync>(
     requires one { vec_len legs ≡ 1 }
     ensures { vec_len result ≡ 1 }
 {
-    let room = LaneRoom::new(alloc, 1).expect(rt, "room for a lane");
-    let Started { lanes, back: _ } = start_lanes(scope, rt, StillGate, stack, legs, room);
+    let room = WorkerRoom::new(alloc, 1).expect(rt, "room for a lane");
+    let WorkerSet { lanes, back: _ } = start_lanes(scope, rt, StillGate, stack, legs, room);
     lanes
 }
 
@@ -364,7 +364,7 @@ fn run_two_in<'s, 'e, R: Abort + Threads + Wait + Sync>(
     alloc: Global,
     links: (MemIn, MemIn),
     stacks: (usize, usize),
-) -> Ran {
+) -> TurnCount {
     let stop = Arc::new(alloc, AtomicBool::new(false)).expect(rt, "a stop word");
     let first = ann(alloc, links.0, &stop).expect(rt, "the first leg");
     let second = ann(alloc, links.1, &stop).expect(rt, "the second leg");
@@ -396,10 +396,10 @@ fn run_two<R: Abort + Threads + Wait + Sync>(
     rt: &R,
     alloc: Global,
     stacks: (usize, usize),
-) -> Result<Ran, NoMemory> {
+) -> Result<TurnCount, NoMemory> {
     let first = link(alloc, 20, true)?;
     let second = link_behind_a_silence(alloc)?;
-    Ok(thread::scope(thread::scope_env(), rt, |scope| -> Ran {
+    Ok(thread::scope(thread::scope_env(), rt, |scope| -> TurnCount {
         run_two_in(scope, rt, alloc, (first, second), stacks)
     }))
 }
@@ -407,7 +407,7 @@ fn run_two<R: Abort + Threads + Wait + Sync>(
 #[test]
 fn a_call_is_the_same_whichever_leg_has_a_thread(rt: HostRuntime) -> Result<(), Fail> {
     let ran = run_two(&rt, rt.alloc(), (STACK, STACK))?;
-    assert!(rt; ran.turned == Turned::Done);
+    assert!(rt; ran.turned == TurnsEnd::Done);
     assert!(rt; ran.first == 21);
     assert!(rt; run_two(&rt, rt.alloc(), (STACK, REFUSED))? == ran);
     assert!(rt; run_two(&rt, rt.alloc(), (REFUSED, STACK))? == ran);

@@ -9,14 +9,14 @@ ghost use Rattle.live_loop.specs.Walks.{AllGathered, AllGrew, AreAt, HaltsThen, 
 
 use crate::clocks::TurnClock;
 use crate::moments::{first_tick, next_tick};
-use crate::pops::Pops;
+use crate::pops::Consumer;
 use crate::ports::LivePort;
-use mix_loop::Mixes;
+use mix_loop::MixerCalls;
 use std::sync::Wait;
 
 /// How the turns of a live call ended.
 #[derive(Clone, Copy, Debug, PartialEq, Eq)]
-pub enum Turned<T> {
+pub enum TurnsEnd<T> {
     /// All turns were made.
     Done,
     /// All links are closed, and nothing is left.
@@ -28,7 +28,7 @@ pub enum Turned<T> {
 }
 
 /// Each leg offers what it can before the turn of this moment, in leg order.
-fn gather_all<I: Pops, M: Mixes, R: Wait>(
+fn gather_all<I: Consumer, M: MixerCalls, R: Wait>(
     rt: &R,
     ports: &mut [LivePort<I>],
     mixer: &mut M,
@@ -69,7 +69,7 @@ fn all_spent<I>(ports: &[LivePort<I>]) -> bool
 }
 
 /// Whether each leg's end was popped, nothing is in a hand, and the mixer is idle.
-fn is_over<I, M: Mixes>(ports: &[LivePort<I>], mixer: &M) -> bool
+fn is_over<I, M: MixerCalls>(ports: &[LivePort<I>], mixer: &M) -> bool
     ensures spent { result ≡ true → list_all is_spent ports.now ≡ true }
     ensures idle { result ≡ true → TellsIdle M.stands mixer.now true }
     ensures goes_on { result ≡ false → list_all is_spent ports.now ≡ true → TellsIdle M.stands mixer.now false }
@@ -82,14 +82,14 @@ fn is_over<I, M: Mixes>(ports: &[LivePort<I>], mixer: &M) -> bool
 
 /// Makes so many turns, one at each multiple of `tick` milliseconds of the clock, or later where what is done before takes longer;
 /// unless a link fails, or all are closed and nothing is left. It pauses once a turn, when all that the turn sends was given.
-pub fn take_turns<I: Pops, M: Mixes<Clock = C::Clock>, C: TurnClock, R: Wait>(
+pub fn take_turns<I: Consumer, M: MixerCalls<Clock = C::Clock>, C: TurnClock, R: Wait>(
     rt: &R,
     ports: &mut [LivePort<I>],
     mixer: &mut M,
     clock: &mut C,
     tick: u64,
     turns: u64,
-) -> Turned<M::Fault>
+) -> TurnsEnd<M::Fault>
     requires at { AreAt ports.old }
     requires legs { M.legs mixer.old ≡ length ports.old }
     requires none { M.turns mixer.old ≡ 0 }
@@ -107,8 +107,8 @@ pub fn take_turns<I: Pops, M: Mixes<Clock = C::Clock>, C: TurnClock, R: Wait>(
     ensures addresses { ports_of (M.addresses mixer.new) ≡ ports_of (M.addresses mixer.old) }
     ensures faulted { WasFaulted result ports.new }
     ensures unsent { WasStopped M.unsent result mixer.new }
-    ensures pauses { result ≡ Turned.Done → IsPaused turns (C.pauses clock.old) (C.pauses clock.new) }
-    ensures paced { C.tells → result ≡ Turned.Done → IsPaced turns tick (C.moment clock.old) (C.moment clock.new) }
+    ensures pauses { result ≡ TurnsEnd.Done → IsPaused turns (C.pauses clock.old) (C.pauses clock.new) }
+    ensures paced { C.tells → result ≡ TurnsEnd.Done → IsPaced turns tick (C.moment clock.old) (C.moment clock.new) }
     ensures passed { OnlyTimePassed C.TurnClock clock.old clock.new }
 {
     let began = clock.clock_now();
@@ -116,22 +116,22 @@ pub fn take_turns<I: Pops, M: Mixes<Clock = C::Clock>, C: TurnClock, R: Wait>(
     for k in 0..turns {
         gather_all(rt, ports, mixer, due);
         match first_failed(ports) {
-            Some(leg) => return Turned::Faulted(leg),
+            Some(leg) => return TurnsEnd::Faulted(leg),
             None => {}
         }
         if is_over(ports, mixer) {
-            return Turned::Closed;
+            return TurnsEnd::Closed;
         }
         let now = clock.clock_now();
         match mixer.turn(now, &clock.clock_beat()) {
             Ok(()) => {}
-            Err(fault) => return Turned::Stopped(fault),
+            Err(fault) => return TurnsEnd::Stopped(fault),
         }
         due = next_tick(due, now, tick);
         clock.sleep_until(due);
     }
     if is_over(ports, mixer) {
-        return Turned::Closed;
+        return TurnsEnd::Closed;
     }
-    Turned::Done
+    TurnsEnd::Done
 }

@@ -1,5 +1,5 @@
 -- In a conference of links each leg's input is a port of its own, each leg has a place, and none comes later or goes.
-use Rattle.file_spec.specs.declared.conf_lines.Form.TheVariants.{Links}
+use Rattle.file_spec.specs.declared.conference_lines.Form.TheVariants.{Links}
 use Rattle.mixer_spec.proofs.Conferences.{accepted_law}
 use Rattle.serve_spec.proofs.LinksStay.{links_stay}
 use Rattle.serve_spec.proofs.LinksStay as stay

@@ -3,27 +3,27 @@ use Rattle.std.proofs.Common.{◌≡◌, ◌<◌, ◌≤◌, ◌+◌, ◌⊎◌,
 use Rattle.std.specs.Prelude.{Option, slice_get}
 use Rattle.std.proofs.lemmas.List.{append-nil}
 use Rattle.std.proofs.lemmas.Option.{slice_get_within}
-use Rattle.rtt_base.specs.declared.text_packets.Pts.{Pts}
+use Rattle.rtt_base.specs.declared.text_packets.PayloadTypes.{PayloadTypes}
 use Rattle.rtt_io.specs.Counts.{Rose}
-use Rattle.file_spec.specs.declared.conf_lines.LegLine.{LegLine}
-use Rattle.file_spec.specs.Conf.{Conf}
+use Rattle.file_spec.specs.declared.conference_lines.LegLine.{LegLine}
+use Rattle.file_spec.specs.Conference.{Conference}
 use Rattle.mixer_spec.specs.Setups.{Setup, leg_at, setup, ssrc_of}
 use Rattle.mixer_spec.specs.Table.{Call, Turn, after_calls}
 use Rattle.mixer_turn.specs.declared.batches.Post.{Post}
 use Rattle.mixer_turn.specs.Turns.{posts_at}
-use Rattle.mixer_posts.specs.Streams.{conf_at, pts_at}
+use Rattle.mixer_posts.specs.Streams.{settings_at, payload_types_at}
 use Rattle.mixer_posts.specs.States.{SendingState}
 use Rattle.mixer_posts.specs.Posts.{sent_by, sents_to, with_posts}
 use Rattle.mixer_posts.proofs.Entering.{entered_law, some_sent}
 use Rattle.mixer_posts.proofs.Posting.{with_one}
-use Rattle.live_leg.specs.declared.confs.LegConf.{LegConf}
+use Rattle.live_leg.specs.declared.settings.LegSettings.{LegSettings}
 use Rattle.link_spec.specs.Links.{Takes, is_closed}
 use Rattle.link_io.specs.declared.ends.LinkIn as ins
 use Rattle.link_io.specs.declared.ends.LinkOut as outs
 use Rattle.live_spec.specs.Told.{Hearing}
 use Rattle.view_spec.specs.declared.tallies.Tally.{Tally}
 use Rattle.live_spec.specs.Tally.{tally_by}
-use Rattle.item_lanes.specs.declared.lanes.Lane.{Lane}
+use Rattle.item_lanes.specs.declared.lanes.Worker.{Worker}
 use Rattle.item_lanes.specs.Lanes.{AreNew}
 use Rattle.live_leg.specs.declared.items.LegItem.{LegItem}
 use Rattle.live_leg.specs.declared.legs.LinkLeg.{LinkLeg}
@@ -34,16 +34,16 @@ use Rattle.live_leg.specs.Tallies.{IsTally}
 use Rattle.live_leg.specs.Stories.{hearing_of}
 use Rattle.live_loop.specs.declared.clocks.TurnClock as clocks
 use Rattle.live_loop.specs.declared.ports.LivePort.{LivePort}
-use Rattle.live_loop.specs.declared.turns.Turned.{Turned}
-use Rattle.live_loop.specs.declared.turns.Turned.TheVariants.{Done, Closed, Faulted, Stopped}
+use Rattle.live_loop.specs.declared.turns.TurnsEnd.{TurnsEnd}
+use Rattle.live_loop.specs.declared.turns.TurnsEnd.TheVariants.{Done, Closed, Faulted, Stopped}
 use Rattle.live_loop.specs.Clocks.{ArePaced, AtTicks, RiseTo, StandsPaced, moments_of}
 use Rattle.live_loop.specs.Order.{AreInTurn, up_to_turn}
 use Rattle.live_loop.specs.Walks.{BrokenTo, HaltsThen, RanTo, WasFaulted, WasStopped}
 use Rattle.mix_loop.proofs.Lists.{lt_or_ge}
-use Rattle.serve_spec.specs.Served.{End, IsCutShort, IsServed, given_to, hearing_at, is_followed, live_printed, pts_of}
+use Rattle.serve_spec.specs.Served.{End, IsCutShort, IsServed, given_to, hearing_at, is_followed, live_printed, payload_types_of}
 use Rattle.serve_spec.specs.Served as served
 use Rattle.live_law.specs.Covers.{Covers, as_leg}
-use Rattle.live_law.specs.Served.{IsOfConf}
+use Rattle.live_law.specs.Served.{IsOfConference}
 use Rattle.live_law.proofs.AsLeg.{tally_as}
 use Rattle.live_law.proofs.Covering.{covers}
 use Rattle.live_law.proofs.Served.{broken_law, closed_law, done_law}
@@ -51,16 +51,16 @@ use Rattle.live_law.proofs.Serving.{some_there}
 use Rattle.live_run.specs.declared.far_ends.FarEnds.{FarEnds}
 use Rattle.live_run.specs.declared.faults.LiveFault.{LiveFault}
 use Rattle.live_run.specs.declared.faults.LiveFault.TheVariants.{Link, NoMemory}
-use Rattle.live_run.specs.declared.calls.Called.{Called}
-use Rattle.live_run.specs.declared.tapped.Tapped.{Tapped}
+use Rattle.live_run.specs.declared.calls.CallReturn.{CallReturn}
+use Rattle.live_run.specs.declared.mixer_taps.TappedMixer.{TappedMixer}
 use Rattle.live_run.specs.Calls.{AreAtPorts, AtPorts, EndsAs, FailedAt, GaveInTurn, IsBrokenOff, IsCallOf, IsCalled, IsOfLinks, at_link}
 use Rattle.live_run.specs.Ends.{IsUnsent, addresses_of, packets_in, packets_of}
-use Rattle.live_run.specs.declared.running.Job.{Job}
-use Rattle.live_run.specs.declared.running.Ended.{Ended}
+use Rattle.live_run.specs.declared.threads.CallJob.{CallJob}
+use Rattle.live_run.specs.declared.threads.JobReturn.{JobReturn}
 use Rattle.live_run.specs.Jobs.{GaveFirst, RanAs, popped_in}
 use Rattle.live_run.specs.Mixers.{GivesFor, HaltsGiving, HasAll, all_admitted}
 use Rattle.live_run.specs.Listeners.{HasHeard}
-use Rattle.live_run.specs.Opened.{AreUnused, OpenEnds, OpenLegs, leg_conf_at, link_in}
+use Rattle.live_run.specs.Opened.{AreUnused, OpenEnds, OpenLegs, leg_settings_at, link_in}
 use Rattle.live_run.specs.Spans.{Span}
 use Rattle.live_run.specs.Taps.{HaltsTold, IsUnsentIn, Learns, Notice, Shows, TellsFor, ended_with, notices_by}
 use Rattle.live_run.proofs.Failing.{closed_calm, fault_rose}
@@ -114,18 +114,18 @@ module _ {T : Type 0} (none : T) (holds : ℕ → T → Type 0) (n : ℕ) (each 
   pick_none : (j : ℕ) → n ≤ j → pick j ≡ none
   pick_none j h = picked_none j (lt_or_ge j n) h
 
-hearing_line : (c : Conf) (j : ℕ) (line : LegLine) → leg_at c.legs j ≡ Some line → hearing_at c j ≡ as_leg j (hearing_of (leg_conf_at c line))
+hearing_line : (c : Conference) (j : ℕ) (line : LegLine) → leg_at c.legs j ≡ Some line → hearing_at c j ≡ as_leg j (hearing_of (leg_settings_at c line))
 hearing_line c j line at =
-    let hears : Option LegLine → Hearing = λ l. record { leg = j; ssrc = ssrc_of l; pts = pts_of l; wait = c.wait; follow = is_followed l } in
+    let hears : Option LegLine → Hearing = λ l. record { leg = j; ssrc = ssrc_of l; payload_types = payload_types_of l; wait = c.wait; follow = is_followed l } in
     ap hears at
 
 -- ---- legs that were opened as the first, gave what was popped at these ports, and came back
-module _ {I G : Type 0} (i : ins.Ghosts I) (tells : Type 0) (opened : ℕ → Bool) (c : Conf) (firsts backs : List (LinkLeg I)) (ports : List (LivePort (Lane LegItem (LinkLeg I) G))) (are : OpenLegs i tells opened c firsts)
+module _ {I G : Type 0} (i : ins.Ghosts I) (tells : Type 0) (opened : ℕ → Bool) (c : Conference) (firsts backs : List (LinkLeg I)) (ports : List (LivePort (Worker LegItem (LinkLeg I) G))) (are : OpenLegs i tells opened c firsts)
     (many : length firsts ≡ length c.legs) (many_ports : length ports ≡ length firsts) (many_backs : length backs ≡ length firsts)
-    (gave : (j : ℕ) (p : LivePort (Lane LegItem (LinkLeg I) G)) (first back : LinkLeg I) → slice_get ports j ≡ Some p → slice_get firsts j ≡ Some first → slice_get backs j ≡ Some back → GaveFirst i first back (popped_in p.inlet)) where
+    (gave : (j : ℕ) (p : LivePort (Worker LegItem (LinkLeg I) G)) (first back : LinkLeg I) → slice_get ports j ≡ Some p → slice_get firsts j ≡ Some first → slice_get backs j ≡ Some back → GaveFirst i first back (popped_in p.inlet)) where
   -- the link of the leg j gave this, by which what was popped is the first of what the leg gives
   record TookAt (j : ℕ) (takes : Takes) : Type 0 where
-    pub covering : (p : LivePort (Lane LegItem (LinkLeg I) G)) → slice_get ports j ≡ Some p → Covers (hearing_at c j) takes (popped_in p.inlet)
+    pub covering : (p : LivePort (Worker LegItem (LinkLeg I) G)) → slice_get ports j ≡ Some p → Covers (hearing_at c j) takes (popped_in p.inlet)
     pub taken : tells → (back : LinkLeg I) → slice_get backs j ≡ Some back → i.taken back.link ≡ takes
     pub calm : is_closed takes ≡ true → (back : LinkLeg I) → slice_get backs j ≡ Some back → i.faults back.link ≡ 0
     pub tallied : (back : LinkLeg I) → slice_get backs j ≡ Some back → IsTally back.tally (tally_by (hearing_at c j) takes)
@@ -139,11 +139,11 @@ module _ {I G : Type 0} (i : ins.Ghosts I) (tells : Type 0) (opened : ℕ → Bo
       let w = gave j p.0 first.0 back.0 p.1 first.1 back.1 in
       let o = are j first.0 first.1 line.0 line.1 in
       let takes = w.1.so.takes in
-      let hears : as_leg j (hearing_of first.0.conf) ≡ hearing_at c j = ap (λ (k : LegConf). as_leg j (hearing_of k)) o.conf ∙ sym (hearing_line c j line.0 line.1) in
+      let hears : as_leg j (hearing_of first.0.settings) ≡ hearing_at c j = ap (λ (k : LegSettings). as_leg j (hearing_of k)) o.settings ∙ sym (hearing_line c j line.0 line.1) in
       let here : Covers (hearing_at c j) takes (popped_in p.0.inlet) = subst (λ (h : Hearing). Covers h takes (popped_in p.0.inlet)) hears (covers i j first.0 back.0 (popped_in p.0.inlet ++ w.0) (popped_in p.0.inlet) w.0 w.1 refl) in (
         takes,
         record {
-          covering = λ q e. let same : p.0 ≡ q = cc (sym p.1 ∙ e) in subst (λ (x : LivePort (Lane LegItem (LinkLeg I) G)). Covers (hearing_at c j) takes (popped_in x.inlet)) same here;
+          covering = λ q e. let same : p.0 ≡ q = cc (sym p.1 ∙ e) in subst (λ (x : LivePort (Worker LegItem (LinkLeg I) G)). Covers (hearing_at c j) takes (popped_in x.inlet)) same here;
           taken = λ t x e.
               let same : back.0 ≡ x = cc (sym back.1 ∙ e) in
               subst (λ (b : LinkLeg I). i.taken b.link ≡ takes) same (w.1.so.taken (o.told t).0 ∙ (ap (λ (ts : Takes). takes ++ ts) (o.told t).1 ∙ append-nil takes));
@@ -153,7 +153,7 @@ module _ {I G : Type 0} (i : ins.Ghosts I) (tells : Type 0) (opened : ℕ → Bo
           tallied = λ x e.
               let same : back.0 ≡ x = cc (sym back.1 ∙ e) in
               subst (λ (b : LinkLeg I). IsTally b.tally (tally_by (hearing_at c j) takes)) same
-              (subst (λ (y : Tally). IsTally back.0.tally y) (sym (tally_as j (hearing_of first.0.conf) takes) ∙ ap (λ (h : Hearing). tally_by h takes) hears) w.1.so.tally);
+              (subst (λ (y : Tally). IsTally back.0.tally y) (sym (tally_as j (hearing_of first.0.settings) takes) ∙ ap (λ (h : Hearing). tally_by h takes) hears) w.1.so.tally);
         },
       )
 
@@ -179,7 +179,7 @@ module _ {I G : Type 0} (i : ins.Ghosts I) (tells : Type 0) (opened : ℕ → Bo
       subst (λ (q : ℕ). opened q ≡ true) same (o.told t).2
 
   -- where a fault was popped of one, its link failed
-  pub fault_at : (j : ℕ) (p : LivePort (Lane LegItem (LinkLeg I) G)) → slice_get ports j ≡ Some p → has_fault (popped_in p.inlet) ≡ true → FailedAt (λ (leg : LinkLeg I). i.faults (link_in leg)) backs j
+  pub fault_at : (j : ℕ) (p : LivePort (Worker LegItem (LinkLeg I) G)) → slice_get ports j ≡ Some p → has_fault (popped_in p.inlet) ≡ true → FailedAt (λ (leg : LinkLeg I). i.faults (link_in leg)) backs j
   fault_at j p there fault =
       let low = slice_get_within ports j p there in
       let line = some_leg c.legs j (omega (arith, low, many, many_ports)) in
@@ -189,26 +189,26 @@ module _ {I G : Type 0} (i : ins.Ghosts I) (tells : Type 0) (opened : ℕ → Bo
       (back.0, back.1, subst (λ (n : ℕ). Rose n (i.faults back.0.link)) o.fresh (fault_rose i first.0 back.0 (popped_in p.inlet) (gave j p first.0 back.0 there first.1 back.1) fault))
 
   -- ---- the whole, by the calls of the mixer, and of the tap that was told of it and then showed all
-  module _ {O T K : Type 0} (o : outs.Ghosts O K) (tells_out : tells → (j : ℕ) → j < length c.legs → o.tells) (stands : T → List Notice → Type 0) (m : Tapped (SendingState (FarEnds O)) T) (tap : T) (shows : Learns stands m.tap tap Shows) where
-    abbrev gives : Tapped (SendingState (FarEnds O)) T → Setup → (ℕ → Pts) → List Call → Type 0
+  module _ {O T K : Type 0} (o : outs.Ghosts O K) (tells_out : tells → (j : ℕ) → j < length c.legs → o.tells) (stands : T → List Notice → Type 0) (m : TappedMixer (SendingState (FarEnds O)) T) (tap : T) (shows : Learns stands m.tap tap Shows) where
+    abbrev gives : TappedMixer (SendingState (FarEnds O)) T → Setup → (ℕ → PayloadTypes) → List Call → Type 0
     gives = TellsFor (GivesFor o.tells (packets_in o.given) o.faults) stands
 
-    abbrev halts : Tapped (SendingState (FarEnds O)) T → Setup → (ℕ → Pts) → List Call → ℕ → Type 0
+    abbrev halts : TappedMixer (SendingState (FarEnds O)) T → Setup → (ℕ → PayloadTypes) → List Call → ℕ → Type 0
     halts = HaltsTold (GivesFor o.tells (packets_in o.given) o.faults) (HaltsGiving o.tells (packets_in o.given))
 
     abbrev far : FarEnds O
     far = m.mixer.outbound
 
-    abbrev addresses : Tapped (SendingState (FarEnds O)) T → List Address
+    abbrev addresses : TappedMixer (SendingState (FarEnds O)) T → List Address
     addresses x = addresses_of o.port o.given x.mixer.outbound.links.items
 
     -- the turns of these calls are at ticks, and what they send was given before the pause behind each
     abbrev PacedBy : (span : Span) → List Call → Type 0
     PacedBy span calls = (began : ℕ) × (span.first ≤ began) × (began ≤ span.last) × AtTicks c.tick began (moments_of calls) × RiseTo span.last (moments_of calls) × GaveInTurn c span.pauses (at_link o.given far.links.items) calls
 
-    is_call : (span : Span) (end : End) (calls : List Call) → gives m (setup c) (pts_at c) calls → (tells → PacedBy span calls) → m.short ≡ false
-        → (serves : (takes : ℕ → Takes) (given : ℕ → List (List ℕ)) → IsOfConf popped_in c calls ports takes given → IsServed c takes given end (live_printed c takes given end))
-        → ((takes : ℕ → Takes) (given : ℕ → List (List ℕ)) (w : IsOfConf popped_in c calls ports takes given) → (serves takes given w).table ≡ after_calls (setup c) calls)
+    is_call : (span : Span) (end : End) (calls : List Call) → gives m (setup c) (payload_types_at c) calls → (tells → PacedBy span calls) → m.short ≡ false
+        → (serves : (takes : ℕ → Takes) (given : ℕ → List (List ℕ)) → IsOfConference popped_in c calls ports takes given → IsServed c takes given end (live_printed c takes given end))
+        → ((takes : ℕ → Takes) (given : ℕ → List (List ℕ)) (w : IsOfConference popped_in c calls ports takes given) → (serves takes given w).table ≡ after_calls (setup c) calls)
         → IsCallOf i o (stands tap) tells c span backs far.links.items far.listeners.items end
     is_call span end calls gave_all paced long serves leads =
         let made = gave_all.made in
@@ -216,10 +216,10 @@ module _ {I G : Type 0} (i : ins.Ghosts I) (tells : Type 0) (opened : ℕ → Bo
         let table = after_calls (setup c) calls in
         let given : ℕ → List (List ℕ) = λ j. given_by c table j in
         let sent = made.sent in
-        let same : (j : ℕ) (low : j < length c.legs) → packets_of (conf_at (setup c) (pts_at c j) j) (sents_to (sent.each j low).sources j (sent_by (setup c) calls)) ≡ given j =
-        λ j low. ap (packets_of (conf_at (setup c) (pts_at c j) j)) (entered_law (setup c) calls j (sent.each j low).sources low (sent.each j low).are) in
+        let same : (j : ℕ) (low : j < length c.legs) → packets_of (settings_at (setup c) (payload_types_at c j) j) (sents_to (sent.each j low).sources j (sent_by (setup c) calls)) ≡ given j =
+        λ j low. ap (packets_of (settings_at (setup c) (payload_types_at c j) j)) (entered_law (setup c) calls j (sent.each j low).sources low (sent.each j low).are) in
         let all : length far.links.items ≡ length c.legs = sent.many in
-        let w : IsOfConf popped_in c calls ports takes given = record {
+        let w : IsOfConference popped_in c calls ports takes given = record {
           legs = omega (arith, many, many_ports);
           none = pick_none [] took (length c.legs) took_at;
           covers = λ j p e. (pick_holds [] took (length c.legs) took_at j (let low = slice_get_within ports j p e in omega (arith, low, many, many_ports))).covering p e;
@@ -257,7 +257,7 @@ module _ {I G : Type 0} (i : ins.Ghosts I) (tells : Type 0) (opened : ℕ → Bo
         }
 
     -- what a turn sends was given by the time of the pause behind it
-    gave_in_turn : (paused : ℕ) (calls : List Call) → AreInTurn gives addresses paused m (setup c) (pts_at c) calls → tells → GaveInTurn c paused (at_link o.given far.links.items) calls
+    gave_in_turn : (paused : ℕ) (calls : List Call) → AreInTurn gives addresses paused m (setup c) (payload_types_at c) calls → tells → GaveInTurn c paused (at_link o.given far.links.items) calls
     gave_in_turn paused calls order t k j line made early at =
         let w = order k made early in
         let other = w.other.mixer.outbound in
@@ -269,46 +269,46 @@ module _ {I G : Type 0} (i : ins.Ghosts I) (tells : Type 0) (opened : ℕ → Bo
         was_given (paused + k) o.port o.given far.links.items other.links.items j link.0 w.gave link.1 ∙ ((here.gave link.0 link.1).1 (tells_out t j low) ∙ sent_law c (up_to_turn (suc k) calls) j line here.sources at here.are)
 
     -- turns at the ticks of a clock are those of the conference's tick
-    at_ticks : (known : Type 0) (tick : ℕ) (span : Span) (calls : List Call) → tick ≡ c.tick → (tells → known) → (known → ArePaced tick span.first span.last calls) → AreInTurn gives addresses span.pauses m (setup c) (pts_at c) calls → tells → PacedBy span calls
+    at_ticks : (known : Type 0) (tick : ℕ) (span : Span) (calls : List Call) → tick ≡ c.tick → (tells → known) → (known → ArePaced tick span.first span.last calls) → AreInTurn gives addresses span.pauses m (setup c) (payload_types_at c) calls → tells → PacedBy span calls
     at_ticks known tick span calls same tell paced order t =
         let p = paced (tell t) in
         (p.began, p.behind, p.before, subst (λ (n : ℕ). AtTicks n p.began (moments_of calls)) same p.at, p.told, gave_in_turn span.pauses calls order t)
 
     -- ---- one that broke off
     -- what was given by calls, to the links and by definition
-    given_whole : (calls : List Call) → GivesFor o.tells (packets_in o.given) o.faults m.mixer (setup c) (pts_at c) calls → (j : ℕ) (link : O) (line : LegLine) → slice_get far.links.items j ≡ Some link → leg_at c.legs j ≡ Some line → o.tells
+    given_whole : (calls : List Call) → GivesFor o.tells (packets_in o.given) o.faults m.mixer (setup c) (payload_types_at c) calls → (j : ℕ) (link : O) (line : LegLine) → slice_get far.links.items j ≡ Some link → leg_at c.legs j ≡ Some line → o.tells
         → packets_in o.given link ≡ given_to c (after_calls (setup c) calls) j line
     given_whole calls made j link line e at tell =
         let w = made.sent.each j (leg_within c.legs j line at) in
         (w.gave link e).1 tell ∙ sent_law c calls j line w.sources at w.are
 
     -- what was given by calls and a turn that was not sent to its end
-    given_cut : (calls : List Call) (now : ℕ) → HaltsGiving o.tells (packets_in o.given) m.mixer (setup c) (pts_at c) calls now → (j : ℕ) (link : O) (line : LegLine) → slice_get far.links.items j ≡ Some link → leg_at c.legs j ≡ Some line → o.tells
+    given_cut : (calls : List Call) (now : ℕ) → HaltsGiving o.tells (packets_in o.given) m.mixer (setup c) (payload_types_at c) calls now → (j : ℕ) (link : O) (line : LegLine) → slice_get far.links.items j ≡ Some link → leg_at c.legs j ≡ Some line → o.tells
         → IsCutShort c (after_calls (setup c) calls) now j line (packets_in o.given link)
     given_cut calls now h j link line e at tell =
         let s = setup c in
         let low = leg_within c.legs j line at in
         let w = h.halts.each j low in
-        let conf = conf_at s (pts_at c j) j in
+        let settings = settings_at s (payload_types_at c j) j in
         let sent = sent_by s calls in
         let table = after_calls s calls in
-        let cut_by : (first left : List Post) → posts_at s now table ≡ first ++ left → packets_in o.given link ≡ packets_of conf (sents_to w.sources j (with_posts now first sent)) → IsCutShort c table now j line (packets_in o.given link) =
+        let cut_by : (first left : List Post) → posts_at s now table ≡ first ++ left → packets_in o.given link ≡ packets_of settings (sents_to w.sources j (with_posts now first sent)) → IsCutShort c table now j line (packets_in o.given link) =
         λ first left are is. elim (some_sent s now j w.sources table sent first left low are) [
-          | inl none ↦ inl (is ∙ (ap (packets_of conf) none ∙ sent_law c calls j line w.sources at w.are))
-          | inr all ↦ inr (is ∙ (ap (packets_of conf) all ∙ sent_law c (Turn now ∷ calls) j line w.sources at w.are))
+          | inl none ↦ inl (is ∙ (ap (packets_of settings) none ∙ sent_law c calls j line w.sources at w.are))
+          | inr all ↦ inr (is ∙ (ap (packets_of settings) all ∙ sent_law c (Turn now ∷ calls) j line w.sources at w.are))
         ] in
         elim (w.gave link e tell) [
           | inl q ↦ cut_by h.first (h.next ∷ h.left) h.are q
-          | inr q ↦ cut_by (h.first ++ h.next ∷ []) h.left (h.are ∙ sym (append_assoc h.first (h.next ∷ []) h.left)) (q ∙ ap (λ (xs : List (ℕ × Post)). packets_of conf (sents_to w.sources j xs)) (sym (with_one now h.first h.next sent)))
+          | inr q ↦ cut_by (h.first ++ h.next ∷ []) h.left (h.are ∙ sym (append_assoc h.first (h.next ∷ []) h.left)) (q ∙ ap (λ (xs : List (ℕ × Post)). packets_of settings (sents_to w.sources j xs)) (sym (with_one now h.first h.next sent)))
         ]
 
     -- of a turn that the tap was told of, or not
-    given_then : (calls : List Call) (now : ℕ) → HaltsTold (GivesFor o.tells (packets_in o.given) o.faults) (HaltsGiving o.tells (packets_in o.given)) m (setup c) (pts_at c) calls now → (j : ℕ) (link : O) (line : LegLine) → slice_get far.links.items j ≡ Some link → leg_at c.legs j ≡ Some line → o.tells
+    given_then : (calls : List Call) (now : ℕ) → HaltsTold (GivesFor o.tells (packets_in o.given) o.faults) (HaltsGiving o.tells (packets_in o.given)) m (setup c) (payload_types_at c) calls now → (j : ℕ) (link : O) (line : LegLine) → slice_get far.links.items j ≡ Some link → leg_at c.legs j ≡ Some line → o.tells
         → IsCutShort c (after_calls (setup c) calls) now j line (packets_in o.given link)
     given_then calls now (inl h) j link line e at tell = given_cut calls now h j link line e at tell
     given_then calls now (inr made) j link line e at tell = inr (given_whole (Turn now ∷ calls) made j link line e at tell)
 
-    is_broken : (span : Span) (then : Tapped (SendingState (FarEnds O)) T → Setup → (ℕ → Pts) → List Call → Type 0) (w : BrokenTo popped_in then (setup c) (pts_at c) c.turns ports m) (now : ℕ)
+    is_broken : (span : Span) (then : TappedMixer (SendingState (FarEnds O)) T → Setup → (ℕ → PayloadTypes) → List Call → Type 0) (w : BrokenTo popped_in then (setup c) (payload_types_at c) c.turns ports m) (now : ℕ)
         → ((j : ℕ) (link : O) (line : LegLine) → slice_get far.links.items j ≡ Some link → leg_at c.legs j ≡ Some line → o.tells → IsCutShort c (after_calls (setup c) w.serving.calls) now j line (packets_in o.given link))
         → (tells → PacedBy span w.serving.calls) → IsBrokenOff i o tells c span backs far.links.items
     unfolding broken_law
@@ -317,7 +317,7 @@ module _ {I G : Type 0} (i : ins.Ghosts I) (tells : Type 0) (opened : ℕ → Bo
         let takes : ℕ → Takes = pick [] took (length c.legs) took_at in
         let table = after_calls (setup c) calls in
         let given : ℕ → List (List ℕ) = λ j. given_by c table j in
-        let is_of : IsOfConf popped_in c calls ports takes given = record {
+        let is_of : IsOfConference popped_in c calls ports takes given = record {
           legs = omega (arith, many, many_ports);
           none = pick_none [] took (length c.legs) took_at;
           covers = λ j p e. (pick_holds [] took (length c.legs) took_at j (let low = slice_get_within ports j p e in omega (arith, low, many, many_ports))).covering p e;
@@ -326,7 +326,7 @@ module _ {I G : Type 0} (i : ins.Ghosts I) (tells : Type 0) (opened : ℕ → Bo
         record {
           takes = takes;
           given = given;
-          served = broken_law popped_in then c (pts_at c) ports m takes given w is_of;
+          served = broken_law popped_in then c (payload_types_at c) ports m takes given w is_of;
           now = now;
           taken = λ t j leg e. (pick_holds [] took (length c.legs) took_at j (let low = slice_get_within backs j leg e in omega (arith, low, many, many_backs))).taken t leg e;
           gave = λ t j link line e at. cut j link line e at (tells_out t j (leg_within c.legs j line at));
@@ -334,8 +334,8 @@ module _ {I G : Type 0} (i : ins.Ghosts I) (tells : Type 0) (opened : ℕ → Bo
         }
 
     -- however its turns ended
-    breaks : (known : Type 0) (tick : ℕ) (span : Span) (same_tick : tick ≡ c.tick) (tell : tells → known) (t : Turned LiveFault)
-        → RanTo popped_in t (StandsPaced known tick span.first span.last (AreInTurn gives addresses span.pauses) gives) (StandsPaced known tick span.first span.last (AreInTurn gives addresses span.pauses) (HaltsThen halts)) (setup c) (pts_at c) c.turns ports m → IsBrokenOff i o tells c span backs far.links.items
+    breaks : (known : Type 0) (tick : ℕ) (span : Span) (same_tick : tick ≡ c.tick) (tell : tells → known) (t : TurnsEnd LiveFault)
+        → RanTo popped_in t (StandsPaced known tick span.first span.last (AreInTurn gives addresses span.pauses) gives) (StandsPaced known tick span.first span.last (AreInTurn gives addresses span.pauses) (HaltsThen halts)) (setup c) (payload_types_at c) c.turns ports m → IsBrokenOff i o tells c span backs far.links.items
     breaks known tick span same_tick tell Done v = is_broken span (StandsPaced known tick span.first span.last (AreInTurn gives addresses span.pauses) gives) (record { turns = c.turns; few = omega arith; serving = v.serving }) 0
         (λ j link line e at told. inl (given_whole v.serving.calls v.serving.made.0.made j link line e at told)) (at_ticks known tick span v.serving.calls same_tick tell v.serving.made.1 v.serving.made.2)
     breaks known tick span same_tick tell Closed v = is_broken span (StandsPaced known tick span.first span.last (AreInTurn gives addresses span.pauses) gives) (record { turns = v.turns; few = v.few; serving = v.serving }) 0
@@ -345,38 +345,38 @@ module _ {I G : Type 0} (i : ins.Ghosts I) (tells : Type 0) (opened : ℕ → Bo
     breaks known tick span same_tick tell (Stopped why) v = is_broken span (StandsPaced known tick span.first span.last (AreInTurn gives addresses span.pauses) (HaltsThen halts)) v v.serving.made.0.0
         (given_then v.serving.calls v.serving.made.0.0 v.serving.made.0.1) (at_ticks known tick span v.serving.calls same_tick tell v.serving.made.1 v.serving.made.2)
 
-    ends_as : (known : Type 0) (tick : ℕ) (span : Span) (same_tick : tick ≡ c.tick) (tell : tells → known) (failed : (j : ℕ) (p : LivePort (Lane LegItem (LinkLeg I) G)) → slice_get ports j ≡ Some p → p.failed ≡ true → has_fault (popped_in p.inlet) ≡ true) (t : Turned LiveFault)
-        → RanTo popped_in t (StandsPaced known tick span.first span.last (AreInTurn gives addresses span.pauses) gives) (StandsPaced known tick span.first span.last (AreInTurn gives addresses span.pauses) (HaltsThen halts)) (setup c) (pts_at c) c.turns ports m → WasFaulted t ports → WasStopped (IsUnsentIn (λ (x : SendingState (FarEnds O)) (why : LiveFault). IsUnsent o.faults x.outbound why)) t m → m.short ≡ false
+    ends_as : (known : Type 0) (tick : ℕ) (span : Span) (same_tick : tick ≡ c.tick) (tell : tells → known) (failed : (j : ℕ) (p : LivePort (Worker LegItem (LinkLeg I) G)) → slice_get ports j ≡ Some p → p.failed ≡ true → has_fault (popped_in p.inlet) ≡ true) (t : TurnsEnd LiveFault)
+        → RanTo popped_in t (StandsPaced known tick span.first span.last (AreInTurn gives addresses span.pauses) gives) (StandsPaced known tick span.first span.last (AreInTurn gives addresses span.pauses) (HaltsThen halts)) (setup c) (payload_types_at c) c.turns ports m → WasFaulted t ports → WasStopped (IsUnsentIn (λ (x : SendingState (FarEnds O)) (why : LiveFault). IsUnsent o.faults x.outbound why)) t m → m.short ≡ false
         → EndsAs i o (stands tap) tells c span backs far.links.items far.listeners.items t
     unfolding done_law closed_law
-    ends_as known tick span same_tick tell failed Done v f s long = is_call span served.Done v.serving.calls v.serving.made.0 (at_ticks known tick span v.serving.calls same_tick tell v.serving.made.1 v.serving.made.2) long (λ takes given w. done_law popped_in (StandsPaced known tick span.first span.last (AreInTurn gives addresses span.pauses) gives) c (pts_at c) ports m takes given v w) (λ takes given w. refl)
-    ends_as known tick span same_tick tell failed Closed v f s long = is_call span served.Closed v.serving.calls v.serving.made.0 (at_ticks known tick span v.serving.calls same_tick tell v.serving.made.1 v.serving.made.2) long (λ takes given w. closed_law popped_in (StandsPaced known tick span.first span.last (AreInTurn gives addresses span.pauses) gives) c (pts_at c) ports m takes given v w) (λ takes given w. refl)
+    ends_as known tick span same_tick tell failed Done v f s long = is_call span served.Done v.serving.calls v.serving.made.0 (at_ticks known tick span v.serving.calls same_tick tell v.serving.made.1 v.serving.made.2) long (λ takes given w. done_law popped_in (StandsPaced known tick span.first span.last (AreInTurn gives addresses span.pauses) gives) c (payload_types_at c) ports m takes given v w) (λ takes given w. refl)
+    ends_as known tick span same_tick tell failed Closed v f s long = is_call span served.Closed v.serving.calls v.serving.made.0 (at_ticks known tick span v.serving.calls same_tick tell v.serving.made.1 v.serving.made.2) long (λ takes given w. closed_law popped_in (StandsPaced known tick span.first span.last (AreInTurn gives addresses span.pauses) gives) c (payload_types_at c) ports m takes given v w) (λ takes given w. refl)
     ends_as known tick span same_tick tell failed (Faulted j) v f s long = (fault_at j f.0 f.1 (failed j f.0 f.1 f.2), breaks known tick span same_tick tell (Faulted j) v)
-    ends_as known tick span same_tick tell failed (Stopped (Link j)) v f s long = (s, let t : Turned LiveFault = Stopped (Link j) in breaks known tick span same_tick tell t v)
-    ends_as known tick span same_tick tell failed (Stopped NoMemory) v f s long = inl (let t : Turned LiveFault = Stopped NoMemory in breaks known tick span same_tick tell t v)
+    ends_as known tick span same_tick tell failed (Stopped (Link j)) v f s long = (s, let t : TurnsEnd LiveFault = Stopped (Link j) in breaks known tick span same_tick tell t v)
+    ends_as known tick span same_tick tell failed (Stopped NoMemory) v f s long = inl (let t : TurnsEnd LiveFault = Stopped NoMemory in breaks known tick span same_tick tell t v)
 
     -- or for want of memory, where the tap had none
-    pub ends_told : (known : Type 0) (tick : ℕ) (span : Span) (same_tick : tick ≡ c.tick) (tell : tells → known) (failed : (j : ℕ) (p : LivePort (Lane LegItem (LinkLeg I) G)) → slice_get ports j ≡ Some p → p.failed ≡ true → has_fault (popped_in p.inlet) ≡ true) (t : Turned LiveFault) (short : Bool)
+    pub ends_told : (known : Type 0) (tick : ℕ) (span : Span) (same_tick : tick ≡ c.tick) (tell : tells → known) (failed : (j : ℕ) (p : LivePort (Worker LegItem (LinkLeg I) G)) → slice_get ports j ≡ Some p → p.failed ≡ true → has_fault (popped_in p.inlet) ≡ true) (t : TurnsEnd LiveFault) (short : Bool)
         → m.short ≡ short
-        → RanTo popped_in t (StandsPaced known tick span.first span.last (AreInTurn gives addresses span.pauses) gives) (StandsPaced known tick span.first span.last (AreInTurn gives addresses span.pauses) (HaltsThen halts)) (setup c) (pts_at c) c.turns ports m → WasFaulted t ports → WasStopped (IsUnsentIn (λ (x : SendingState (FarEnds O)) (why : LiveFault). IsUnsent o.faults x.outbound why)) t m
+        → RanTo popped_in t (StandsPaced known tick span.first span.last (AreInTurn gives addresses span.pauses) gives) (StandsPaced known tick span.first span.last (AreInTurn gives addresses span.pauses) (HaltsThen halts)) (setup c) (payload_types_at c) c.turns ports m → WasFaulted t ports → WasStopped (IsUnsentIn (λ (x : SendingState (FarEnds O)) (why : LiveFault). IsUnsent o.faults x.outbound why)) t m
         → EndsAs i o (stands tap) tells c span backs far.links.items far.listeners.items (ended_with short t)
     ends_told known tick span same_tick tell failed t true is v f s = inl (breaks known tick span same_tick tell t v)
     ends_told known tick span same_tick tell failed t false is v f s = ends_as known tick span same_tick tell failed t v f s is
 
 -- ---- before the first turn
-pub are_unused : {O K : Type 0} (o : outs.Ghosts O K) (tells : Type 0) (c : Conf) (ends : List O) → OpenEnds o tells c ends → length ends ≡ length c.legs → AreUnused o.given o.faults ends
+pub are_unused : {O K : Type 0} (o : outs.Ghosts O K) (tells : Type 0) (c : Conference) (ends : List O) → OpenEnds o tells c ends → length ends ≡ length c.legs → AreUnused o.given o.faults ends
 are_unused o tells c ends are many j end e =
     let line = some_leg c.legs j (let low = slice_get_within ends j end e in omega (arith, low, many)) in
     let w = are j end e line.0 line.1 in
     (w.none, w.fresh)
 
-pub are_new : {I : Type 0} (i : ins.Ghosts I) (tells : Type 0) (opened : ℕ → Bool) (c : Conf) (legs : List (LinkLeg I)) → OpenLegs i tells opened c legs → length legs ≡ length c.legs → AreNew (LegGave i) legs
+pub are_new : {I : Type 0} (i : ins.Ghosts I) (tells : Type 0) (opened : ℕ → Bool) (c : Conference) (legs : List (LinkLeg I)) → OpenLegs i tells opened c legs → length legs ≡ length c.legs → AreNew (LegGave i) legs
 are_new i tells opened c legs are many j leg e =
     let line = some_leg c.legs j (let low = slice_get_within legs j leg e in omega (arith, low, many)) in
     (are j leg e line.0 line.1).new
 
 -- ---- outbound ends that have the ports of the first
-module _ {O K : Type 0} (o : outs.Ghosts O K) (tells : Type 0) (c : Conf) (firsts backs : List O) (are : OpenEnds o tells c firsts) (same : map o.port backs ≡ map o.port firsts) where
+module _ {O K : Type 0} (o : outs.Ghosts O K) (tells : Type 0) (c : Conference) (firsts backs : List O) (are : OpenEnds o tells c firsts) (same : map o.port backs ≡ map o.port firsts) where
   pub far_ends_many : length backs ≡ length firsts
   far_ends_many = sym (map_long o.port backs) ∙ (ap (λ (xs : List ℕ). length xs) same ∙ map_long o.port firsts)
 
@@ -387,7 +387,7 @@ module _ {O K : Type 0} (o : outs.Ghosts O K) (tells : Type 0) (c : Conf) (first
       (are j first.0 first.1 line at).at ∙ ap Some (sym one)
 
 -- ---- a call that did not begin
-pub not_called : {I O T K : Type 0} (i : ins.Ghosts I) (o : outs.Ghosts O K) (stands : List Notice → Type 0) (tells : Type 0) (c : Conf) (span : Span) (opened : ℕ → Bool) (legs : List (LinkLeg I)) (links : List O) (called : Called I O T) → OpenLegs i tells opened c legs → OpenEnds o tells c links
+pub not_called : {I O T K : Type 0} (i : ins.Ghosts I) (o : outs.Ghosts O K) (stands : List Notice → Type 0) (tells : Type 0) (c : Conference) (span : Span) (opened : ℕ → Bool) (legs : List (LinkLeg I)) (links : List O) (called : CallReturn I O T) → OpenLegs i tells opened c legs → OpenEnds o tells c links
     → length legs ≡ length c.legs → length links ≡ length c.legs → called.turned ≡ Stopped NoMemory → called.legs.items ≡ legs → called.ends.items ≡ links → IsCalled i o stands tells c span opened called
 not_called {I} {O} i o stands tells c span opened legs links called are_legs are_ends many many_ends turned is is_ends = record {
   many_legs = ap (λ (xs : List (LinkLeg _)). length xs) is ∙ many;
@@ -399,19 +399,19 @@ not_called {I} {O} i o stands tells c span opened legs links called are_legs are
       let w = are_legs j first.0 first.1 line at in
       let same : i.port first.0.link ≡ p = cc (sym w.at ∙ e) in
       subst (λ (q : ℕ). opened q ≡ true) same (w.told t).2;
-  ended = subst (λ (t : Turned LiveFault). EndsAs i o stands tells c span called.legs.items called.ends.items called.listeners.items t) (sym turned)
+  ended = subst (λ (t : TurnsEnd LiveFault). EndsAs i o stands tells c span called.legs.items called.ends.items called.listeners.items t) (sym turned)
       (inr (subst (λ (xs : List O). AreUnused o.given o.faults xs) (sym is_ends) (are_unused o tells c links are_ends many_ends)));
 }
 
 -- ---- a call that was made
 -- the tap that took nothing, before the first turn
-pub tells_first : {M T : Type 0} (mixes : M → Setup → (ℕ → Pts) → List Call → Type 0) (stands : T → List Notice → Type 0) (m : Tapped M T) (s : Setup) (pts : ℕ → Pts) (n : ℕ) → mixes m.mixer s pts (all_admitted n) → stands m.tap [] → TellsFor mixes stands m s pts (all_admitted n)
-tells_first mixes stands m s pts n made none = record { made = made; told = λ long. subst (λ (past : List Notice). stands m.tap past) (sym (none_offered s n)) none }
+pub tells_first : {M T : Type 0} (mixes : M → Setup → (ℕ → PayloadTypes) → List Call → Type 0) (stands : T → List Notice → Type 0) (m : TappedMixer M T) (s : Setup) (payload_types : ℕ → PayloadTypes) (n : ℕ) → mixes m.mixer s payload_types (all_admitted n) → stands m.tap [] → TellsFor mixes stands m s payload_types (all_admitted n)
+tells_first mixes stands m s payload_types n made none = record { made = made; told = λ long. subst (λ (past : List Notice). stands m.tap past) (sym (none_offered s n)) none }
 
-pub call_made : {I O W G T K H : Type 0} (i : ins.Ghosts I) (o : outs.Ghosts O K) (k : clocks.Ghosts W H) (stands : T → List Notice → Type 0) (tells : Type 0) (c : Conf) (job : Job I (Tapped (SendingState (FarEnds O)) T) W G) (ended : Ended I (Tapped (SendingState (FarEnds O)) T) W) (tap : T) (opened later : ℕ → Bool) (firsts : List O)
+pub call_made : {I O W G T K H : Type 0} (i : ins.Ghosts I) (o : outs.Ghosts O K) (k : clocks.Ghosts W H) (stands : T → List Notice → Type 0) (tells : Type 0) (c : Conference) (job : CallJob I (TappedMixer (SendingState (FarEnds O)) T) W G) (ended : JobReturn I (TappedMixer (SendingState (FarEnds O)) T) W) (tap : T) (opened later : ℕ → Bool) (firsts : List O)
     → IsOfLinks c → OpenLegs i tells opened c job.legs.items → length job.legs.items ≡ length c.legs → OpenEnds o tells c firsts → length firsts ≡ length c.legs
     → job.mixer.mixer.outbound.links.items ≡ firsts → HasAll o.tells (packets_in o.given) o.faults c job.mixer.mixer → stands job.mixer.tap [] → job.turns ≡ c.turns → job.tick ≡ c.tick → (tells → k.tells) → (tells → (p : ℕ) → later p ≡ opened p)
-    → RanAs i k (TellsFor (GivesFor o.tells (packets_in o.given) o.faults) stands) (HaltsTold (GivesFor o.tells (packets_in o.given) o.faults) (HaltsGiving o.tells (packets_in o.given))) (λ (m : Tapped (SendingState (FarEnds O)) T). addresses_of o.port o.given m.mixer.outbound.links.items) (IsUnsentIn (λ (m : SendingState (FarEnds O)) (why : LiveFault). IsUnsent o.faults m.outbound why)) job ended
+    → RanAs i k (TellsFor (GivesFor o.tells (packets_in o.given) o.faults) stands) (HaltsTold (GivesFor o.tells (packets_in o.given) o.faults) (HaltsGiving o.tells (packets_in o.given))) (λ (m : TappedMixer (SendingState (FarEnds O)) T). addresses_of o.port o.given m.mixer.outbound.links.items) (IsUnsentIn (λ (m : SendingState (FarEnds O)) (why : LiveFault). IsUnsent o.faults m.outbound why)) job ended
     → Learns stands ended.mixer.tap tap Shows
     → IsCalled i o (stands tap) tells c (record { pauses = k.pauses job.clock.now; first = k.moment job.clock.now; last = k.moment ended.clock.now }) later (record { turned = ended_with ended.mixer.short ended.turned; legs = ended.legs; ends = ended.mixer.mixer.outbound.links; listeners = ended.mixer.mixer.outbound.listeners; tap = tap })
 call_made {I} {O} {W} {G} {T} i o k stands tells c job ended tap opened later firsts links are many are_ends many_ends is all none turns ticks tell still ran shows =
@@ -419,12 +419,12 @@ call_made {I} {O} {W} {G} {T} i o k stands tells c job ended tap opened later fi
     let legs = job.legs.items in
     let backs = ended.legs.items in
     let span : Span = record { pauses = k.pauses job.clock.now; first = k.moment job.clock.now; last = k.moment ended.clock.now } in
-    let gives : Tapped (SendingState (FarEnds O)) T → Setup → (ℕ → Pts) → List Call → Type 0 = TellsFor (GivesFor o.tells (packets_in o.given) o.faults) stands in
-    let first : gives job.mixer (setup c) (pts_at c) (all_admitted (length c.legs)) = tells_first (GivesFor o.tells (packets_in o.given) o.faults) stands job.mixer (setup c) (pts_at c) (length c.legs) all none in
-    let order : Tapped (SendingState (FarEnds O)) T → Setup → (ℕ → Pts) → List Call → Type 0 = AreInTurn gives (λ (x : Tapped (SendingState (FarEnds O)) T). addresses_of o.port o.given x.mixer.outbound.links.items) span.pauses in
-    let gives_paced : Tapped (SendingState (FarEnds O)) T → Setup → (ℕ → Pts) → List Call → Type 0 = StandsPaced k.tells job.tick span.first span.last order gives in
-    let halts_paced : Tapped (SendingState (FarEnds O)) T → Setup → (ℕ → Pts) → List Call → Type 0 = StandsPaced k.tells job.tick span.first span.last order (HaltsThen (HaltsTold (GivesFor o.tells (packets_in o.given) o.faults) (HaltsGiving o.tells (packets_in o.given)))) in
-    let made : RanTo popped_in ended.turned gives_paced halts_paced (setup c) (pts_at c) c.turns ran.ports m = subst (λ (n : ℕ). RanTo popped_in ended.turned gives_paced halts_paced (setup c) (pts_at c) n ran.ports m) turns (ran.ran (setup c) (pts_at c) (sym many) links.stay first) in
+    let gives : TappedMixer (SendingState (FarEnds O)) T → Setup → (ℕ → PayloadTypes) → List Call → Type 0 = TellsFor (GivesFor o.tells (packets_in o.given) o.faults) stands in
+    let first : gives job.mixer (setup c) (payload_types_at c) (all_admitted (length c.legs)) = tells_first (GivesFor o.tells (packets_in o.given) o.faults) stands job.mixer (setup c) (payload_types_at c) (length c.legs) all none in
+    let order : TappedMixer (SendingState (FarEnds O)) T → Setup → (ℕ → PayloadTypes) → List Call → Type 0 = AreInTurn gives (λ (x : TappedMixer (SendingState (FarEnds O)) T). addresses_of o.port o.given x.mixer.outbound.links.items) span.pauses in
+    let gives_paced : TappedMixer (SendingState (FarEnds O)) T → Setup → (ℕ → PayloadTypes) → List Call → Type 0 = StandsPaced k.tells job.tick span.first span.last order gives in
+    let halts_paced : TappedMixer (SendingState (FarEnds O)) T → Setup → (ℕ → PayloadTypes) → List Call → Type 0 = StandsPaced k.tells job.tick span.first span.last order (HaltsThen (HaltsTold (GivesFor o.tells (packets_in o.given) o.faults) (HaltsGiving o.tells (packets_in o.given)))) in
+    let made : RanTo popped_in ended.turned gives_paced halts_paced (setup c) (payload_types_at c) c.turns ran.ports m = subst (λ (n : ℕ). RanTo popped_in ended.turned gives_paced halts_paced (setup c) (payload_types_at c) n ran.ports m) turns (ran.ran (setup c) (payload_types_at c) (sym many) links.stay first) in
     let same : map o.port m.mixer.outbound.links.items ≡ map o.port firsts =
     sym (ports_are o.port o.given m.mixer.outbound.links.items) ∙ (ran.addresses_are ∙ (ports_are o.port o.given job.mixer.mixer.outbound.links.items ∙ ap (λ (xs : List O). map o.port xs) is)) in
     let tells_out : tells → (j : ℕ) → j < length c.legs → o.tells = λ t j low.
@@ -441,6 +441,6 @@ call_made {I} {O} {W} {G} {T} i o k stands tells c job ended tap opened later fi
     }
 
 -- all turns were made where the call ended so
-pub ended_done : (short : Bool) (t : Turned LiveFault) → ended_with short t ≡ Done → t ≡ Done
+pub ended_done : (short : Bool) (t : TurnsEnd LiveFault) → ended_with short t ≡ Done → t ≡ Done
 ended_done true t e = absurd (cc e)
 ended_done false t e = e

@@ -2,8 +2,8 @@
 use Rattle.std.proofs.Common.{◌≡◌, ◌+◌, ℕ, suc, Some, List, [], ◌∷◌, ◌++◌, append_assoc, length, refl, ap, ◌∙◌, subst, arith, if◌then◌else◌}
 use Rattle.std.specs.Prelude.{flat_map, slice_get}
 use Rattle.std.specs.List.{enumerate_from}
-use Rattle.file_spec.specs.declared.conf_lines.LegLine.{LegLine}
-use Rattle.file_spec.specs.Conf.{Conf}
+use Rattle.file_spec.specs.declared.conference_lines.LegLine.{LegLine}
+use Rattle.file_spec.specs.Conference.{Conference}
 use Rattle.view_spec.specs.declared.tallies.Tally.{Tally}
 use Rattle.view_spec.specs.Tallies.{tally_line}
 use Rattle.link_spec.specs.Links.{Takes}
@@ -22,7 +22,7 @@ line_is : (name : List ℕ) (t : LegTally) (y : Tally) → IsTally t y → tally
 line_is name t y is = ap (tally_line name) (tally_is t y is)
 
 -- these legs have the numbers from k on
-lines_from : (c : Conf) (takes : ℕ → Takes) (k : ℕ) (legs : List LegLine) (tallies : List LegTally) → length tallies ≡ length legs
+lines_from : (c : Conference) (takes : ℕ → Takes) (k : ℕ) (legs : List LegLine) (tallies : List LegTally) → length tallies ≡ length legs
     → ((j : ℕ) (t : LegTally) → slice_get tallies j ≡ Some t → IsTally t (tally_by (hearing_at c (k + j)) (takes (k + j))))
     → tally_lines legs tallies ≡ flat_map (λ x. tally_line x.1.name (kept (tally_by (hearing_at c x.0) (takes x.0)))) (enumerate_from k legs)
 lines_from c takes k [] tallies many are = refl
@@ -36,13 +36,13 @@ lines_from c takes k (leg ∷ legs) (t ∷ tallies) many are =
     ∙ ap (λ (xs : List ℕ). line (k, leg) ++ xs)
     (lines_from c takes (k + 1) legs tallies (omega (arith, many)) (λ j u there. subst (λ (n : ℕ). IsTally u (count n)) (omega arith) (are (suc j) u there)))
 
-asked_are : (c : Conf) (takes : ℕ → Takes) (tallies : List LegTally) → length tallies ≡ length c.legs → AreTallies c takes tallies → asked_lines c tallies ≡ counted c takes
+asked_are : (c : Conference) (takes : ℕ → Takes) (tallies : List LegTally) → length tallies ≡ length c.legs → AreTallies c takes tallies → asked_lines c tallies ≡ counted c takes
 asked_are c takes tallies many are =
     ap (λ (xs : List ℕ). if c.service.counts then xs else [])
     (lines_from c takes 0 c.legs tallies many (λ j t there. subst (λ (n : ℕ). IsTally t (tally_by (hearing_at c n) (takes n))) (omega arith) (are j t there)))
 
 -- the views, how the call ended, and what was counted
-pub printed_are : (c : Conf) (listeners : List Listening) (tallies : List LegTally) (end : End) (views ended printed : List ℕ) → length tallies ≡ length c.legs
+pub printed_are : (c : Conference) (listeners : List Listening) (tallies : List LegTally) (end : End) (views ended printed : List ℕ) → length tallies ≡ length c.legs
     → AreViewsOf c listeners views → ended ≡ views ++ end_line end → printed ≡ ended ++ asked_lines c tallies → ArePrintedOf c listeners tallies end printed
 printed_are c listeners tallies end views ended printed many shown ends is = λ takes given are heard.
     is

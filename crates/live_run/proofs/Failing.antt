@@ -9,7 +9,7 @@ use Rattle.live_law.proofs.Opening.{open_takes}
 use Rattle.live_leg.specs.declared.states.State.{State}
 use Rattle.live_leg.specs.declared.states.State.TheVariants.{Idle, Giving, Blank, Parting, Ending, Over}
 use Rattle.live_leg.specs.declared.legs.LinkLeg.{LinkLeg}
-use Rattle.live_leg.specs.Items.{AreItems, AreTexts, Item, has_fault, is_fault, mark_of}
+use Rattle.live_leg.specs.Items.{AreItems, AreTexts, Item, has_fault, is_fault, signal_of}
 use Rattle.live_leg.specs.Items as item
 use Rattle.live_leg.specs.Stands.{Counts, IsGivingSome, LegStands, PhaseAt}
 use Rattle.live_leg.specs.Stories.{hearing_of}
@@ -45,19 +45,19 @@ texts_calm (item.End ∷ xs) a = absurd (true≢false (sym a.0))
 texts_calm (item.Quit ∷ xs) a = absurd (true≢false (sym a.0))
 texts_calm (item.Fault ∷ xs) a = absurd (true≢false (sym a.0))
 
-mark_calm : (came : Came) → has_fault (mark_of came ∷ []) ≡ false
-mark_calm (Datagram octets) = refl
-mark_calm Large = refl
-mark_calm Quiet = refl
-mark_calm Closed = refl
+signal_calm : (came : Came) → has_fault (signal_of came ∷ []) ≡ false
+signal_calm (Datagram octets) = refl
+signal_calm Large = refl
+signal_calm Quiet = refl
+signal_calm Closed = refl
 
 items_calm : (h : Hearing) (takes : Takes) (items : List Item) → AreItems h takes items → has_fault items ≡ false
 items_calm h [] items a = ap has_fault a
 items_calm h (t ∷ past) items a =
-    ap has_fault a.2 ∙ both_calm a.0 (a.1 ++ mark_of t.came ∷ []) (items_calm h past a.0 a.3) (both_calm a.1 (mark_of t.came ∷ []) (texts_calm a.1 a.4) (mark_calm t.came))
+    ap has_fault a.2 ∙ both_calm a.0 (a.1 ++ signal_of t.came ∷ []) (items_calm h past a.0 a.3) (both_calm a.1 (signal_of t.came ∷ []) (texts_calm a.1 a.4) (signal_calm t.came))
 
-some_calm : (closing : Bool) (mark : Item) (h : Hearing) (takes : Takes) (items : List Item) → IsGivingSome closing mark h takes items → has_fault items ≡ false
-some_calm closing mark h takes items p = ap has_fault p.items_are ∙ both_calm p.before p.news (items_calm h p.past p.before p.are) (texts_calm p.news p.texts)
+some_calm : (closing : Bool) (signal : Item) (h : Hearing) (takes : Takes) (items : List Item) → IsGivingSome closing signal h takes items → has_fault items ≡ false
+some_calm closing signal h takes items p = ap has_fault p.items_are ∙ both_calm p.before p.news (items_calm h p.past p.before p.are) (texts_calm p.news p.texts)
 
 phase_calm : (st : State) (F : Type 0) (h : Hearing) (takes : Takes) (items : List Item) → PhaseAt st F h takes items → is_closed takes ≡ true → has_fault items ≡ false
 phase_calm Idle F h takes items p e = items_calm h takes items p.are
@@ -71,4 +71,4 @@ phase_calm Over F h takes items (inr p) e = absurd (true≢false (sym e ∙ open
 -- none of its takes failed
 pub closed_calm : {L : Type 0} (g : links.Ghosts L) (first back : LinkLeg L) (items : List Item) (w : LegStands g first back items) → is_closed w.so.takes ≡ true → g.faults back.link ≡ g.faults first.link
 closed_calm g first back items w e =
-    subst (λ (b : Bool). Counts b (g.faults first.link) (g.faults back.link)) (phase_calm back.state _ (hearing_of first.conf) w.so.takes items w.so.phase e) w.so.counts
+    subst (λ (b : Bool). Counts b (g.faults first.link) (g.faults back.link)) (phase_calm back.state _ (hearing_of first.settings) w.so.takes items w.so.phase e) w.so.counts

@@ -5,8 +5,8 @@ use Rattle.std.specs.Prelude.{Bool, Option, slice_get}
 use Rattle.std.proofs.lemmas.List.{append-nil, map_more, take_all}
 use Rattle.std.proofs.lemmas.Option.{slice_get_within}
 use Rattle.rtt_io.specs.Counts.{Rose}
-use Rattle.file_spec.specs.declared.conf_lines.LegLine.{LegLine}
-use Rattle.file_spec.specs.Conf.{Conf, port}
+use Rattle.file_spec.specs.declared.conference_lines.LegLine.{LegLine}
+use Rattle.file_spec.specs.Conference.{Conference, port}
 use Rattle.mixer_spec.specs.Setups.{leg_at}
 use Rattle.item_lanes.proofs.Matching.{is_there}
 use Rattle.link_io.specs.declared.ends.LinkIn as ins
@@ -23,12 +23,12 @@ some_leg [] j low = absurd (omega arith)
 some_leg (x ∷ legs) zero low = (x, refl)
 some_leg (x ∷ legs) (suc j) low = some_leg legs j (omega arith)
 
-module _ {I : Type 0} (g : ins.Ghosts I) (tells : Type 0) (c : Conf) where
+module _ {I : Type 0} (g : ins.Ghosts I) (tells : Type 0) (c : Conference) where
   -- a port that was open is open still
   leg_stays : (before after : ℕ → Bool) → (tells → (p : ℕ) → before p ≡ true → after p ≡ true) → (j : ℕ) (leg : LinkLeg I) → OpensLeg g tells before c j leg → OpensLeg g tells after c j leg
   leg_stays before after stay j leg o line at =
       let w = o line at in
-      record { conf = w.conf; new = w.new; at = w.at; fresh = w.fresh; told = λ t. let r = w.told t in (r.0, r.1, stay t (g.port leg.link) r.2) }
+      record { settings = w.settings; new = w.new; at = w.at; fresh = w.fresh; told = λ t. let r = w.told t in (r.0, r.1, stay t (g.port leg.link) r.2) }
 
   -- none, and one more
   pub no_legs : (opened : ℕ → Bool) (legs : List (LinkLeg I)) → legs ≡ [] → OpenLegs g tells opened c legs
@@ -55,7 +55,7 @@ module _ {I : Type 0} (g : ins.Ghosts I) (tells : Type 0) (c : Conf) where
       let line = some_leg c.legs j (omega (arith, low, len, few)) in
       (all j leg e line.0 line.1).fresh
 
-module _ {O K : Type 0} (g : outs.Ghosts O K) (tells : Type 0) (c : Conf) where
+module _ {O K : Type 0} (g : outs.Ghosts O K) (tells : Type 0) (c : Conference) where
   pub no_ends : (ends : List O) → ends ≡ [] → OpenEnds g tells c ends
   no_ends ends none j end e = absurd (cc (ap (λ (xs : List O). slice_get xs j) (sym none) ∙ e))
 
@@ -80,7 +80,7 @@ module _ {O K : Type 0} (g : outs.Ghosts O K) (tells : Type 0) (c : Conf) where
       (w.none, below j line.0 (g.port end) (omega (arith, low, len)) line.1 w.at)
 
 -- ---- to whom
-module _ (c : Conf) (first old new : List (ℕ × List ℕ)) (n : ℕ) (low : n < length c.legs) (so_far : LeadsFirst n c first old) where
+module _ (c : Conference) (first old new : List (ℕ × List ℕ)) (n : ℕ) (low : n < length c.legs) (so_far : LeadsFirst n c first old) where
   -- one more link was opened
   pub leads_more : LeadsOne c n old new → LeadsFirst (n + 1) c first new
   leads_more one =
@@ -103,15 +103,15 @@ pair_is p to line there is =
     subst (λ (o : Option ℕ). pair p to ≡ pair (option_map_or (λ (q : ℕ). q) o 0) line.output) (sym there) (ap (pair p) is)
 
 -- none was opened yet
-pub leads_none : (c : Conf) (first : List (ℕ × List ℕ)) → LeadsFirst 0 c first first
+pub leads_none : (c : Conference) (first : List (ℕ × List ℕ)) → LeadsFirst 0 c first first
 leads_none c first = sym (append-nil first)
 
 -- all were
-pub leads_all : (c : Conf) (first new : List (ℕ × List ℕ)) (n : ℕ) → length c.legs ≤ n → LeadsFirst n c first new → LeadsAll c first new
+pub leads_all : (c : Conference) (first new : List (ℕ × List ℕ)) (n : ℕ) → length c.legs ≤ n → LeadsFirst n c first new → LeadsAll c first new
 leads_all c first new n all some = some ∙ ap (λ (legs : List LegLine). first ++ map link_of legs) (take_all n c.legs all)
 
 -- the link of this leg was not opened, and those before it were handed back
-pub not_opened : (tells : Type 0) (opened : ℕ → Bool) (before now after last : ℕ → ℕ) (c : Conf) (own : ℕ) (fault : LiveFault) → own < length c.legs → ((p : ℕ) → now p ≡ before p) → ((p : ℕ) → last p ≡ after p)
+pub not_opened : (tells : Type 0) (opened : ℕ → Bool) (before now after last : ℕ → ℕ) (c : Conference) (own : ℕ) (fault : LiveFault) → own < length c.legs → ((p : ℕ) → now p ≡ before p) → ((p : ℕ) → last p ≡ after p)
     → (tells → AreOpenBelow own opened c) → IsRefusedAt now after c own fault → IsNotOpened tells opened before last c fault
 not_opened tells opened before now after last c own (Link k) low b a below r =
     let line = some_leg c.legs own low in

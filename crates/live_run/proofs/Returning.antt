@@ -4,7 +4,7 @@ use Rattle.std.specs.Prelude.{IfOk, IsSome, Option, Result, slice_get}
 use Rattle.std.specs.Option.{option_map_or}
 use Rattle.std.proofs.lemmas.Option.{slice_get_within}
 use Rattle.rtt_io.specs.Counts.{Rose}
-use Rattle.file_spec.specs.Conf.{Conf, port}
+use Rattle.file_spec.specs.Conference.{Conference, port}
 use Rattle.mixer_spec.specs.Table.{Table}
 use Rattle.link_spec.specs.Links.{Takes}
 use Rattle.link_io.specs.Given.{given_by, packets}
@@ -13,15 +13,15 @@ use Rattle.link_io.specs.declared.ends.LinkOut as outs
 use Rattle.link_io.specs.declared.links.Links as over
 use Rattle.live_leg.specs.declared.legs.LinkLeg.{LinkLeg}
 use Rattle.live_leg.specs.declared.tallies.LegTally.{LegTally}
-use Rattle.live_loop.specs.declared.turns.Turned.{Turned}
-use Rattle.live_loop.specs.declared.turns.Turned.TheVariants.{Done, Closed, Faulted, Stopped}
+use Rattle.live_loop.specs.declared.turns.TurnsEnd.{TurnsEnd}
+use Rattle.live_loop.specs.declared.turns.TurnsEnd.TheVariants.{Done, Closed, Faulted, Stopped}
 use Rattle.live_law.proofs.Serving.{some_there}
 use Rattle.serve_spec.specs.Served.{Broken, End, IsCutShort, IsServed, live_printed}
 use Rattle.serve_spec.specs.Served as served
-use Rattle.file_spec.specs.declared.conf_lines.LegLine.{LegLine}
+use Rattle.file_spec.specs.declared.conference_lines.LegLine.{LegLine}
 use Rattle.mixer_spec.specs.Setups.{leg_at}
 use Rattle.serve_spec.proofs.Promised.{head_law, same_run}
-use Rattle.live_run.specs.declared.calls.Called.{Called}
+use Rattle.live_run.specs.declared.calls.CallReturn.{CallReturn}
 use Rattle.live_run.specs.declared.faults.LiveFault.{LiveFault}
 use Rattle.live_run.specs.declared.faults.LiveFault.TheVariants.{Link, NoMemory}
 use Rattle.live_run.specs.declared.reports.LiveEnd.{LiveEnd}
@@ -44,7 +44,7 @@ some_port : (number : Option ℕ) → IsSome number → (p : ℕ) × (number ≡
 some_port (Some p) s = (p, refl)
 some_port None s = absurd (cc s)
 
-module _ {X : Type 0} (c : Conf) (links : IsOfLinks c) (port_of : X → ℕ) (xs : List X) (many : length xs ≡ length c.legs) (are : AreAtPorts port_of c xs) where
+module _ {X : Type 0} (c : Conference) (links : IsOfLinks c) (port_of : X → ℕ) (xs : List X) (many : length xs ≡ length c.legs) (are : AreAtPorts port_of c xs) where
   own_ports : HaveOwnPorts port_of xs
   own_ports j k x y at_x at_y same =
       let a = some_leg c.legs j (let low = slice_get_within xs j x at_x in omega (arith, low, many)) in
@@ -75,7 +75,7 @@ module _ {X : Type 0} (c : Conf) (links : IsOfLinks c) (port_of : X → ℕ) (xs
 
 -- ---- in turn
 -- what was given to the links lies at the ports
-paced_at : (c : Conf) → IsOfLinks c → (table : Table) (span : Span) (given under : ℕ → List (ℕ × List ℕ)) → AtPorts c under given → WasPaced c table span given → WasPaced c table span (at_ports_of c under)
+paced_at : (c : Conference) → IsOfLinks c → (table : Table) (span : Span) (given under : ℕ → List (ℕ × List ℕ)) → AtPorts c under given → WasPaced c table span given → WasPaced c table span (at_ports_of c under)
 paced_at c links table span given under lies w = record {
   calls = w.calls;
   made = w.made;
@@ -97,7 +97,7 @@ rose_since first before last l (inl r) = inl (omega (arith, l, r))
 rose_since first before last l (inr r) = inr r
 
 -- ---- what is answered
-ended_call : {I O K : Type 0} (i : ins.Ghosts I) (o : outs.Ghosts O K) (stands : List Notice → Type 0) (tells : Type 0) (c : Conf) (span : Span) (legs : List (LinkLeg I)) (links : List O) (listeners : List Listening) (t : Turned LiveFault) (end : LiveEnd)
+ended_call : {I O K : Type 0} (i : ins.Ghosts I) (o : outs.Ghosts O K) (stands : List Notice → Type 0) (tells : Type 0) (c : Conference) (span : Span) (legs : List (LinkLeg I)) (links : List O) (listeners : List Listening) (t : TurnsEnd LiveFault) (end : LiveEnd)
     → EndsAs i o stands tells c span legs links listeners t → answer_of t ≡ Ok end → IsCallOf i o stands tells c span legs links listeners (end_of end)
 ended_call i o stands tells c span legs links listeners Done end w e =
     let same : ends.Done ≡ end = cc e in
@@ -108,22 +108,22 @@ ended_call i o stands tells c span legs links listeners Closed end w e =
 ended_call i o stands tells c span legs links listeners (Faulted j) end w e = absurd (cc e)
 ended_call i o stands tells c span legs links listeners (Stopped why) end w e = absurd (cc e)
 
-pub done_turned : (t : Turned LiveFault) (end : LiveEnd) → answer_of t ≡ Ok end → end ≡ ends.Done → t ≡ Done
+pub done_turned : (t : TurnsEnd LiveFault) (end : LiveEnd) → answer_of t ≡ Ok end → end ≡ ends.Done → t ≡ Done
 done_turned Done end e d = refl
 done_turned Closed end e d = absurd (cc (e, d))
 done_turned (Faulted j) end e d = absurd (cc e)
 done_turned (Stopped why) end e d = absurd (cc e)
 
 -- what was printed of it
-prints_so : (c : Conf) (takes : ℕ → Takes) (given : ℕ → List (List ℕ)) (end : End) (printed : List ℕ) → IsServed c takes given end (live_printed c takes given end) → printed ≡ live_printed c takes given end → IsServed c takes given end printed
+prints_so : (c : Conference) (takes : ℕ → Takes) (given : ℕ → List (List ℕ)) (end : End) (printed : List ℕ) → IsServed c takes given end (live_printed c takes given end) → printed ≡ live_printed c takes given end → IsServed c takes given end printed
 prints_so c takes given end printed w is = record { table = w.table; turns = w.turns; live = w.live; few = w.few; gives = w.gives; prints = is; done = w.done; goes_on = w.goes_on; drained = w.drained; idle = w.idle }
 
 -- ---- a call that broke off
-broken : (c : Conf) (takes : ℕ → Takes) (given : ℕ → List (List ℕ)) (end : End) (printed : List ℕ) → IsServed c takes given end printed → IsServed c takes given Broken (live_printed c takes given Broken)
+broken : (c : Conference) (takes : ℕ → Takes) (given : ℕ → List (List ℕ)) (end : End) (printed : List ℕ) → IsServed c takes given end printed → IsServed c takes given Broken (live_printed c takes given Broken)
 broken c takes given end printed w = record { table = w.table; turns = w.turns; live = w.live; few = w.few; gives = w.gives; prints = refl; done = λ e. absurd (cc e); goes_on = λ e. absurd (cc e); drained = λ e. absurd (cc e); idle = λ e. absurd (cc e) }
 
 -- so did any that was served
-call_breaks : {I O K : Type 0} (i : ins.Ghosts I) (o : outs.Ghosts O K) (stands : List Notice → Type 0) (tells : Type 0) (c : Conf) (span : Span) (legs : List (LinkLeg I)) (links : List O) (listeners : List Listening) (end : End)
+call_breaks : {I O K : Type 0} (i : ins.Ghosts I) (o : outs.Ghosts O K) (stands : List Notice → Type 0) (tells : Type 0) (c : Conference) (span : Span) (legs : List (LinkLeg I)) (links : List O) (listeners : List Listening) (end : End)
     → IsCallOf i o stands tells c span legs links listeners end → IsBrokenOff i o tells c span legs links
 unfolding broken
 call_breaks i o stands tells c span legs links listeners end w = record {
@@ -136,7 +136,7 @@ call_breaks i o stands tells c span legs links listeners end w = record {
   paced = w.paced;
 }
 
-any_breaks : {I O K : Type 0} (i : ins.Ghosts I) (o : outs.Ghosts O K) (stands : List Notice → Type 0) (tells : Type 0) (c : Conf) (span : Span) (legs : List (LinkLeg I)) (links : List O) (listeners : List Listening) (t : Turned LiveFault)
+any_breaks : {I O K : Type 0} (i : ins.Ghosts I) (o : outs.Ghosts O K) (stands : List Notice → Type 0) (tells : Type 0) (c : Conference) (span : Span) (legs : List (LinkLeg I)) (links : List O) (listeners : List Listening) (t : TurnsEnd LiveFault)
     → EndsAs i o stands tells c span legs links listeners t → HasGivenUp i o tells c span legs links
 any_breaks i o stands tells c span legs links listeners Done w = inl (call_breaks i o stands tells c span legs links listeners served.Done w)
 any_breaks i o stands tells c span legs links listeners Closed w = inl (call_breaks i o stands tells c span legs links listeners served.Closed w)
@@ -145,7 +145,7 @@ any_breaks i o stands tells c span legs links listeners (Stopped (Link j)) w = i
 any_breaks i o stands tells c span legs links listeners (Stopped NoMemory) w = w
 
 -- when its links were handed back
-pub was_broken : (tells : Type 0) (span : Span) (taken_at : ℕ → Takes) (given_at : ℕ → List (ℕ × List ℕ)) (c : Conf) (end : End) (printed : List ℕ) → WasServed tells span taken_at given_at c end printed → WasBroken tells span taken_at given_at c
+pub was_broken : (tells : Type 0) (span : Span) (taken_at : ℕ → Takes) (given_at : ℕ → List (ℕ × List ℕ)) (c : Conference) (end : End) (printed : List ℕ) → WasServed tells span taken_at given_at c end printed → WasBroken tells span taken_at given_at c
 unfolding broken
 was_broken tells span taken_at given_at c end printed w =
     let b = broken c w.takes w.given end printed w.served in
@@ -161,12 +161,12 @@ was_broken tells span taken_at given_at c end printed w =
     }
 
 -- what is reported of a call
-record IsReported (stands : List Notice → Type 0) (tells : Type 0) (span : Span) (taken_at : ℕ → Takes) (given_at : ℕ → List (ℕ × List ℕ)) (c : Conf) (end : End) (printed : List ℕ) (tallies : List LegTally) : Type 0 where
+record IsReported (stands : List Notice → Type 0) (tells : Type 0) (span : Span) (taken_at : ℕ → Takes) (given_at : ℕ → List (ℕ × List ℕ)) (c : Conference) (end : End) (printed : List ℕ) (tallies : List LegTally) : Type 0 where
   tapped : WasTapped stands tells span taken_at given_at c end printed
   many : length tallies ≡ length c.legs
   counted : AreTallies c tapped.was.takes tallies
 
-module _ {I O T K : Type 0} (i : ins.Ghosts I) (o : outs.Ghosts O K) (stands : List Notice → Type 0) (tells : Type 0) (c : Conf) (span : Span) (opened : ℕ → Bool) (called : Called I O T) (w : IsCalled i o stands tells c span opened called) where
+module _ {I O T K : Type 0} (i : ins.Ghosts I) (o : outs.Ghosts O K) (stands : List Notice → Type 0) (tells : Type 0) (c : Conference) (span : Span) (opened : ℕ → Bool) (called : CallReturn I O T) (w : IsCalled i o stands tells c span opened called) where
   pub each_heard : (end : LiveEnd) → answer_of called.turned ≡ Ok end → length called.listeners.items ≡ length c.legs
   each_heard end e = (ended_call i o stands tells c span called.legs.items called.ends.items called.listeners.items called.turned end w.ended e).many
 
@@ -235,7 +235,7 @@ module _ {I O T K : Type 0} (i : ins.Ghosts I) (o : outs.Ghosts O K) (stands : L
   module _ (links : IsOfLinks c) (own own' ends_before ends_between ends_after : ℕ → ℕ) (never : (p : ℕ) → ends_before p ≤ ends_between p) (never_then : (p : ℕ) → ends_between p ≤ ends_after p)
       (rose_legs : FaultsRose (λ (leg : LinkLeg I). i.faults (link_in leg)) (λ (leg : LinkLeg I). i.port (link_in leg)) ends_before ends_between called.legs.items)
       (rose_ends : FaultsRose o.faults o.port ends_between ends_after called.ends.items) where
-    given_up_so : (t : Turned LiveFault) (fault : LiveFault) → EndsAs i o stands tells c span called.legs.items called.ends.items called.listeners.items t → answer_of t ≡ Err fault → WasGivenUp own own' ends_before ends_after c fault
+    given_up_so : (t : TurnsEnd LiveFault) (fault : LiveFault) → EndsAs i o stands tells c span called.legs.items called.ends.items called.listeners.items t → answer_of t ≡ Err fault → WasGivenUp own own' ends_before ends_after c fault
     given_up_so Done fault e q = absurd (cc q)
     given_up_so Closed fault e q = absurd (cc q)
     given_up_so (Faulted j) fault e q =
@@ -257,14 +257,14 @@ module _ {I O T K : Type 0} (i : ins.Ghosts I) (o : outs.Ghosts O K) (stands : L
     was_given_up fault q = given_up_so called.turned fault w.ended q
 
 -- ---- where not all links were opened
-pub was_not_opened : (tells : Type 0) (opened : ℕ → Bool) (own own' ends_before ends_after : ℕ → ℕ) (c : Conf) (links : IsOfLinks c) (fault : LiveFault) → IsNotOpened tells opened own own' c fault → WasGivenUp own own' ends_before ends_after c fault
+pub was_not_opened : (tells : Type 0) (opened : ℕ → Bool) (own own' ends_before ends_after : ℕ → ℕ) (c : Conference) (links : IsOfLinks c) (fault : LiveFault) → IsNotOpened tells opened own own' c fault → WasGivenUp own own' ends_before ends_after c fault
 was_not_opened tells opened own own' ends_before ends_after c links (Link k) n =
     let number = some_port (port n.0.input) (links.ports k n.0 n.1) in
     record { line = n.0; at = n.1; number = number.0; is = number.1; rose = inl (n.2 number.0 number.1) }
 was_not_opened tells opened own own' ends_before ends_after c links NoMemory n = tt
 
 -- then nothing was given
-pub gave_nothing : (tells : Type 0) (span : Span) (before given_at : ℕ → List (ℕ × List ℕ)) (taken_at : ℕ → Takes) (c : Conf) → (tells → GivesNothing before given_at) → BrokeOff tells span before taken_at given_at c
+pub gave_nothing : (tells : Type 0) (span : Span) (before given_at : ℕ → List (ℕ × List ℕ)) (taken_at : ℕ → Takes) (c : Conference) → (tells → GivesNothing before given_at) → BrokeOff tells span before taken_at given_at c
 gave_nothing tells span before given_at taken_at c nothing = inr (λ t j line p at e. nothing t p)
 
 -- ---- by the calls that opened the links, made the call, and closed them
@@ -278,7 +278,7 @@ same_span g first opened called last pauses began ended =
     ∙ (ap (λ (n : ℕ). span_from (g.pauses first) n (g.moment called)) began
     ∙ ap (λ (n : ℕ). span_from (g.pauses first) (g.moment first) n) (sym ended))
 
-module _ {I O T K : Type 0} (i : ins.Ghosts I) (o : outs.Ghosts O K) (stands : List Notice → Type 0) (tells : Type 0) (c : Conf) (span : Span) (opened : ℕ → Bool) (called : Called I O T) (w : IsCalled i o stands tells c span opened called) (links : IsOfLinks c) where
+module _ {I O T K : Type 0} (i : ins.Ghosts I) (o : outs.Ghosts O K) (stands : List Notice → Type 0) (tells : Type 0) (c : Conference) (span : Span) (opened : ℕ → Bool) (called : CallReturn I O T) (w : IsCalled i o stands tells c span opened called) (links : IsOfLinks c) where
   reported_by : (first : Span) → span ≡ first → (open_then : ℕ → Bool) (taken_then taken_at : ℕ → Takes) (given_at : ℕ → List (ℕ × List ℕ))
       → (tells → AreStored (λ (leg : LinkLeg I). i.taken (link_in leg)) (λ (leg : LinkLeg I). i.port (link_in leg)) opened taken_then called.legs.items)
       → (tells → (p : ℕ) → taken_at p ≡ taken_then p) → (tells → (p : ℕ) → open_then p ≡ opened p) → (tells → AreStored o.given o.port open_then given_at called.ends.items)
@@ -320,7 +320,7 @@ module _ {I O T K : Type 0} (i : ins.Ghosts I) (o : outs.Ghosts O K) (stands : L
       (λ j leg at r. subst (λ (n : ℕ). Rose n (between (i.port (link_in leg)))) (same (i.port (link_in leg))) (legs j leg at r)) ends fault q
 
 -- ---- of a tap that shows nothing
-pub as_served : (stands : List Notice → Type 0) (tells : Type 0) (span : Span) (taken_at : ℕ → Takes) (given_at : ℕ → List (ℕ × List ℕ)) (c : Conf) (result : Result LiveReport LiveFault)
+pub as_served : (stands : List Notice → Type 0) (tells : Type 0) (span : Span) (taken_at : ℕ → Takes) (given_at : ℕ → List (ℕ × List ℕ)) (c : Conference) (result : Result LiveReport LiveFault)
     → IfOk result (λ report. WasTapped stands tells span taken_at given_at c (end_of report.end) report.views) → IfOk result (λ report. WasServed tells span taken_at given_at c (end_of report.end) report.views)
 as_served stands tells span taken_at given_at c (Ok report) w = w.was
 as_served stands tells span taken_at given_at c (Err fault) w = w

@@ -6,17 +6,17 @@ use Rattle.std.proofs.lemmas.List.{take_all, append-nil}
 use Rattle.std.proofs.lemmas.List.FromFn.{length-enumerate_from}
 use Rattle.std.proofs.lemmas.Grind.{flat_map-append}
 use Rattle.wire_spec.specs.Dump.{Item}
-use Rattle.file_spec.specs.declared.conf_lines.LegLine.{LegLine}
-use Rattle.file_spec.specs.Conf.{Conf}
+use Rattle.file_spec.specs.declared.conference_lines.LegLine.{LegLine}
+use Rattle.file_spec.specs.Conference.{Conference}
 use Rattle.mixer_spec.specs.Setups.{leg_at}
 use Rattle.view_spec.specs.Seen.{Speaker, aware_seen, unaware_seen}
 use Rattle.command_spec.specs.Mixing.{speaker_of}
 use Rattle.mixer_posts.proofs.LegLines.{legs_more}
-use Rattle.terminal.specs.declared.confs.TermConf.{TermConf}
+use Rattle.terminal.specs.declared.settings.TerminalSettings.{TerminalSettings}
 use Rattle.terminal.specs.declared.terminals.Terminal.{Terminal}
 use Rattle.terminal.specs.Terminals.{Heard, reception}
 use Rattle.conference.specs.Speakers.{names_of, ssrcs_of}
-use Rattle.live_run.specs.Speakers.{terminal_conf}
+use Rattle.live_run.specs.Speakers.{terminal_settings}
 use Rattle.serve_spec.specs.Served.{came_at_once, live_view}
 use Rattle.live_run.specs.Listeners.{AppendsView, AreViewsOf, HasHeard, Listening}
 
@@ -44,41 +44,41 @@ ssrcs_are [] = refl
 ssrcs_are (l ∷ ls) = ap (λ (xs : List ℕ). l.ssrc ∷ xs) (ssrcs_are ls)
 
 -- ---- one terminal
-module _ (c : Conf) (own : ℕ) (leg : LegLine) (given : List (List ℕ)) (t : Terminal) (conf : TermConf) (old new : List ℕ) where
-  pub aware_shown : (sources : List ℕ) (names : List (List ℕ)) → leg.aware ≡ true → conf ≡ terminal_conf c leg → sources ≡ ssrcs_of (remove c.legs own) → names ≡ names_of (remove c.legs own)
-      → Heard t conf sources (came_at_once given)
-      → ((q : TermConf) (speakers : List Speaker) (items : List Item) → names ≡ map (λ s. s.name) speakers → Heard t q (map (λ s. s.ssrc) speakers) items → new ≡ old ++ aware_seen (reception q) leg.name speakers items)
+module _ (c : Conference) (own : ℕ) (leg : LegLine) (given : List (List ℕ)) (t : Terminal) (settings : TerminalSettings) (old new : List ℕ) where
+  pub aware_shown : (sources : List ℕ) (names : List (List ℕ)) → leg.aware ≡ true → settings ≡ terminal_settings c leg → sources ≡ ssrcs_of (remove c.legs own) → names ≡ names_of (remove c.legs own)
+      → Heard t settings sources (came_at_once given)
+      → ((q : TerminalSettings) (speakers : List Speaker) (items : List Item) → names ≡ map (λ s. s.name) speakers → Heard t q (map (λ s. s.ssrc) speakers) items → new ≡ old ++ aware_seen (reception q) leg.name speakers items)
       → new ≡ old ++ live_view c own leg given
   aware_shown sources names e f s n h g =
       let speakers = map speaker_of (remove c.legs own) in
       let items = came_at_once given in
-      let heard = subst (λ (xs : List ℕ). Heard t (terminal_conf c leg) xs items) (s ∙ sym (ssrcs_are (remove c.legs own))) (subst (λ (q : TermConf). Heard t q sources items) f h) in
-      g (terminal_conf c leg) speakers items (n ∙ sym (names_are (remove c.legs own))) heard
-      ∙ ap (λ (b : Bool). old ++ cond b (aware_seen (reception (terminal_conf c leg)) leg.name speakers items) (unaware_seen (reception (terminal_conf c leg)) leg.name c.mixer.ssrc items)) (sym e)
+      let heard = subst (λ (xs : List ℕ). Heard t (terminal_settings c leg) xs items) (s ∙ sym (ssrcs_are (remove c.legs own))) (subst (λ (q : TerminalSettings). Heard t q sources items) f h) in
+      g (terminal_settings c leg) speakers items (n ∙ sym (names_are (remove c.legs own))) heard
+      ∙ ap (λ (b : Bool). old ++ cond b (aware_seen (reception (terminal_settings c leg)) leg.name speakers items) (unaware_seen (reception (terminal_settings c leg)) leg.name c.mixer.ssrc items)) (sym e)
 
-  pub unaware_shown : leg.aware ≡ false → conf ≡ terminal_conf c leg → Heard t conf (c.mixer.ssrc ∷ []) (came_at_once given)
-      → ((q : TermConf) (source : ℕ) (items : List Item) → Heard t q (source ∷ []) items → new ≡ old ++ unaware_seen (reception q) leg.name source items)
+  pub unaware_shown : leg.aware ≡ false → settings ≡ terminal_settings c leg → Heard t settings (c.mixer.ssrc ∷ []) (came_at_once given)
+      → ((q : TerminalSettings) (source : ℕ) (items : List Item) → Heard t q (source ∷ []) items → new ≡ old ++ unaware_seen (reception q) leg.name source items)
       → new ≡ old ++ live_view c own leg given
   unaware_shown e f h g =
       let items = came_at_once given in
-      g (terminal_conf c leg) c.mixer.ssrc items (subst (λ (q : TermConf). Heard t q (c.mixer.ssrc ∷ []) items) f h)
-      ∙ ap (λ (b : Bool). old ++ cond b (aware_seen (reception (terminal_conf c leg)) leg.name (map speaker_of (remove c.legs own)) items) (unaware_seen (reception (terminal_conf c leg)) leg.name c.mixer.ssrc items)) (sym e)
+      g (terminal_settings c leg) c.mixer.ssrc items (subst (λ (q : TerminalSettings). Heard t q (c.mixer.ssrc ∷ []) items) f h)
+      ∙ ap (λ (b : Bool). old ++ cond b (aware_seen (reception (terminal_settings c leg)) leg.name (map speaker_of (remove c.legs own)) items) (unaware_seen (reception (terminal_settings c leg)) leg.name c.mixer.ssrc items)) (sym e)
 
 -- what is appended to nothing and then behind others is appended to them
-pub adds_view : (c : Conf) (j : ℕ) (l : Listening) (none view old new octets : List ℕ) → none ≡ [] → AppendsView c j l none view → octets ≡ view → new ≡ old ++ octets → AppendsView c j l old new
+pub adds_view : (c : Conference) (j : ℕ) (l : Listening) (none view old new octets : List ℕ) → none ≡ [] → AppendsView c j l none view → octets ≡ view → new ≡ old ++ octets → AppendsView c j l old new
 adds_view c j l none view old new octets empty appends same is = λ leg given at heard.
     is ∙ ap (λ (xs : List ℕ). old ++ xs) (same ∙ (appends leg given at heard ∙ ap (λ (xs : List ℕ). xs ++ live_view c j leg given) empty))
 
 -- ---- all terminals
 -- what the first k terminals show, where these were given to each
-abbrev pub views_below : Conf → (ℕ → List (List ℕ)) → ℕ → List ℕ
+abbrev pub views_below : Conference → (ℕ → List (List ℕ)) → ℕ → List ℕ
 views_below c given k = flat_map (λ x. live_view c x.0 x.1 (given x.0)) (take k (enumerate_from 0 c.legs))
 
 -- this is what the first k of these terminals show of whatever each was given
-abbrev pub AreFirst : Conf → List Listening → ℕ → List ℕ → Type 0
+abbrev pub AreFirst : Conference → List Listening → ℕ → List ℕ → Type 0
 AreFirst c listeners k views = (given : ℕ → List (List ℕ)) → ((j : ℕ) (l : Listening) → slice_get listeners j ≡ Some l → HasHeard l (given j)) → views ≡ views_below c given k
 
-pub first_more : (c : Conf) (listeners : List Listening) (k : ℕ) (d : LegLine) (l : Listening) (old new : List ℕ) → k < length c.legs → slice_get listeners k ≡ Some l
+pub first_more : (c : Conference) (listeners : List Listening) (k : ℕ) (d : LegLine) (l : Listening) (old new : List ℕ) → k < length c.legs → slice_get listeners k ≡ Some l
     → AreFirst c listeners k old → AppendsView c k l old new → AreFirst c listeners (k + 1) new
 first_more c listeners k d l old new low at first appends = λ given heard.
     let leg = get_or c.legs k d in
@@ -88,14 +88,14 @@ first_more c listeners k d l old new low at first appends = λ given heard.
     ∙ (ap (λ (xs : List ℕ). xs ++ live_view c k leg (given k)) (first given heard)
     ∙ sym (ap (flat_map view) (legs_more c k d low) ∙ (flat_map-append view below ((k, leg) ∷ []) ∙ ap (λ (xs : List ℕ). flat_map view below ++ xs) (append-nil (view (k, leg))))))
 
-pub first_all : (c : Conf) (listeners : List Listening) (k : ℕ) (views : List ℕ) → length c.legs ≤ k → AreFirst c listeners k views → AreViewsOf c listeners views
+pub first_all : (c : Conference) (listeners : List Listening) (k : ℕ) (views : List ℕ) → length c.legs ≤ k → AreFirst c listeners k views → AreViewsOf c listeners views
 first_all c listeners k views low first = λ given heard.
     first given heard ∙ ap (flat_map (λ x. live_view c x.0 x.1 (given x.0))) (take_all k (enumerate_from 0 c.legs) (omega (arith, length-enumerate_from 0 c.legs, low)))
 
 -- ---- lists
 -- stands for a leg where none is looked at
 abbrev pub no_leg : LegLine
-no_leg = record { line = 0; name = []; aware = false; ssrc = 0; input = []; output = []; pts = record { t140 = 0; red = 0 }; gens = 0; stay = record { from = 0; until = None }; follow = false }
+no_leg = record { line = 0; name = []; aware = false; ssrc = 0; input = []; output = []; payload_types = record { t140 = 0; red = 0 }; generations = 0; stay = record { from = 0; until = None }; follow = false }
 
 pub get_seam : {X : Type 0} (xs : List X) (x : X) (rest : List X) → slice_get (xs ++ x ∷ rest) (length xs) ≡ Some x
 get_seam [] x rest = refl

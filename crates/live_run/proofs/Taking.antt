@@ -13,7 +13,7 @@ use Rattle.mixer_spec.proofs.Legs.{come_taken}
 use Rattle.live_run.specs.Mixers.{all_admitted}
 use Rattle.live_run.specs.Taps.{Took, chunks_of, chunks_taken_in, notices_by}
 use Rattle.live_run.specs.Calls.{AreTaken}
-use Rattle.file_spec.specs.Conf.{Conf}
+use Rattle.file_spec.specs.Conference.{Conference}
 
 -- nothing was told while all legs came
 pub none_offered : (s : Setup) (n : ℕ) → notices_by s (all_admitted n) ≡ []
@@ -52,5 +52,5 @@ of_leg s i (Offer c ∷ past) = go (has_room s c.source c (after_calls s past)) 
 of_leg s i (Turn now ∷ past) = of_leg s i past
 
 -- so what a tap was told of by the calls that made a table is what was taken in it
-pub all_taken : (c : Conf) (calls : List Call) (table : Table) → after_calls (setup c) calls ≡ table → AreTaken table (chunks_taken_in (notices_by (setup c) calls))
+pub all_taken : (c : Conference) (calls : List Call) (table : Table) → after_calls (setup c) calls ≡ table → AreTaken table (chunks_taken_in (notices_by (setup c) calls))
 all_taken c calls table is j = of_leg (setup c) j calls ∙ ap (λ (t : Table). chunks_taken (t.taken j)) is

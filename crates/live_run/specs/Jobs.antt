@@ -3,10 +3,10 @@ use Rattle.std.specs.Prelude.{◌≡◌, ◌≤◌, ◌<◌, ◌^◌, ℕ, Some,
 use Rattle.std.specs.Mem.{manually_drop_value}
 use Rattle.std.specs.Vec.{vec_capacity}
 use Rattle.core.specs.declared.mem.manually_drop.ManuallyDrop.{ManuallyDrop}
-use Rattle.rtt_base.specs.declared.text_packets.Pts.{Pts}
+use Rattle.rtt_base.specs.declared.text_packets.PayloadTypes.{PayloadTypes}
 use Rattle.mixer_spec.specs.Setups.{AllStay, Setup}
 use Rattle.mixer_spec.specs.Table.{Call}
-use Rattle.item_lanes.specs.declared.lanes.Lane.{Lane}
+use Rattle.item_lanes.specs.declared.lanes.Worker.{Worker}
 use Rattle.item_lanes.specs.Lanes.{AreNew, popped_of}
 use Rattle.item_lanes.specs.Pairs.{Pairs}
 use Rattle.item_lanes.specs.Rooms.{HasRoom}
@@ -18,15 +18,15 @@ use Rattle.live_leg.specs.Items.{Item, has_fault, items_of}
 use Rattle.live_leg.specs.Stands.{LegGave, LegStands}
 use Rattle.live_loop.specs.declared.clocks.TurnClock as clocks
 use Rattle.live_loop.specs.declared.ports.LivePort.{LivePort}
-use Rattle.live_loop.specs.declared.turns.Turned.{Turned}
-use Rattle.live_loop.specs.declared.turns.Turned.TheVariants.{Done}
+use Rattle.live_loop.specs.declared.turns.TurnsEnd.{TurnsEnd}
+use Rattle.live_loop.specs.declared.turns.TurnsEnd.TheVariants.{Done}
 use Rattle.live_loop.specs.Clocks.{IsPaced, OnlyTimePassed, StandsPaced}
 use Rattle.live_loop.specs.Order.{AreInTurn}
 use Rattle.live_loop.specs.Ports.{IsBegun}
 use Rattle.live_loop.specs.Walks.{AllGrew, AreAt, HaltsThen, IsPaused, Ran, RanTo, WasFaulted, WasStopped}
 use Rattle.live_run.specs.declared.faults.LiveFault.{LiveFault}
-use Rattle.live_run.specs.declared.running.Job.{Job}
-use Rattle.live_run.specs.declared.running.Ended.{Ended}
+use Rattle.live_run.specs.declared.threads.CallJob.{CallJob}
+use Rattle.live_run.specs.declared.threads.JobReturn.{JobReturn}
 use Rattle.live_run.specs.Mixers.{all_admitted}
 
 -- ---- ports
@@ -46,7 +46,7 @@ module _ {I : Type 0} where
 
 -- ---- turns
 -- Turns were made of these ports, which were emptied then, of a mixer that stood so.
-pub record TurnsWere {I M : Type 0} (popped : I → List Item) (began : I → I → Type 0) (stands then halts : M → Setup → (ℕ → Pts) → List Call → Type 0) (turns : ℕ) (turned : Turned LiveFault) (old new : List (LivePort I)) (m m' : M) : Type 0 where
+pub record TurnsWere {I M : Type 0} (popped : I → List Item) (began : I → I → Type 0) (stands then halts : M → Setup → (ℕ → PayloadTypes) → List Call → Type 0) (turns : ℕ) (turned : TurnsEnd LiveFault) (old new : List (LivePort I)) (m m' : M) : Type 0 where
   pub ports : List (LivePort I)
   pub many : length ports ≡ length old
   pub grew : AllGrew popped began old ports
@@ -57,7 +57,7 @@ pub record TurnsWere {I M : Type 0} (popped : I → List Item) (began : I → I 
 -- ---- the whole
 module _ {L G : Type 0} where
   -- what was popped of a leg that runs
-  abbrev pub popped_in : Lane LegItem (LinkLeg L) G → List Item
+  abbrev pub popped_in : Worker LegItem (LinkLeg L) G → List Item
   popped_in lane = items_of (popped_of lane)
 
 module _ {L : Type 0} (g : links.Ghosts L) where
@@ -67,7 +67,7 @@ module _ {L : Type 0} (g : links.Ghosts L) where
 
 module _ {L M C G : Type 0} where
   -- a call may run that is described so
-  pub record CanRun {K : Type 0} (g : links.Ghosts L) (k : clocks.Ghosts C K) (legs_of turns_of : M → ℕ) (addresses : M → List Address) (horizon : ℕ) (job : Job L M C G) : Type 0 where
+  pub record CanRun {K : Type 0} (g : links.Ghosts L) (k : clocks.Ghosts C K) (legs_of turns_of : M → ℕ) (addresses : M → List Address) (horizon : ℕ) (job : CallJob L M C G) : Type 0 where
     pub few : vec_len job.legs ≤ 64
     pub new : AreNew (LegGave g) job.legs.items
     pub lanes : HasRoom (vec_len job.legs) job.lanes
@@ -84,27 +84,27 @@ module _ {L M C G : Type 0} where
     pub given : AreWithin (k.pauses job.clock.now) (addresses job.mixer)
 
   -- It ran: turns were made of what was popped of the legs, all of which came back.
-  pub record RanAs {K : Type 0} (g : links.Ghosts L) (k : clocks.Ghosts C K) (stands : M → Setup → (ℕ → Pts) → List Call → Type 0) (halted : M → Setup → (ℕ → Pts) → List Call → ℕ → Type 0) (addresses : M → List Address) (unsent : M → LiveFault → Type 0) (job : Job L M C G) (ended : Ended L M C) : Type 0 where
+  pub record RanAs {K : Type 0} (g : links.Ghosts L) (k : clocks.Ghosts C K) (stands : M → Setup → (ℕ → PayloadTypes) → List Call → Type 0) (halted : M → Setup → (ℕ → PayloadTypes) → List Call → ℕ → Type 0) (addresses : M → List Address) (unsent : M → LiveFault → Type 0) (job : CallJob L M C G) (ended : JobReturn L M C) : Type 0 where
     pub same : ended.clock.ghost_name ≡ job.clock.ghost_name
     pub passed : OnlyTimePassed k job.clock.now ended.clock.now
     pub many : length ended.legs.items ≡ length job.legs.items
     pub addresses_are : ports_of (addresses ended.mixer) ≡ ports_of (addresses job.mixer)
-    pub ports : List (LivePort (Lane LegItem (LinkLeg L) G))
+    pub ports : List (LivePort (Worker LegItem (LinkLeg L) G))
     pub each : length ports ≡ length job.legs.items
-    pub legs : (j : ℕ) (p : LivePort (Lane LegItem (LinkLeg L) G)) (first back : LinkLeg L) → slice_get ports j ≡ Some p
+    pub legs : (j : ℕ) (p : LivePort (Worker LegItem (LinkLeg L) G)) (first back : LinkLeg L) → slice_get ports j ≡ Some p
         → slice_get job.legs.items j ≡ Some first → slice_get ended.legs.items j ≡ Some back → GaveFirst g first back (popped_in p.inlet)
-    pub ran : (s : Setup) (pts : ℕ → Pts) → s.legs ≡ length job.legs.items → AllStay s → stands job.mixer s pts (all_admitted s.legs)
+    pub ran : (s : Setup) (payload_types : ℕ → PayloadTypes) → s.legs ≡ length job.legs.items → AllStay s → stands job.mixer s payload_types (all_admitted s.legs)
         → RanTo popped_in ended.turned (StandsPaced k.tells job.tick (k.moment job.clock.now) (k.moment ended.clock.now) (AreInTurn stands addresses (k.pauses job.clock.now)) stands)
-        (StandsPaced k.tells job.tick (k.moment job.clock.now) (k.moment ended.clock.now) (AreInTurn stands addresses (k.pauses job.clock.now)) (HaltsThen halted)) s pts job.turns ports ended.mixer
+        (StandsPaced k.tells job.tick (k.moment job.clock.now) (k.moment ended.clock.now) (AreInTurn stands addresses (k.pauses job.clock.now)) (HaltsThen halted)) s payload_types job.turns ports ended.mixer
     pub faulted : WasFaulted ended.turned ports
-    pub failed : (j : ℕ) (p : LivePort (Lane LegItem (LinkLeg L) G)) → slice_get ports j ≡ Some p → p.failed ≡ true → has_fault (popped_in p.inlet) ≡ true
+    pub failed : (j : ℕ) (p : LivePort (Worker LegItem (LinkLeg L) G)) → slice_get ports j ≡ Some p → p.failed ≡ true → has_fault (popped_in p.inlet) ≡ true
     pub stopped : WasStopped unsent ended.turned ended.mixer
     pub paced : k.tells → ended.turned ≡ Done → IsPaced job.turns job.tick (k.moment job.clock.now) (k.moment ended.clock.now)
     pub paused : ended.turned ≡ Done → IsPaused job.turns (k.pauses job.clock.now) (k.pauses ended.clock.now)
 
   -- the same of one that is lent
-  abbrev pub LentCanRun : {K : Type 0} → links.Ghosts L → clocks.Ghosts C K → (M → ℕ) → (M → ℕ) → (M → List Address) → ℕ → ManuallyDrop (Job L M C G) → Type 0
+  abbrev pub LentCanRun : {K : Type 0} → links.Ghosts L → clocks.Ghosts C K → (M → ℕ) → (M → ℕ) → (M → List Address) → ℕ → ManuallyDrop (CallJob L M C G) → Type 0
   LentCanRun g k legs_of turns_of addresses horizon lent = CanRun g k legs_of turns_of addresses horizon (manually_drop_value lent)
 
-  abbrev pub LentRanAs : {K : Type 0} → links.Ghosts L → clocks.Ghosts C K → (M → Setup → (ℕ → Pts) → List Call → Type 0) → (M → Setup → (ℕ → Pts) → List Call → ℕ → Type 0) → (M → List Address) → (M → LiveFault → Type 0) → ManuallyDrop (Job L M C G) → Ended L M C → Type 0
+  abbrev pub LentRanAs : {K : Type 0} → links.Ghosts L → clocks.Ghosts C K → (M → Setup → (ℕ → PayloadTypes) → List Call → Type 0) → (M → Setup → (ℕ → PayloadTypes) → List Call → ℕ → Type 0) → (M → List Address) → (M → LiveFault → Type 0) → ManuallyDrop (CallJob L M C G) → JobReturn L M C → Type 0
   LentRanAs g k stands halted addresses unsent lent ended = RanAs g k stands halted addresses unsent (manually_drop_value lent) ended

@@ -1,8 +1,8 @@
 -- Whom the terminal of a leg hears (profile).
-use Rattle.file_spec.specs.declared.conf_lines.LegLine.{LegLine}
-use Rattle.file_spec.specs.Conf.{Conf}
-use Rattle.terminal.specs.declared.confs.TermConf.{TermConf}
+use Rattle.file_spec.specs.declared.conference_lines.LegLine.{LegLine}
+use Rattle.file_spec.specs.Conference.{Conference}
+use Rattle.terminal.specs.declared.settings.TerminalSettings.{TerminalSettings}
 
 -- what the terminal of a leg is made with
-abbrev pub terminal_conf : Conf → LegLine → TermConf
-terminal_conf c leg = record { ssrc = c.mixer.ssrc; pts = leg.pts; wait = c.wait }
+abbrev pub terminal_settings : Conference → LegLine → TerminalSettings
+terminal_settings c leg = record { ssrc = c.mixer.ssrc; payload_types = leg.payload_types; wait = c.wait }

@@ -1,7 +1,7 @@
 -- What each leg of a live call counted, and the lines that say it.
 use Rattle.std.specs.Prelude.{ℕ, Some, List, [], ◌∷◌, ◌++◌, map, slice_get, ◌≡◌, if◌then◌else◌}
-use Rattle.file_spec.specs.declared.conf_lines.LegLine.{LegLine}
-use Rattle.file_spec.specs.Conf.{Conf}
+use Rattle.file_spec.specs.declared.conference_lines.LegLine.{LegLine}
+use Rattle.file_spec.specs.Conference.{Conference}
 use Rattle.view_spec.specs.declared.tallies.Tally.{Tally}
 use Rattle.view_spec.specs.Tallies.{tally_line}
 use Rattle.link_spec.specs.Links.{Takes}
@@ -12,7 +12,7 @@ use Rattle.live_leg.specs.Tallies.{IsTally}
 use Rattle.serve_spec.specs.Served.{hearing_at}
 
 -- what each of these legs counted is what came of its link
-abbrev pub AreTallies : Conf → (ℕ → Takes) → List LegTally → Type 0
+abbrev pub AreTallies : Conference → (ℕ → Takes) → List LegTally → Type 0
 AreTallies c takes tallies = (j : ℕ) (kept : LegTally) → slice_get tallies j ≡ Some kept → IsTally kept (tally_by (hearing_at c j) (takes j))
 
 -- what each leg counted
@@ -30,5 +30,5 @@ tally_lines (leg ∷ legs) [] = []
 tally_lines (leg ∷ legs) (t ∷ tallies) = tally_line leg.name (as_tally t) ++ tally_lines legs tallies
 
 -- where the conference asks for it
-abbrev pub asked_lines : Conf → List LegTally → List ℕ
+abbrev pub asked_lines : Conference → List LegTally → List ℕ
 asked_lines c tallies = if c.service.counts then tally_lines c.legs tallies else []

@@ -1,14 +1,14 @@
 -- What is told of a live call while it runs: the chunks that its mixer took, and its turns.
 use Rattle.std.specs.Prelude.{◌≡◌, ◌==◌, ◌⊎◌, ℕ, Bool, true, false, List, [], ◌∷◌, ◌++◌, filter, if◌then◌else◌}
-use Rattle.rtt_base.specs.declared.text_packets.Pts.{Pts}
+use Rattle.rtt_base.specs.declared.text_packets.PayloadTypes.{PayloadTypes}
 use Rattle.stream_spec.specs.Ready.{Chunk}
 use Rattle.mixer_spec.specs.Setups.{Setup}
 use Rattle.mixer_spec.specs.Table.{Call, Admit, Hush, Leave, Offer, Turn, after_calls, has_room}
-use Rattle.live_loop.specs.declared.turns.Turned.{Turned}
-use Rattle.live_loop.specs.declared.turns.Turned.TheVariants.{Stopped}
+use Rattle.live_loop.specs.declared.turns.TurnsEnd.{TurnsEnd}
+use Rattle.live_loop.specs.declared.turns.TurnsEnd.TheVariants.{Stopped}
 use Rattle.live_run.specs.declared.faults.LiveFault.{LiveFault}
 use Rattle.live_run.specs.declared.faults.LiveFault.TheVariants.{Link, NoMemory}
-use Rattle.live_run.specs.declared.tapped.Tapped.{Tapped}
+use Rattle.live_run.specs.declared.mixer_taps.TappedMixer.{TappedMixer}
 
 -- that the mixer took a chunk; that a turn was made, or the call is over: from then on all that was taken is shown
 pub data Notice : Type 0 where
@@ -46,20 +46,20 @@ module _ {T : Type 0} (stands : T → List Notice → Type 0) where
   Learns old new notice = (past : List Notice) → stands old past → stands new (notice ∷ past)
 
 -- These calls were made of the mixer. The tap was told what they tell, unless it had no memory for a chunk.
-pub record TellsFor {M T : Type 0} (mixes : M → Setup → (ℕ → Pts) → List Call → Type 0) (stands : T → List Notice → Type 0) (m : Tapped M T) (s : Setup) (pts : ℕ → Pts) (calls : List Call) : Type 0 where
-  pub made : mixes m.mixer s pts calls
+pub record TellsFor {M T : Type 0} (mixes : M → Setup → (ℕ → PayloadTypes) → List Call → Type 0) (stands : T → List Notice → Type 0) (m : TappedMixer M T) (s : Setup) (payload_types : ℕ → PayloadTypes) (calls : List Call) : Type 0 where
+  pub made : mixes m.mixer s payload_types calls
   pub told : m.short ≡ false → stands m.tap (notices_by s calls)
 
 -- a turn at this moment was made behind these calls, or was not sent to its end
-abbrev pub HaltsTold : {M T : Type 0} → (M → Setup → (ℕ → Pts) → List Call → Type 0) → (M → Setup → (ℕ → Pts) → List Call → ℕ → Type 0) → Tapped M T → Setup → (ℕ → Pts) → List Call → ℕ → Type 0
-HaltsTold mixes halted m s pts calls now = halted m.mixer s pts calls now ⊎ mixes m.mixer s pts (Turn now ∷ calls)
+abbrev pub HaltsTold : {M T : Type 0} → (M → Setup → (ℕ → PayloadTypes) → List Call → Type 0) → (M → Setup → (ℕ → PayloadTypes) → List Call → ℕ → Type 0) → TappedMixer M T → Setup → (ℕ → PayloadTypes) → List Call → ℕ → Type 0
+HaltsTold mixes halted m s payload_types calls now = halted m.mixer s payload_types calls now ⊎ mixes m.mixer s payload_types (Turn now ∷ calls)
 
 -- why a turn was the last: the mixer could not send, or memory ran out
-abbrev pub IsUnsentIn : {M T : Type 0} → (M → LiveFault → Type 0) → Tapped M T → LiveFault → Type 0
+abbrev pub IsUnsentIn : {M T : Type 0} → (M → LiveFault → Type 0) → TappedMixer M T → LiveFault → Type 0
 IsUnsentIn unsent m (Link leg) = unsent m.mixer (Link leg)
 IsUnsentIn unsent m NoMemory = Unit {0}
 
 -- how a call ended whose turns ended so: for want of memory where the tap had none for a chunk
-abbrev pub ended_with : Bool → Turned LiveFault → Turned LiveFault
+abbrev pub ended_with : Bool → TurnsEnd LiveFault → TurnsEnd LiveFault
 ended_with true turned = Stopped NoMemory
 ended_with false turned = turned

@@ -1,7 +1,7 @@
 //! A live call of a conference whose links are opened.
 ghost use Rattle.std.specs.Prelude.{◌≡◌, [], length, IfOk, IfErr};
 ghost use Rattle.link_io.specs.Ports.{Same};
-ghost use Rattle.conference.specs.Conferences.{conf_of};
+ghost use Rattle.conference.specs.Conferences.{meaning_of};
 ghost use Rattle.mixer_spec.specs.Setups.{AllStay, setup};
 ghost use Rattle.mixer_turn.specs.States.{legs_of};
 ghost use Rattle.live_loop.specs.Clocks.{IsPaced};
@@ -13,18 +13,18 @@ ghost use Rattle.live_run.specs.Spans.{span_of};
 ghost use Rattle.live_run.specs.Opened.{AreUnused, OpenEnds, OpenLegs};
 
 use crate::listeners::listeners_of;
-use crate::opening::Opened;
+use crate::open_links::OpenLinks;
 use crate::outputs::outputs_of;
 use crate::rooms::CallRoom;
-use crate::running::{Ended, Job, run_job};
-use crate::tapped::{Tapped, Told};
+use crate::threads::{JobReturn, CallJob, run_job};
+use crate::mixer_taps::{TappedMixer, TapReturn};
 use crate::{FarEnds, Listener, LiveFault, Tap, live_mixer};
-use conference::Conf;
+use conference::Conference;
 use item_lanes::LentGate;
 use link_io::{LinkOut, Links};
 use live_leg::LinkLeg;
-use live_loop::Turned;
-use mixer_posts::Sending;
+use live_loop::TurnsEnd;
+use mixer_posts::SendingMixer;
 use rtt_base::Packet;
 use rtt_io::Gate;
 use std::alloc::Global;
@@ -34,8 +34,8 @@ use std::thread::Threads;
 
 /// A call behind its last turn: how its turns ended, both ends of its links, the terminals that heard what was given, and the tap
 /// that was told of it.
-pub(crate) struct Called<I, O, T> {
-    pub(crate) turned: Turned<LiveFault>,
+pub(crate) struct CallReturn<I, O, T> {
+    pub(crate) turned: TurnsEnd<LiveFault>,
     pub(crate) legs: Vec<LinkLeg<I>>,
     pub(crate) ends: Vec<O>,
     pub(crate) listeners: Vec<Listener>,
@@ -43,13 +43,13 @@ pub(crate) struct Called<I, O, T> {
 }
 
 /// A call that did not begin, for want of memory.
-fn not_begun<I, O, T>(alloc: Global, legs: Vec<LinkLeg<I>>, ends: Vec<O>, tap: T) -> Called<I, O, T>
-    ensures turned { result.turned ≡ Turned.Stopped LiveFault.NoMemory }
+fn not_begun<I, O, T>(alloc: Global, legs: Vec<LinkLeg<I>>, ends: Vec<O>, tap: T) -> CallReturn<I, O, T>
+    ensures turned { result.turned ≡ TurnsEnd.Stopped LiveFault.NoMemory }
     ensures legs { result.legs ≡ legs }
     ensures ends { result.ends ≡ ends }
 {
-    Called {
-        turned: Turned::Stopped(LiveFault::NoMemory),
+    CallReturn {
+        turned: TurnsEnd::Stopped(LiveFault::NoMemory),
         legs,
         ends,
         listeners: Vec::new(alloc),
@@ -61,22 +61,22 @@ fn not_begun<I, O, T>(alloc: Global, legs: Vec<LinkLeg<I>>, ends: Vec<O>, tap: T
 /// the ends come back.
 fn mixer_over<O: LinkOut>(
     alloc: Global,
-    conf: &Conf,
+    conference: &Conference,
     ends: Vec<O>,
-) -> Result<Sending<FarEnds<O>>, Vec<O>>
-    requires stay { AllStay (setup (conf_of conf.now)) }
-    requires each { length ends.items ≡ length conf.now.legs }
+) -> Result<SendingMixer<FarEnds<O>>, Vec<O>>
+    requires stay { AllStay (setup (meaning_of conference.now)) }
+    requires each { length ends.items ≡ length conference.now.legs }
     requires unused { AreUnused O.given O.faults ends.items }
-    ensures legs { IfOk result (λ sending. legs_of sending.mixer ≡ length conf.now.legs) }
+    ensures legs { IfOk result (λ sending. legs_of sending.mixer ≡ length conference.now.legs) }
     ensures turns { IfOk result (λ sending. sending.mixer.turns ≡ 0) }
-    ensures stands { IfOk result (HasAll O.tells (packets_in O.given) O.faults (conf_of conf.now)) }
+    ensures stands { IfOk result (HasAll O.tells (packets_in O.given) O.faults (meaning_of conference.now)) }
     ensures links { IfOk result (λ sending. sending.outbound.links ≡ ends) }
     ensures back { IfErr result (λ back. back ≡ ends) }
 {
-    let Ok(listeners) = listeners_of(alloc, conf) else {
+    let Ok(listeners) = listeners_of(alloc, conference) else {
         return Err(ends);
     };
-    let Ok(outputs) = outputs_of(alloc, conf) else {
+    let Ok(outputs) = outputs_of(alloc, conference) else {
         return Err(ends);
     };
     let far = FarEnds {
@@ -85,7 +85,7 @@ fn mixer_over<O: LinkOut>(
         listeners,
         packet: Packet::new(),
     };
-    match live_mixer(alloc, conf, far) {
+    match live_mixer(alloc, conference, far) {
         Ok(mixer) => Ok(mixer),
         Err(back) => {
             let FarEnds {
@@ -104,33 +104,34 @@ fn mixer_over<O: LinkOut>(
 pub(crate) fn call<W: Links, R: Threads + Wait + Sync, G: Gate + Sync, T: Tap>(
     rt: &R,
     alloc: Global,
-    conf: &Conf,
-    opened: Opened<W::In, W::Out>,
+    conference: &Conference,
+    opened: OpenLinks<W::In, W::Out>,
     stop: Arc<AtomicBool, Global>,
     world: &mut W,
     gate: &G,
     stack: usize,
     tap: T,
-) -> Called<W::In, W::Out, T>
-    requires links { IsOfLinks (conf_of conf.now) }
-    requires each_leg { length opened.legs.items ≡ length conf.now.legs }
-    requires each_end { length opened.ends.items ≡ length conf.now.legs }
-    requires legs { OpenLegs W.In.LinkIn W.tells (W.opened world.old) (conf_of conf.now) opened.legs.items }
-    requires ends { OpenEnds W.Out.LinkOut W.tells (conf_of conf.now) opened.ends.items }
+) -> CallReturn<W::In, W::Out, T>
+    requires links { IsOfLinks (meaning_of conference.now) }
+    requires each_leg { length opened.legs.items ≡ length conference.now.legs }
+    requires each_end { length opened.ends.items ≡ length conference.now.legs }
+    requires legs { OpenLegs W.In.LinkIn W.tells (W.opened world.old) (meaning_of conference.now) opened.legs.items }
+    requires ends { OpenEnds W.Out.LinkOut W.tells (meaning_of conference.now) opened.ends.items }
     requires told { T.stands tap [] }
-    ensures called { IsCalled W.In.LinkIn W.Out.LinkOut (T.stands result.tap) W.tells (conf_of conf.now) (span_of W.Links world.old world.new)
+    ensures called { IsCalled W.In.LinkIn W.Out.LinkOut (T.stands result.tap) W.tells (meaning_of conference.now) (span_of W.Links world.old world.new)
         (W.opened world.new) result }
-    ensures paced { W.tells → result.turned ≡ Turned.Done → IsPaced conf.now.turns conf.now.tick (W.moment world.old) (W.moment world.new) }
-    ensures paused { result.turned ≡ Turned.Done → IsPaused conf.now.turns (W.pauses world.old) (W.pauses world.new) }
+    ensures paced { W.tells → result.turned ≡ TurnsEnd.Done → IsPaced conference.now.turns conference.now.tick (W.moment world.old) (W.moment world.new) }
+    ensures paused { result.turned ≡ TurnsEnd.Done → IsPaused conference.now.turns (W.pauses world.old)
+        (W.pauses world.new) }
     ensures same_own { Same W.own_faults world.old world.new }
     ensures same_objects { Same W.object_faults world.old world.new }
     ensures same_leads { W.tells → W.leads world.new ≡ W.leads world.old }
 {
-    let Opened { legs, ends } = opened;
+    let OpenLinks { legs, ends } = opened;
     let Ok(room) = CallRoom::new(alloc, legs.len()) else {
         return not_begun(alloc, legs, ends, tap);
     };
-    let mixer = match mixer_over(alloc, conf, ends) {
+    let mixer = match mixer_over(alloc, conference, ends) {
         Ok(mixer) => mixer,
         Err(ends) => {
             room.discard();
@@ -142,8 +143,8 @@ pub(crate) fn call<W: Links, R: Threads + Wait + Sync, G: Gate + Sync, T: Tap>(
         ports,
         joined,
     } = room;
-    let tapped = Tapped::new(mixer, tap);
-    let job = Job {
+    let tapped = TappedMixer::new(mixer, tap);
+    let job = CallJob {
         legs,
         lanes,
         ports,
@@ -151,23 +152,23 @@ pub(crate) fn call<W: Links, R: Threads + Wait + Sync, G: Gate + Sync, T: Tap>(
         mixer: tapped,
         stop,
         clock: world,
-        tick: u64::from(conf.tick),
-        turns: u64::from(conf.turns),
+        tick: u64::from(conference.tick),
+        turns: u64::from(conference.turns),
     };
-    let Ended {
+    let JobReturn {
         turned,
         legs,
         mixer,
         clock: _clock,
     } = run_job(rt, LentGate { gate }, stack, job);
-    let Told { turned, mixer, tap } = mixer.finish(turned);
+    let TapReturn { turned, mixer, tap } = mixer.finish(turned);
     let FarEnds {
         links,
         outputs: _,
         listeners,
         packet: _,
     } = mixer.into_outbound();
-    Called {
+    CallReturn {
         turned,
         legs,
         ends: links,

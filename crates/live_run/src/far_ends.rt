@@ -2,9 +2,9 @@
 ghost use Rattle.std.specs.Prelude.{◌≡◌, ◌≤◌, length};
 
 use crate::{Listener, LiveFault};
-use aware_output::Output;
+use aware_output::Packetizer;
 use link_io::{Beat, LinkOut};
-use mixer_posts::Outbound;
+use mixer_posts::PostSink;
 use mixer_turn::Post;
 use rtt_base::{NoMemory, Packet};
 
@@ -12,7 +12,7 @@ use rtt_base::{NoMemory, Packet};
 /// given, in leg order.
 pub struct FarEnds<O> {
     pub(crate) links: Vec<O>,
-    pub(crate) outputs: Vec<Output>,
+    pub(crate) outputs: Vec<Packetizer>,
     pub(crate) listeners: Vec<Listener>,
     /// Where a packet is written.
     pub(crate) packet: Packet,
@@ -21,7 +21,7 @@ pub struct FarEnds<O> {
     ghost both: { length listeners.items ≡ length links.items },
 }
 
-impl<O: LinkOut> Outbound for FarEnds<O> {
+impl<O: LinkOut> PostSink for FarEnds<O> {
     ghost use Rattle.std.proofs.Common.{rules};
     ghost use Rattle.std.specs.Prelude.{◌^◌};
     ghost use Rattle.live_run.specs.Ends.{WereCut, WereGiven, IsUnsent, addresses_of, counts_of, packets_in};
@@ -30,9 +30,11 @@ impl<O: LinkOut> Outbound for FarEnds<O> {
 
     type Clock = O::Clock;
 
-    ghost took = { λ ends s pts sent. WereGiven O.tells (packets_in O.given) O.faults ends s pts sent };
+    ghost took = { λ ends s payload_types sent. WereGiven O.tells (packets_in O.given) O.faults ends s payload_types
+        sent };
 
-    ghost halted = { λ ends s pts sent now next. WereCut O.tells (packets_in O.given) ends s pts sent now next };
+    ghost halted = { λ ends s payload_types sent now next. WereCut O.tells (packets_in O.given) ends s payload_types
+        sent now next };
 
     ghost sources = { λ ends. counts_of ends };
 

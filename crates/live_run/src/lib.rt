@@ -7,15 +7,15 @@ mod faults;
 mod laws;
 mod listeners;
 mod mixers;
-mod opening;
+mod open_links;
 mod outputs;
 mod reports;
 mod rooms;
-mod running;
-mod serving;
+mod threads;
+mod services;
 mod speakers;
 mod tallies;
-mod tapped;
+mod mixer_taps;
 mod taps;
 mod views;
 
@@ -25,7 +25,7 @@ pub use laws::{links_are_apart, sent_is_given};
 pub use listeners::Listener;
 pub use mixers::live_mixer;
 pub use reports::{LiveEnd, LiveReport, Views};
-pub use serving::{serve, serve_tapped};
+pub use services::{serve, serve_tapped};
 pub use taps::{NoTap, Tap};
 pub use views::printed;
 

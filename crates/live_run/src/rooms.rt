@@ -2,8 +2,8 @@
 ghost use Rattle.std.specs.Prelude.{IfOk};
 ghost use Rattle.live_run.specs.Rooms.{HasCallRoom, IsUnusedCall};
 
-use crate::running::LegLane;
-use item_lanes::LaneRoom;
+use crate::threads::LegWorker;
+use item_lanes::WorkerRoom;
 use link_io::LinkIn;
 use live_leg::{LegItem, LinkLeg};
 use live_loop::LivePort;
@@ -13,9 +13,9 @@ use std::alloc::Global;
 
 /// All memory that the legs of a live call need to run.
 pub(crate) struct CallRoom<L: LinkIn, G: Gate> {
-    pub(crate) lanes: LaneRoom<LegItem, LinkLeg<L>, G>,
-    pub(crate) ports: Vec<LivePort<LegLane<L, G>>>,
-    pub(crate) joined: Vec<LegLane<L, G>>,
+    pub(crate) lanes: WorkerRoom<LegItem, LinkLeg<L>, G>,
+    pub(crate) ports: Vec<LivePort<LegWorker<L, G>>>,
+    pub(crate) joined: Vec<LegWorker<L, G>>,
 }
 
 impl<L: LinkIn, G: Gate> CallRoom<L, G> {
@@ -30,7 +30,7 @@ impl<L: LinkIn, G: Gate> CallRoom<L, G> {
             ports.destroy_empty();
             return Err(NoMemory);
         };
-        let Ok(lanes) = LaneRoom::new(alloc, count) else {
+        let Ok(lanes) = WorkerRoom::new(alloc, count) else {
             ports.destroy_empty();
             joined.destroy_empty();
             return Err(NoMemory);

@@ -1,18 +1,18 @@
 //! Whom the terminal of a leg hears.
 ghost use Rattle.std.specs.Prelude.{◌≡◌};
-ghost use Rattle.conference.specs.Conferences.{conf_of};
-ghost use Rattle.live_run.specs.Speakers.{terminal_conf};
+ghost use Rattle.conference.specs.Conferences.{meaning_of};
+ghost use Rattle.live_run.specs.Speakers.{terminal_settings};
 
-use conference::{Conf, LegLine};
-use terminal::TermConf;
+use conference::{Conference, LegLine};
+use terminal::TerminalSettings;
 
 /// What the terminal of a leg hears.
-pub(crate) fn conf_at(conf: &Conf, leg: &LegLine) -> TermConf
-    ensures { result ≡ terminal_conf (conf_of conf.now) leg.now }
+pub(crate) fn settings_at(conference: &Conference, leg: &LegLine) -> TerminalSettings
+    ensures { result ≡ terminal_settings (meaning_of conference.now) leg.now }
 {
-    TermConf {
-        ssrc: conf.mixer.ssrc,
-        pts: leg.pts,
-        wait: u64::from(conf.wait),
+    TerminalSettings {
+        ssrc: conference.mixer.ssrc,
+        payload_types: leg.payload_types,
+        wait: u64::from(conference.wait),
     }
 }

@@ -1,13 +1,13 @@
 //! What was counted of the legs of a live call.
 ghost use Rattle.std.specs.Prelude.{◌≡◌, ◌≤◌, ◌++◌, length, OnOk};
-ghost use Rattle.conference.specs.Conferences.{conf_of};
+ghost use Rattle.conference.specs.Conferences.{meaning_of};
 ghost use Rattle.file_spec.specs.declared.limits.TheConstants.{MOST_LINKS};
 ghost use Rattle.view_spec.specs.Tallies.{tally_line};
 ghost use Rattle.live_run.specs.Tallies.{as_tally, asked_lines, tallies_in, tally_lines};
 
 use crate::Views;
 use arrayvec::ArrayVec;
-use conference::Conf;
+use conference::Conference;
 use file_spec::LegLine;
 use file_spec::limits::MOST_LINKS;
 use link_io::LinkIn;
@@ -77,15 +77,15 @@ fn append_counts(
 /// Appends what each leg counted, in leg order, where the conference asks for it.
 pub(crate) fn append_counted(
     alloc: Global,
-    conf: &Conf,
+    conference: &Conference,
     tallies: &[LegTally],
     views: &mut Views,
 ) -> Result<(), NoMemory>
-    requires each { length tallies.now ≡ length conf.now.legs }
-    ensures { OnOk result (views.new ≡ views.old ++ asked_lines (conf_of conf.now) tallies.now) }
+    requires each { length tallies.now ≡ length conference.now.legs }
+    ensures { OnOk result (views.new ≡ views.old ++ asked_lines (meaning_of conference.now) tallies.now) }
 {
-    if conf.service.counts {
-        append_counts(alloc, conf.legs.as_slice(), tallies, views)?;
+    if conference.service.counts {
+        append_counts(alloc, conference.legs.as_slice(), tallies, views)?;
     }
     Ok(())
 }

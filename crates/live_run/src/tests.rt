@@ -1,7 +1,7 @@
 //! Live calls over links in memory.
 use crate::{LiveFault, Views, links_are_apart, serve};
 use conf_text::{Form, read_conf};
-use link_io::{Came, FailingLink, MemLinks, Planned};
+use link_io::{Came, FailingLink, MemLinks, PlannedTake};
 use rtt_base::{Bytes, NoMemory};
 use rtt_io::{Gate, StillGate};
 use std::alloc::Global;
@@ -34,28 +34,28 @@ const LETTER: &[u8] = b"\x80\xE4\0\0\0\0\0\0\0\0\x03\xE9\xE2\xFF\xFC\0\xE2\xFF\x
 
 /// What comes at a port, at a moment (milliseconds).
 #[derive(Clone, Copy)]
-struct Coming {
+struct PortEvent {
     port: u16,
     at: u32,
     came: Came,
     octets: &'static [u8],
 }
 
-const LETTER_COMES: Coming = Coming {
+const LETTER_COMES: PortEvent = PortEvent {
     port: 5004,
     at: 10,
     came: Came::Datagram,
     octets: LETTER,
 };
 
-const ANN_CLOSES: Coming = Coming {
+const ANN_CLOSES: PortEvent = PortEvent {
     port: 5004,
     at: 20,
     came: Came::Closed,
     octets: b"",
 };
 
-const BOB_CLOSES: Coming = Coming {
+const BOB_CLOSES: PortEvent = PortEvent {
     port: 5006,
     at: 15,
     came: Came::Closed,
@@ -63,12 +63,12 @@ const BOB_CLOSES: Coming = Coming {
 };
 
 /// Links at which this comes.
-fn links(alloc: Global, comings: &[Coming]) -> Result<MemLinks, NoMemory> {
+fn links(alloc: Global, comings: &[PortEvent]) -> Result<MemLinks, NoMemory> {
     let mut world = MemLinks::new(alloc);
     for coming in comings {
         let mut octets = Bytes::new(alloc);
         octets.append(coming.octets)?;
-        let planned = Planned {
+        let planned = PlannedTake {
             at: coming.at,
             came: coming.came,
             octets,
@@ -89,7 +89,7 @@ fn joined(alloc: Global, views: &Views) -> Result<Bytes, NoMemory> {
 
 /// How a call ended.
 #[derive(Clone, Copy, PartialEq)]
-enum Ended {
+enum CallEnd {
     Printed,
     PrintedElse,
     Failed(u8),
@@ -100,23 +100,23 @@ enum Ended {
 fn end_of<R: Threads + Wait + Sync>(
     rt: &R,
     alloc: Global,
-    conf: &[u8],
+    conference: &[u8],
     world: &mut MemLinks,
     printed: &[u8],
-) -> Result<Ended, NoMemory> {
-    let Ok(conf) = read_conf(alloc, conf, Form::Links) else {
-        return Ok(Ended::Refused);
+) -> Result<CallEnd, NoMemory> {
+    let Ok(conference) = read_conf(alloc, conference, Form::Links) else {
+        return Ok(CallEnd::Refused);
     };
     links_are_apart();
-    match serve(rt, alloc, &conf, world, &StillGate) {
+    match serve(rt, alloc, &conference, world, &StillGate) {
         Ok(report) => {
             let shown = joined(alloc, &report.views)?;
             if shown.as_slice() == printed {
-                return Ok(Ended::Printed);
+                return Ok(CallEnd::Printed);
             }
-            Ok(Ended::PrintedElse)
+            Ok(CallEnd::PrintedElse)
         }
-        Err(LiveFault::Link { leg }) => Ok(Ended::Failed(leg)),
+        Err(LiveFault::Link { leg }) => Ok(CallEnd::Failed(leg)),
         Err(LiveFault::NoMemory) => Err(NoMemory),
     }
 }
@@ -125,13 +125,13 @@ fn end_of<R: Threads + Wait + Sync>(
 fn prints<R: Threads + Wait + Sync>(
     rt: &R,
     alloc: Global,
-    conf: &[u8],
-    comings: &[Coming],
+    conference: &[u8],
+    comings: &[PortEvent],
     printed: &[u8],
 ) -> Result<bool, NoMemory> {
     let mut world = links(alloc, comings)?;
-    let ended = end_of(rt, alloc, conf, &mut world, printed)?;
-    Ok(ended == Ended::Printed)
+    let ended = end_of(rt, alloc, conference, &mut world, printed)?;
+    Ok(ended == CallEnd::Printed)
 }
 
 #[test]
@@ -186,8 +186,8 @@ const FOLLOWED: &[u8] = b"leg Ann aware 1001 5004 127.0.0.1:6004\n\
     follow Ann\n";
 
 /// A datagram from Ann's terminal.
-fn from_ann(at: u32, octets: &'static [u8]) -> Coming {
-    Coming {
+fn from_ann(at: u32, octets: &'static [u8]) -> PortEvent {
+    PortEvent {
         port: 5004,
         at,
         came: Came::Datagram,
@@ -196,8 +196,8 @@ fn from_ann(at: u32, octets: &'static [u8]) -> Coming {
 }
 
 /// A link that is closed at last.
-fn closes(port: u16) -> Coming {
-    Coming {
+fn closes(port: u16) -> PortEvent {
+    PortEvent {
         port,
         at: 9000,
         came: Came::Closed,
@@ -213,11 +213,11 @@ fn has(text: &[u8], part: &[u8]) -> bool {
 fn bob_is_shown<R: Threads + Wait + Sync>(
     rt: &R,
     alloc: Global,
-    conf: &[u8],
-    datagrams: &[Coming],
+    conference: &[u8],
+    datagrams: &[PortEvent],
     line: &[u8],
 ) -> Result<bool, NoMemory> {
-    let Ok(conf) = read_conf(alloc, conf, Form::Links) else {
+    let Ok(conference) = read_conf(alloc, conference, Form::Links) else {
         return Ok(false);
     };
     let mut comings = Vec::new(alloc);
@@ -226,7 +226,7 @@ fn bob_is_shown<R: Threads + Wait + Sync>(
     comings.push(closes(5006))?;
     let mut world = links(alloc, comings.as_slice())?;
     links_are_apart();
-    match serve(rt, alloc, &conf, &mut world, &StillGate) {
+    match serve(rt, alloc, &conference, &mut world, &StillGate) {
         Ok(report) => Ok(has(joined(alloc, &report.views)?.as_slice(), line)),
         Err(_) => Ok(false),
     }
@@ -243,7 +243,7 @@ const BEGAN_ANEW: [(u32, &[u8]); 4] = [
 /// `E` of the first sender.
 const CAME_BACK: &[u8] = b"\x80\x62\0\x02\0\0\0\xC8\0\0\0\x05E";
 
-fn began_anew() -> [Coming; 4] {
+fn began_anew() -> [PortEvent; 4] {
     BEGAN_ANEW.map(|(at, octets)| from_ann(at, octets))
 }
 
@@ -343,7 +343,7 @@ fn fails_at_bob<R: Threads + Wait + Sync>(
 ) -> Result<bool, NoMemory> {
     let mut world = links(alloc, &[LETTER_COMES, ANN_CLOSES])?;
     world.fail(failing)?;
-    Ok(end_of(rt, alloc, CALL, &mut world, b"")? == Ended::Failed(1))
+    Ok(end_of(rt, alloc, CALL, &mut world, b"")? == CallEnd::Failed(1))
 }
 
 #[test]
@@ -370,13 +370,13 @@ fn rises(number: &AtomicU64, above: u64) -> bool {
 
 // Holds each of two legs at its first item until the other leg has come to its first.
 #[derive(Drop)]
-struct Meeting {
+struct MeetingGate {
     first: AtomicU64,
     second: AtomicU64,
     missed: AtomicBool,
 }
 
-impl Gate for Meeting {
+impl Gate for MeetingGate {
     fn pass(&self, leg: u32) {
         let (mine, other) = if leg == 0 {
             (&self.first, &self.second)
@@ -427,20 +427,20 @@ impl Gate for Seventieth {
 fn same_by<R: Threads + Wait + Sync, G: Gate + Sync>(
     rt: &R,
     alloc: Global,
-    conf: &[u8],
-    comings: &[Coming],
+    conference: &[u8],
+    comings: &[PortEvent],
     gate: &G,
 ) -> Result<bool, NoMemory> {
-    let Ok(conf) = read_conf(alloc, conf, Form::Links) else {
+    let Ok(conference) = read_conf(alloc, conference, Form::Links) else {
         return Ok(false);
     };
     links_are_apart();
     let mut world = links(alloc, comings)?;
-    let Ok(plain) = serve(rt, alloc, &conf, &mut world, &StillGate) else {
+    let Ok(plain) = serve(rt, alloc, &conference, &mut world, &StillGate) else {
         return Ok(false);
     };
     let mut world = links(alloc, comings)?;
-    let Ok(held) = serve(rt, alloc, &conf, &mut world, gate) else {
+    let Ok(held) = serve(rt, alloc, &conference, &mut world, gate) else {
         return Ok(false);
     };
     let plain = joined(alloc, &plain.views)?;
@@ -450,7 +450,7 @@ fn same_by<R: Threads + Wait + Sync, G: Gate + Sync>(
 
 #[test]
 fn legs_run_at_the_same_time(rt: HostRuntime) -> Result<(), Fail> {
-    let gate = Meeting {
+    let gate = MeetingGate {
         first: AtomicU64::new(0),
         second: AtomicU64::new(0),
         missed: AtomicBool::new(false),

@@ -1,14 +1,14 @@
 //! What the terminals of a live call show.
 ghost use Rattle.std.specs.Prelude.{◌≡◌, ◌<◌, true, false, length, IfOk, OnOk};
-ghost use Rattle.conference.specs.Conferences.{conf_of};
+ghost use Rattle.conference.specs.Conferences.{meaning_of};
 ghost use Rattle.live_run.specs.Listeners.{AppendsView, AppendsViewTo, ArePrintedOf, AreViewsOf};
 ghost use Rattle.serve_spec.specs.Served.{end_line};
 ghost use Rattle.live_run.specs.Reports.{end_of};
 
-use crate::speakers::conf_at;
+use crate::speakers::settings_at;
 use crate::tallies::append_counted;
 use crate::{Listener, LiveEnd, Views};
-use conference::{Conf, others};
+use conference::{Conference, others};
 use live_leg::LegTally;
 use rtt_base::{Bytes, NoMemory};
 use std::alloc::Global;
@@ -17,17 +17,17 @@ use terminal::View;
 /// Appends what is seen at the aware terminal of a leg.
 fn append_aware(
     alloc: Global,
-    conf: &Conf,
+    conference: &Conference,
     own: usize,
     listener: Listener,
     views: &mut Bytes,
 ) -> Result<(), NoMemory>
-    requires own { own < length conf.now.legs }
-    ensures { OnOk result (AppendsViewTo true (conf_of conf.now) own listener views.old views.new) }
+    requires own { own < length conference.now.legs }
+    ensures { OnOk result (AppendsViewTo true (meaning_of conference.now) own listener views.old views.new) }
 {
-    let leg = &conf.legs.as_slice()[own];
-    let speakers = others(alloc, conf.legs.as_slice(), own)?;
-    let terminal = listener.finished(conf_at(conf, leg), speakers.sources.as_slice())?;
+    let leg = &conference.legs.as_slice()[own];
+    let speakers = others(alloc, conference.legs.as_slice(), own)?;
+    let terminal = listener.finished(settings_at(conference, leg), speakers.sources.as_slice())?;
     let view = View::Aware {
         name: &leg.name,
         names: speakers.names.as_slice(),
@@ -38,34 +38,34 @@ fn append_aware(
 /// Appends what is seen at the terminal of a leg that is not aware.
 fn append_unaware(
     alloc: Global,
-    conf: &Conf,
+    conference: &Conference,
     own: usize,
     listener: Listener,
     views: &mut Bytes,
 ) -> Result<(), NoMemory>
-    requires own { own < length conf.now.legs }
-    ensures { OnOk result (AppendsViewTo false (conf_of conf.now) own listener views.old views.new) }
+    requires own { own < length conference.now.legs }
+    ensures { OnOk result (AppendsViewTo false (meaning_of conference.now) own listener views.old views.new) }
 {
-    let leg = &conf.legs.as_slice()[own];
-    let terminal = listener.finished(conf_at(conf, leg), &[conf.mixer.ssrc])?;
+    let leg = &conference.legs.as_slice()[own];
+    let terminal = listener.finished(settings_at(conference, leg), &[conference.mixer.ssrc])?;
     terminal.append_view(alloc, View::Unaware { name: &leg.name }, views)
 }
 
 /// Appends what is seen at the terminal of a leg.
 fn append_view(
     alloc: Global,
-    conf: &Conf,
+    conference: &Conference,
     own: usize,
     listener: Listener,
     view: &mut Bytes,
 ) -> Result<(), NoMemory>
-    requires own { own < length conf.now.legs }
-    ensures { OnOk result (AppendsView (conf_of conf.now) own listener view.old view.new) }
+    requires own { own < length conference.now.legs }
+    ensures { OnOk result (AppendsView (meaning_of conference.now) own listener view.old view.new) }
 {
-    if conf.legs.as_slice()[own].aware {
-        append_aware(alloc, conf, own, listener, view)
+    if conference.legs.as_slice()[own].aware {
+        append_aware(alloc, conference, own, listener, view)
     } else {
-        append_unaware(alloc, conf, own, listener, view)
+        append_unaware(alloc, conference, own, listener, view)
     }
 }
 
@@ -73,30 +73,30 @@ fn append_view(
 /// terminal heard is let go before it is kept.
 fn add_view(
     alloc: Global,
-    conf: &Conf,
+    conference: &Conference,
     own: usize,
     listener: Listener,
     view: &mut Bytes,
     views: &mut Views,
 ) -> Result<(), NoMemory>
-    requires own { own < length conf.now.legs }
-    ensures { OnOk result (AppendsView (conf_of conf.now) own listener views.old views.new) }
+    requires own { own < length conference.now.legs }
+    ensures { OnOk result (AppendsView (meaning_of conference.now) own listener views.old views.new) }
 {
     view.clear();
-    append_view(alloc, conf, own, listener, view)?;
+    append_view(alloc, conference, own, listener, view)?;
     views.append(alloc, view.as_slice())
 }
 
 /// What is seen at the terminals of a conference, in leg order.
-fn views_of(alloc: Global, conf: &Conf, listeners: Vec<Listener>) -> Result<Views, NoMemory>
-    requires each { length listeners.items ≡ length conf.now.legs }
-    ensures { IfOk result (AreViewsOf (conf_of conf.now) listeners.items) }
+fn views_of(alloc: Global, conference: &Conference, listeners: Vec<Listener>) -> Result<Views, NoMemory>
+    requires each { length listeners.items ≡ length conference.now.legs }
+    ensures { IfOk result (AreViewsOf (meaning_of conference.now) listeners.items) }
 {
     let mut views = Views::new(alloc);
     let mut view = Bytes::new(alloc);
     let mut own = 0;
     for listener in listeners {
-        add_view(alloc, conf, own, listener, &mut view, &mut views)?;
+        add_view(alloc, conference, own, listener, &mut view, &mut views)?;
         own += 1;
     }
     Ok(views)
@@ -116,17 +116,17 @@ fn end_line(end: LiveEnd) -> &'static [u8]
 /// asked for, what each leg counted.
 pub fn printed(
     alloc: Global,
-    conf: &Conf,
+    conference: &Conference,
     listeners: Vec<Listener>,
     tallies: &[LegTally],
     end: LiveEnd,
 ) -> Result<Views, NoMemory>
-    requires each { length listeners.items ≡ length conf.now.legs }
-    requires tallied { length tallies.now ≡ length conf.now.legs }
-    ensures { IfOk result (ArePrintedOf (conf_of conf.now) listeners.items tallies.now (end_of end)) }
+    requires each { length listeners.items ≡ length conference.now.legs }
+    requires tallied { length tallies.now ≡ length conference.now.legs }
+    ensures { IfOk result (ArePrintedOf (meaning_of conference.now) listeners.items tallies.now (end_of end)) }
 {
-    let mut printed = views_of(alloc, conf, listeners)?;
+    let mut printed = views_of(alloc, conference, listeners)?;
     printed.append(alloc, end_line(end))?;
-    append_counted(alloc, conf, tallies, &mut printed)?;
+    append_counted(alloc, conference, tallies, &mut printed)?;
     Ok(printed)
 }

@@ -57,7 +57,7 @@ text_formers h d t (Ok p) = go (is_sender d.sender p.ssrc) (takes_over h d t p.s
 
 -- ---- takes
 came_senders : (h : Hearing) (d : Told) (t : ℕ) (came : Came) → AreSenders d → AreSenders (told_came h d t came)
-came_senders h d t (Datagram octets) s = text_senders h d t (text_of octets None h.pts) s
+came_senders h d t (Datagram octets) s = text_senders h d t (text_of octets None h.payload_types) s
 came_senders h d t Large s = record { own = s.own; former = s.former }
 came_senders h d t Quiet s = record { own = s.own; former = s.former }
 came_senders h d t Closed s = record { own = s.own; former = s.former }
@@ -67,7 +67,7 @@ senders_law h [] = record { own = λ ssrc q a i. absurd i; former = tt }
 senders_law h (a ∷ past) = came_senders h (told_by h past) a.at a.came (senders_law h past)
 
 came_formers : (h : Hearing) (d : Told) (t : ℕ) (came : Came) → IsFront (all_former h d.before) (all_former h (told_came h d t came).before)
-came_formers h d t (Datagram octets) = text_formers h d t (text_of octets None h.pts)
+came_formers h d t (Datagram octets) = text_formers h d t (text_of octets None h.payload_types)
 came_formers h d t Large = ([], sym (append-nil (all_former h d.before)))
 came_formers h d t Quiet = ([], sym (append-nil (all_former h d.before)))
 came_formers h d t Closed = ([], sym (append-nil (all_former h d.before)))

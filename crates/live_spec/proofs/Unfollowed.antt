@@ -2,7 +2,7 @@
 use Rattle.std.proofs.Common.{◌≡◌, ℕ, Bool, true, false, Some, None, List, [], ◌∷◌, refl, ap, subst, sym, ◌∙◌}
 use Rattle.std.specs.Prelude.{Result, Ok, Err, ◌==◌, max, if◌then◌else◌}
 use Rattle.std.proofs.lemmas.Bool.{eq-eqb, false≢true}
-use Rattle.rtt_base.specs.declared.text_packets.Pts.{Pts}
+use Rattle.rtt_base.specs.declared.text_packets.PayloadTypes.{PayloadTypes}
 use Rattle.wire_spec.specs.declared.faults.TextFault.{TextFault}
 use Rattle.wire_spec.specs.Packets.{Packet, Arrival}
 use Rattle.wire_spec.specs.Text.{text_of}
@@ -23,17 +23,17 @@ record Same (ssrc : ℕ) (d : Told) (p : Plain) : Type 0 where
   closed : d.closed ≡ p.closed
 
 abbrev plain : Hearing → Hearing
-plain h = record { leg = h.leg; ssrc = h.ssrc; pts = h.pts; wait = h.wait; follow = false }
+plain h = record { leg = h.leg; ssrc = h.ssrc; payload_types = h.payload_types; wait = h.wait; follow = false }
 
 -- a packet is read alike where its SSRC is asked for
 record Alike (ssrc : ℕ) (any own : Result Packet TextFault) : Type 0 where
   mine : (p : Packet) → any ≡ Ok p → p.ssrc ≡ ssrc → own ≡ Ok p
   back : (p : Packet) → own ≡ Ok p → (any ≡ Ok p) × (p.ssrc ≡ ssrc)
 
-alike : (octets : List ℕ) (ssrc : ℕ) (pts : Pts) → Alike ssrc (text_of octets None pts) (text_of octets (Some ssrc) pts)
-alike octets ssrc pts = record {
-  mine = λ p e q. subst (λ (s : ℕ). text_of octets (Some s) pts ≡ Ok p) q (own_asked octets pts p e);
-  back = λ p e. any_asked octets ssrc pts p e;
+alike : (octets : List ℕ) (ssrc : ℕ) (payload_types : PayloadTypes) → Alike ssrc (text_of octets None payload_types) (text_of octets (Some ssrc) payload_types)
+alike octets ssrc payload_types = record {
+  mine = λ p e q. subst (λ (s : ℕ). text_of octets (Some s) payload_types ≡ Ok p) q (own_asked octets payload_types p e);
+  back = λ p e. any_asked octets ssrc payload_types p e;
 }
 
 -- of a told state whose sender has this SSRC
@@ -75,7 +75,7 @@ same_packet h d p t any own a s =
     subst (λ (x : Told). Same h.ssrc (told_packet (plain h) x t any) (plain_packet p t own)) e (one_packet h p.past p.moment p.closed t any own a)
 
 same_came : (h : Hearing) (d : Told) (p : Plain) (t : ℕ) (came : Came) → Same h.ssrc d p → Same h.ssrc (told_came (plain h) d t came) (plain_came h p t came)
-same_came h d p t (Datagram octets) s = same_packet h d p t (text_of octets None h.pts) (text_of octets (Some h.ssrc) h.pts) (alike octets h.ssrc h.pts) s
+same_came h d p t (Datagram octets) s = same_packet h d p t (text_of octets None h.payload_types) (text_of octets (Some h.ssrc) h.payload_types) (alike octets h.ssrc h.payload_types) s
 same_came h d p t Large s = record { before = s.before; sender = s.sender; past = s.past; moment = ap (λ n. max n t) s.moment; closed = s.closed }
 same_came h d p t Quiet s = record { before = s.before; sender = s.sender; past = s.past; moment = ap (λ n. max n t) s.moment; closed = s.closed }
 same_came h d p t Closed s = record { before = s.before; sender = s.sender; past = s.past; moment = s.moment; closed = refl }
@@ -99,7 +99,7 @@ plain_law h takes =
 
 pub unfollowed_law : Unfollowed
 unfollowed_law h takes e =
-    let same : plain h ≡ h = λ i. record { leg = h.leg; ssrc = h.ssrc; pts = h.pts; wait = h.wait; follow = sym e i } in
+    let same : plain h ≡ h = λ i. record { leg = h.leg; ssrc = h.ssrc; payload_types = h.payload_types; wait = h.wait; follow = sym e i } in
     subst (λ (x : Hearing). IsPlain x takes) same (plain_law h takes)
 
 -- the same by what was told

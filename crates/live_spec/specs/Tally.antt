@@ -41,7 +41,7 @@ tally_packet h d t (Ok p) y = if is_sender d.sender p.ssrc then with_text y else
 tally_packet h d t (Err fault) y = with_refused y
 
 abbrev pub tally_came : Hearing → Told → ℕ → Came → Tally → Tally
-tally_came h d t (Datagram octets) y = tally_packet h d t (text_of octets None h.pts) y
+tally_came h d t (Datagram octets) y = tally_packet h d t (text_of octets None h.payload_types) y
 tally_came h d t Large y = with_refused y
 tally_came h d t Quiet y = y
 tally_came h d t Closed y = y

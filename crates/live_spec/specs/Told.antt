@@ -3,7 +3,7 @@
 -- 3550, section 8): of a leg that is followed one sender takes over from another.
 use Rattle.std.specs.Prelude.{ℕ, ◌+◌, ◌==◌, ◌&&◌, ◌||◌, Bool, true, false, not, nat_le, Option, None, Some, List, [], ◌∷◌, ◌++◌, filter, map, take, max, min, Result, Ok, Err, if◌then◌else◌}
 use Rattle.std.specs.List.{list_any}
-use Rattle.rtt_base.specs.declared.text_packets.Pts.{Pts}
+use Rattle.rtt_base.specs.declared.text_packets.PayloadTypes.{PayloadTypes}
 use Rattle.wire_spec.specs.declared.faults.TextFault.{TextFault}
 use Rattle.wire_spec.specs.Packets.{Packet, Arrival}
 use Rattle.wire_spec.specs.Text.{text_of}
@@ -18,7 +18,7 @@ use Rattle.link_spec.specs.Links.{Came, Datagram, Large, Quiet, Closed, Takes}
 pub record Hearing : Type 0 where
   pub leg : ℕ
   pub ssrc : ℕ
-  pub pts : Pts
+  pub payload_types : PayloadTypes
   pub wait : ℕ
   pub follow : Bool
 
@@ -113,7 +113,7 @@ told_packet h d t (Ok p) =
 told_packet h d t (Err fault) = d
 
 abbrev pub told_came : Hearing → Told → ℕ → Came → Told
-told_came h d t (Datagram octets) = told_packet h d t (text_of octets None h.pts)
+told_came h d t (Datagram octets) = told_packet h d t (text_of octets None h.payload_types)
 told_came h d t Large = told_moment d t
 told_came h d t Quiet = told_moment d t
 told_came h d t Closed = record d { closed = true }

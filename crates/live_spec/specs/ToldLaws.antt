@@ -26,7 +26,7 @@ plain_packet d t (Ok p) = record { past = record { time = max d.moment t; packet
 plain_packet d t (Err fault) = d
 
 abbrev pub plain_came : Hearing → Plain → ℕ → Came → Plain
-plain_came h d t (Datagram octets) = plain_packet d t (text_of octets (Some h.ssrc) h.pts)
+plain_came h d t (Datagram octets) = plain_packet d t (text_of octets (Some h.ssrc) h.payload_types)
 plain_came h d t Large = record d { moment = max d.moment t }
 plain_came h d t Quiet = record d { moment = max d.moment t }
 plain_came h d t Closed = record d { closed = true }

@@ -4,7 +4,7 @@ use Rattle.std.proofs.lemmas.List.{append-nil}
 use Rattle.std.proofs.lemmas.Str.{IsUtf8-from_is_utf8, is_utf8-from_IsUtf8}
 use Rattle.stream_spec.specs.Ready.{Chunk}
 use Rattle.item_queue.specs.Giving.{items_by}
-use Rattle.item_lanes.specs.declared.lanes.Lane.{Lane}
+use Rattle.item_lanes.specs.declared.lanes.Worker.{Worker}
 use Rattle.item_lanes.specs.Lanes.{LaneFollows, popped_of}
 use Rattle.mix_loop.specs.declared.answers.Answer.{Answer}
 use Rattle.mix_loop.specs.declared.items.Item.{Item}
@@ -102,7 +102,7 @@ module _ {I F : Type 0} (stands : I → I → Gave F → Type 0) where
       subst (λ (l : List (Answer F)). stands first back (gave_of l)) (ap (λ r. popped ++ r) none ∙ append-nil popped) s.gives
 
 -- ---- a lane
-module _ {L F G : Type 0} (stands : L → L → List (Answer F) → Type 0) (first old new : Lane (Answer F) L G) (gave : Gave F) where
+module _ {L F G : Type 0} (stands : L → L → List (Answer F) → Type 0) (first old new : Worker (Answer F) L G) (gave : Gave F) where
   pub pulled : (a : Answer F) (x : Item F) (c : Chunk) → LaneStands stands first old gave → popped_of new ≡ popped_of old ++ a ∷ [] → LaneFollows stands old new → x ≡ a.item → c ≡ said_in a
       → LaneStands stands first new (gave_more x c gave)
   pulled a x c s more follows is text = record {

@@ -8,7 +8,7 @@ use Rattle.mixer_spec.specs.Table.{Table, Call, departed, entered, given, has_ro
 use Rattle.mixer_spec.specs.Legs.{held}
 use Rattle.mixer_spec.specs.Core.{gone}
 use Rattle.mixer_spec.specs.Plain.{Desk, left_over, table_after, goes, goes_below, comes_below, offers, offers_below, before_turn}
-use Rattle.mix_loop.specs.declared.ports.Seat.TheVariants.{Listens}
+use Rattle.mix_loop.specs.declared.ports.SeatState.TheVariants.{Listens}
 use Rattle.mix_loop.specs.declared.ports.Port.{Port}
 use Rattle.mix_loop.specs.declared.turns.Before.TheVariants as before
 use Rattle.mix_loop.specs.Items.{Gave, is_open}

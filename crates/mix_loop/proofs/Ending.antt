@@ -3,15 +3,15 @@ use Rattle.std.proofs.Common.{◌≡◌, ◌<◌, ◌≤◌, ℕ, zero, suc, inl
 use Rattle.std.specs.Prelude.{◌&&◌, filter, nat_le, slice_get}
 use Rattle.std.proofs.lemmas.List.{length-map}
 use Rattle.file_spec.specs.Stays.{is_before_end}
-use Rattle.file_spec.specs.declared.conf_lines.LegLine.{LegLine}
+use Rattle.file_spec.specs.declared.conference_lines.LegLine.{LegLine}
 use Rattle.mixer_spec.specs.Setups.{Setup}
 use Rattle.mixer_spec.specs.Table.{Call}
 use Rattle.mix_loop.specs.declared.ports.Port.{Port}
-use Rattle.mix_loop.specs.declared.turns.Mixing.{Mixing}
+use Rattle.mix_loop.specs.declared.turns.MixEnd.{MixEnd}
 use Rattle.mix_loop.specs.Items.{Gave, nothing, is_open}
 use Rattle.mix_loop.specs.Mixing.{GaveAll, MixedAll, NoneGave, StayAs, part_of}
 use Rattle.mix_loop.specs.Ports.{AreNew, StaysAs, counted, of_leg}
-use Rattle.mix_loop.specs.Turns.{AllFresh, AreSound, MixedAs, Tells}
+use Rattle.mix_loop.specs.Turns.{AllFresh, AreSound, MixedAs, TellsMixing}
 use Rattle.mix_loop.proofs.Lists.{funext, lt_or_ge}
 use Rattle.mix_loop.proofs.Opening.{inlet_in}
 
@@ -68,7 +68,7 @@ module _ {I F : Type 0} where
   part_is s j p gave stays = λ ι. record { chunks = map (of_leg j) (filter (λ c. nat_le (sym stays.from ι) c.ready && is_before_end c.ready (sym stays.until ι)) gave.chunks); ended = gave.ended }
 
 -- ---- behind
-module _ {I F M T : Type 0} (stands : I → I → Gave F → Type 0) (mixes : M → Setup → List Call → Type 0) (s : Setup) (firsts : List I) (tick turns : ℕ) (answer : Mixing F T)
+module _ {I F M T : Type 0} (stands : I → I → Gave F → Type 0) (mixes : M → Setup → List Call → Type 0) (s : Setup) (firsts : List I) (tick turns : ℕ) (answer : MixEnd F T)
     (qs : List (Port I F)) (m : M) (x : MixedAs stands mixes s firsts tick turns answer qs m) (legs : s.legs ≡ length qs) where
   -- what the inlet gave of the port with this number, if there is one
   abbrev whole_at : (j : ℕ) (o : Option (Port I F)) → slice_get qs j ≡ o → Gave F
@@ -117,5 +117,5 @@ module _ {I F M T : Type 0} (stands : I → I → Gave F → Type 0) (mixes : M 
         subst (λ (i : I). GaveAll stands firsts j i (whole j)) r.2 (at_leg j r.0 r.1).gave;
     above = above;
     mixed = x.mixed;
-    tells = subst (λ (g : ℕ → Gave F). Tells answer s tick turns g x.table) parts_are x.tells;
+    tells = subst (λ (g : ℕ → Gave F). TellsMixing answer s tick turns g x.table) parts_are x.tells;
   }

@@ -2,22 +2,22 @@
 use Rattle.std.proofs.Common.{◌≡◌, ◌<◌, ◌≤◌, ◌+◌, ℕ, zero, suc, true, false, true≢false, inl, inr, Some, None, Option, List, [], ◌∷◌, length, set, refl, ap, sym, subst, ◌∙◌, arith}
 use Rattle.std.specs.Prelude.{slice_get}
 use Rattle.std.proofs.lemmas.Bool.{cases_eq}
-use Rattle.file_spec.specs.declared.conf_lines.Stay.{Stay}
+use Rattle.file_spec.specs.declared.conference_lines.Stay.{Stay}
 use Rattle.mixer_spec.specs.Rounds.{set_at}
 use Rattle.mixer_spec.specs.Setups.{Setup}
 use Rattle.mixer_spec.specs.Table.{Table, Call}
 use Rattle.mixer_spec.specs.Plain.{plain}
 use Rattle.mixer_spec.proofs.Lists.{nil, set_same, set_other}
-use Rattle.mix_loop.specs.declared.items.Ended.{Ended}
-use Rattle.mix_loop.specs.declared.items.Ended.TheVariants.{Open, AtEnd, AtFault}
+use Rattle.mix_loop.specs.declared.items.TextsEnd.{TextsEnd}
+use Rattle.mix_loop.specs.declared.items.TextsEnd.TheVariants.{Open, AtEnd, AtFault}
 use Rattle.mix_loop.specs.declared.ports.Port.{Port}
-use Rattle.mix_loop.specs.declared.turns.Turned.{Turned}
-use Rattle.mix_loop.specs.declared.turns.Turned.TheVariants as turn
-use Rattle.mix_loop.specs.declared.turns.Mixing.TheVariants as mixing
+use Rattle.mix_loop.specs.declared.turns.TurnsEnd.{TurnsEnd}
+use Rattle.mix_loop.specs.declared.turns.TurnsEnd.TheVariants as turn
+use Rattle.mix_loop.specs.declared.turns.MixEnd.TheVariants as mixing
 use Rattle.mix_loop.specs.Items.{Gave, nothing, is_open, is_fault, fault_in}
 use Rattle.mix_loop.specs.Mixers.{At}
-use Rattle.mix_loop.specs.Ports.{MayCome, SameSeat, StaysAs, Holds, DrainedTo, Grows, hand_of}
-use Rattle.mix_loop.specs.Turns.{Known, all_of, Answers, AnswersAs, GrowsAll, AllAtEnd, mixing_of, KnownAt, AllKnown, TurnsTo, DrainsTo, ended_at, NoFaultBelow, IsLowestAt, GaveAt, MixedAs, Tells, UnlessStopped, UnlessUnsent}
+use Rattle.mix_loop.specs.Ports.{MayCome, SameSeat, StaysAs, PortHolds, DrainedTo, Grows, hand_of}
+use Rattle.mix_loop.specs.Turns.{Known, all_of, Answers, AnswersAs, GrowsAll, AllAtEnd, mixing_of, KnownAt, AllKnown, TurnsTo, DrainsTo, ended_at, NoFaultBelow, IsLowestAt, GaveAt, MixedAs, TellsMixing, UnlessStopped, UnlessUnsent}
 use Rattle.mix_loop.proofs.Lists.{funext, lt_or_ge, get_within, set_length}
 use Rattle.mix_loop.proofs.Reaching.{known_set, back, back_may, back_all, known_on}
 
@@ -43,7 +43,7 @@ module _ {I F : Type 0} (stands : I → I → Gave F → Type 0) (s : Setup) (fi
   drains_none ps known = record { kn' = kn; known = known; grows = record { goes = λ rest may. (rest, may, refl); kept = λ j e. refl }; above = λ j high. refl; closed = λ j low. absurd (omega arith) }
 
   pub drains_more : (i : ℕ) (ps : List (Port I F)) (p r : Port I F) → DrainsTo stands s firsts i kn ps → slice_get ps i ≡ Some p → SameSeat p r → is_open r.ended ≡ false
-      → ((first : I) (gave : Gave F) → Holds stands i first p gave → DrainedTo stands i first gave r) → DrainsTo stands s firsts (i + 1) kn (set ps i r)
+      → ((first : I) (gave : Gave F) → PortHolds stands i first p gave → DrainedTo stands i first gave r) → DrainsTo stands s firsts (i + 1) kn (set ps i r)
   drains_more i ps p r o at same closed d =
       let low = get_within ps i p at in
       let x = o.kn' i in
@@ -78,22 +78,22 @@ module _ {I F : Type 0} where
   some_at (q ∷ ps) zero low = (q, refl)
   some_at (q ∷ ps) (suc i) low = some_at ps i (omega arith)
 
-some_fault : {F : Type 0} (e : Ended F) (f : F) → fault_in e ≡ Some f → e ≡ AtFault f
+some_fault : {F : Type 0} (e : TextsEnd F) (f : F) → fault_in e ≡ Some f → e ≡ AtFault f
 some_fault Open f q = absurd (cc q)
 some_fault AtEnd f q = absurd (cc q)
 some_fault (AtFault g) f q = ap AtFault (cc q)
 
-none_fault : {F : Type 0} (e : Ended F) → fault_in e ≡ None → is_fault e ≡ false
+none_fault : {F : Type 0} (e : TextsEnd F) → fault_in e ≡ None → is_fault e ≡ false
 none_fault Open q = refl
 none_fault AtEnd q = refl
 none_fault (AtFault g) q = absurd (cc q)
 
-at_end : {F : Type 0} (e : Ended F) → is_open e ≡ false → is_fault e ≡ false → e ≡ AtEnd
+at_end : {F : Type 0} (e : TextsEnd F) → is_open e ≡ false → is_fault e ≡ false → e ≡ AtEnd
 at_end Open o f = absurd (true≢false o)
 at_end AtEnd o f = refl
 at_end (AtFault g) o f = absurd (true≢false f)
 
-fault_closed : {F : Type 0} (e : Ended F) → is_fault e ≡ true → is_open e ≡ false
+fault_closed : {F : Type 0} (e : TextsEnd F) → is_fault e ≡ true → is_open e ≡ false
 fault_closed Open f = absurd (true≢false (sym f))
 fault_closed AtEnd f = refl
 fault_closed (AtFault g) f = refl
@@ -113,7 +113,7 @@ module _ {I F : Type 0} (ps : List (Port I F)) where
 
 -- ---- in the end
 module _ {I F M T : Type 0} (stands : I → I → Gave F → Type 0) (mixes : M → Setup → List Call → Type 0) (s : Setup) (firsts : List I) (tick turns : ℕ)
-    (t : Turned T) (ps qs : List (Port I F)) (m : M) (o : TurnsTo stands mixes s firsts tick turns t ps m) (same_length : length qs ≡ length ps) (d : DrainsTo stands s firsts (length qs) o.kn qs) where
+    (t : TurnsEnd T) (ps qs : List (Port I F)) (m : M) (o : TurnsTo stands mixes s firsts tick turns t ps m) (same_length : length qs ≡ length ps) (d : DrainsTo stands s firsts (length qs) o.kn qs) where
   abbrev gave : ℕ → Gave F
   gave j = (d.kn' j).gave
 
@@ -174,16 +174,16 @@ module _ {I F M T : Type 0} (stands : I → I → Gave F → Type 0) (mixes : M 
     all_end : AllAtEnd s.legs gave
     all_end = at_end_below s.legs (omega arith) (λ j low. none j (let e = legs in omega (arith, e, low)))
 
-    tells_all : (x : Turned T) → t ≡ x → UnlessUnsent {F = F} (mixing_of x) (At mixes m s o.table) → Tells (mixing_of x) s tick turns gave o.table → MixedAs stands mixes s firsts tick turns (mixing_of x) qs m
+    tells_all : (x : TurnsEnd T) → t ≡ x → UnlessUnsent {F = F} (mixing_of x) (At mixes m s o.table) → TellsMixing (mixing_of x) s tick turns gave o.table → MixedAs stands mixes s firsts tick turns (mixing_of x) qs m
     tells_all x e mixed tells = record { gave = gave; table = o.table; legs = legs_gave; above = above; stays = all_stay; mixed = mixed; tells = tells }
 
-    told : (x : Turned T) → t ≡ x → AnswersAs x s tick turns o.kn o.table
-    told x e = subst (λ (x : Turned T). AnswersAs x s tick turns o.kn o.table) e o.answers
+    told : (x : TurnsEnd T) → t ≡ x → AnswersAs x s tick turns o.kn o.table
+    told x e = subst (λ (x : TurnsEnd T). AnswersAs x s tick turns o.kn o.table) e o.answers
 
-    at_table : (x : Turned T) → t ≡ x → UnlessStopped x (At mixes m s o.table)
-    at_table x e = subst (λ (x : Turned T). UnlessStopped x (At mixes m s o.table)) e o.mixed
+    at_table : (x : TurnsEnd T) → t ≡ x → UnlessStopped x (At mixes m s o.table)
+    at_table x e = subst (λ (x : TurnsEnd T). UnlessStopped x (At mixes m s o.table)) e o.mixed
 
-    pub end_tells : (x : Turned T) → t ≡ x → MixedAs stands mixes s firsts tick turns (mixing_of x) qs m
+    pub end_tells : (x : TurnsEnd T) → t ≡ x → MixedAs stands mixes s firsts tick turns (mixing_of x) qs m
     end_tells turn.Over e = tells_all turn.Over e (at_table turn.Over e) (answers_all (Some o.table) (told turn.Over e), all_end)
     end_tells turn.TooLong e = tells_all turn.TooLong e (at_table turn.TooLong e) (answers_all None (told turn.TooLong e), all_end)
     end_tells (turn.Stopped why) e = tells_all (turn.Stopped why) e tt tt

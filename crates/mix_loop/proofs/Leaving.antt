@@ -5,7 +5,7 @@ use Rattle.std.proofs.lemmas.Bool.{not-true}
 use Rattle.mixer_spec.specs.Setups.{Setup, is_before_end}
 use Rattle.mixer_spec.specs.Table.{Table, Call, Admit, Hush, Leave, is_seated, after_calls, free_place, admitted, hushed, freed, may_leave, departed, stopped, entered}
 use Rattle.mixer_spec.specs.Calls.{IsAdmit, IsHush}
-use Rattle.mix_loop.specs.declared.ports.Seat.TheVariants.{Away, Listens, Hushed, Left}
+use Rattle.mix_loop.specs.declared.ports.SeatState.TheVariants.{Away, Listens, Hushed, Left}
 use Rattle.mix_loop.specs.declared.ports.Port.{Port}
 use Rattle.mix_loop.specs.Mixers.{At}
 use Rattle.mix_loop.specs.Ports.{SeatAt, StaysAs, is_away, is_to_stop, is_to_leave, is_spent, seat_with}

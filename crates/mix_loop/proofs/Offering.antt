@@ -4,7 +4,7 @@ use Rattle.std.specs.Prelude.{◌&&◌, filter, map, nat_le}
 use Rattle.std.proofs.lemmas.Bool.{and_parts}
 use Rattle.std.proofs.lemmas.List.{map-append}
 use Rattle.std.proofs.lemmas.List.Elements.{filter-append}
-use Rattle.file_spec.specs.declared.conf_lines.Stay.{Stay}
+use Rattle.file_spec.specs.declared.conference_lines.Stay.{Stay}
 use Rattle.file_spec.specs.Stays.{stays_at}
 use Rattle.stream_spec.specs.Ready.{Chunk, chunk_of}
 use Rattle.mixer_spec.specs.Setups.{Setup}
@@ -14,15 +14,15 @@ use Rattle.mixer_spec.specs.Plain.{left_over, table_after}
 use Rattle.mixer_spec.proofs.Lists.{nil}
 use Rattle.mix_loop.specs.declared.items.Item.{Item}
 use Rattle.mix_loop.specs.declared.items.Item.TheVariants as item
-use Rattle.mix_loop.specs.declared.items.Ended.{Ended}
-use Rattle.mix_loop.specs.declared.items.Ended.TheVariants.{Open, AtEnd, AtFault}
+use Rattle.mix_loop.specs.declared.items.TextsEnd.{TextsEnd}
+use Rattle.mix_loop.specs.declared.items.TextsEnd.TheVariants.{Open, AtEnd, AtFault}
 use Rattle.mix_loop.specs.declared.ports.Port.{Port}
 use Rattle.mix_loop.specs.Items.{Gave, IsOf, IsSaid, ended_by, gave_more, goes_on, is_chunk, is_open}
 use Rattle.mix_loop.specs.Addresses.{Address}
 use Rattle.mix_loop.specs.Mixers.{At, Keeps}
-use Rattle.mix_loop.specs.Ports.{OnlyHand, IsSound, SameSeat, MayCome, Pulls, Gathers, Gathered, Holds, PulledTo, GatheringTo, GatheredTo, DrainedTo, counted, counts, hand_of, hand_with, mixed_of, of_leg}
+use Rattle.mix_loop.specs.Ports.{OnlyHand, PortIsSound, SameSeat, MayCome, Pulls, Gathers, Gathered, PortHolds, PulledTo, GatheringTo, GatheredTo, DrainedTo, counted, counts, hand_of, hand_with, mixed_of, of_leg}
 
-open_is : {F : Type 0} (e : Ended F) → is_open e ≡ true → e ≡ Open
+open_is : {F : Type 0} (e : TextsEnd F) → is_open e ≡ true → e ≡ Open
 open_is Open o = refl
 open_is AtEnd o = absurd (true≢false (sym o))
 open_is (AtFault f) o = absurd (true≢false (sym o))
@@ -51,7 +51,7 @@ module _ {F : Type 0} where
   ended_more item.End c gave o = refl
   ended_more (item.Fault f) c gave o = refl
 
-  not_closed : (e : Ended F) (rest : List Chunk) → is_open e ≡ true → MayCome e rest
+  not_closed : (e : TextsEnd F) (rest : List Chunk) → is_open e ≡ true → MayCome e rest
   not_closed e rest o = λ z. absurd (true≢false (sym o ∙ z))
 
 pub said_of : (j : ℕ) (c : Chunk) → IsSaid c → IsOf j (of_leg j c)
@@ -176,10 +176,10 @@ abbrev pub chunk_in : {I F : Type 0} → Port I F → Chunk
 chunk_in p = chunk_of p.hand
 
 module _ {I F M : Type 0} (stands : I → I → Gave F → Type 0) (mixes : M → Setup → List Call → Type 0) (s : Setup) (i t : ℕ) (first : I) (gave : Gave F) (hand : Option Chunk) (table : Table) where
-  pub to_none : (p : Port I F) (m : M) → Holds stands i first p gave → At mixes m s table → hand_of p ≡ hand → GatheringTo stands mixes s i t first gave hand table p m
+  pub to_none : (p : Port I F) (m : M) → PortHolds stands i first p gave → At mixes m s table → hand_of p ≡ hand → GatheringTo stands mixes s i t first gave hand table p m
   to_none p m h a e = record { gave' = gave; table' = table; holds = h; mixed = a; gathers = subst (λ (o : Option Chunk). Gathers s i t gave hand table gave o table) (sym e) (gathers_none s i t gave hand table) }
 
-  pub to_pull : (p q : Port I F) (m : M) → GatheringTo stands mixes s i t first gave hand table p m → ((gave : Gave F) → Holds stands i first p gave → PulledTo stands i first (hand_of p) gave q)
+  pub to_pull : (p q : Port I F) (m : M) → GatheringTo stands mixes s i t first gave hand table p m → ((gave : Gave F) → PortHolds stands i first p gave → PulledTo stands i first (hand_of p) gave q)
       → GatheringTo stands mixes s i t first gave hand table q m
   to_pull p q m g k =
       let x = k g.gave' g.holds in
@@ -241,22 +241,22 @@ module _ {I F M : Type 0} (stands : I → I → Gave F → Type 0) (mixes : M �
         })
 
 -- a port of which the hand alone is another
-pub hand_sound : {I F : Type 0} (good : I → Type 0) (j : ℕ) (p q : Port I F) (full : p.full ≡ true) → IsSound good j p → OnlyHand p q → IsSound good j q
-hand_sound {I} {F} good j p q full h only = subst (λ (x : Port I F). IsSound good j x) (sym only) (record { asked = h.asked; hand = λ f. h.hand full })
+pub hand_sound : {I F : Type 0} (good : I → Type 0) (j : ℕ) (p q : Port I F) (full : p.full ≡ true) → PortIsSound good j p → OnlyHand p q → PortIsSound good j q
+hand_sound {I} {F} good j p q full h only = subst (λ (x : Port I F). PortIsSound good j x) (sym only) (record { asked = h.asked; hand = λ f. h.hand full })
 
 pub hand_seat : {I F : Type 0} (p q : Port I F) → OnlyHand p q → SameSeat p q
 hand_seat {I} {F} p q only = record { stay = ap (λ (x : Port I F). x.stay) only; seat = ap (λ (x : Port I F). x.seat) only }
 
 -- ---- without looking at what comes
 module _ {I F : Type 0} (stands : I → I → Gave F → Type 0) (j : ℕ) (first : I) (gave : Gave F) where
-  pub drained_none : (p : Port I F) → Holds stands j first p gave → DrainedTo stands j first gave p
+  pub drained_none : (p : Port I F) → PortHolds stands j first p gave → DrainedTo stands j first gave p
   drained_none p h = record { gave' = gave; holds = h; grows = record { goes = λ rest may. (rest, may, refl); kept = λ e. refl } }
 
   pub drained_pull : (p q r : Port I F) → DrainedTo stands j first gave p → is_open p.ended ≡ true → q ≡ record p { full = false }
-      → ((gave : Gave F) → Holds stands j first q gave → PulledTo stands j first (hand_of q) gave r) → DrainedTo stands j first gave r
+      → ((gave : Gave F) → PortHolds stands j first q gave → PulledTo stands j first (hand_of q) gave r) → DrainedTo stands j first gave r
   drained_pull p q r g o same k =
       let h = g.holds in
-      let x = k g.gave' (subst (λ (y : Port I F). Holds stands j first y g.gave') (sym same) (record { whole = h.whole; gives = h.gives; is = h.is; ended = h.ended })) in
+      let x = k g.gave' (subst (λ (y : Port I F). PortHolds stands j first y g.gave') (sym same) (record { whole = h.whole; gives = h.gives; is = h.is; ended = h.ended })) in
       record {
         gave' = x.gave';
         holds = x.holds;

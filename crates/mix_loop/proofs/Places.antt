@@ -7,25 +7,25 @@ use Rattle.mixer_spec.specs.Setups.{Setup, is_before_end}
 use Rattle.mixer_spec.specs.Table.{Table, come_to, admitted, hushed, freed, free_place, may_enter, entered, may_stop, stopped, may_leave, is_done, departed}
 use Rattle.mixer_spec.specs.Core.{gone}
 use Rattle.mixer_spec.proofs.Lists.{set_same, set_other}
-use Rattle.mix_loop.specs.declared.ports.Seat.{Seat}
-use Rattle.mix_loop.specs.declared.ports.Seat.TheVariants.{Away, Listens, Hushed, Left}
+use Rattle.mix_loop.specs.declared.ports.SeatState.{SeatState}
+use Rattle.mix_loop.specs.declared.ports.SeatState.TheVariants.{Away, Listens, Hushed, Left}
 use Rattle.mix_loop.specs.Ports.{SeatAt, SeatsKept, is_away, seat_with}
 use Rattle.mix_loop.proofs.Lists.{set_still}
 
 -- ---- seats
-pub listening_is : (seat : Seat) (over : Bool) → elim seat [ Listens ↦ over | _ ↦ false ] ≡ true → (seat ≡ Listens) × (over ≡ true)
+pub listening_is : (seat : SeatState) (over : Bool) → elim seat [ Listens ↦ over | _ ↦ false ] ≡ true → (seat ≡ Listens) × (over ≡ true)
 listening_is Away over e = absurd (true≢false (sym e))
 listening_is Listens over e = (refl, e)
 listening_is Hushed over e = absurd (true≢false (sym e))
 listening_is Left over e = absurd (true≢false (sym e))
 
-pub hushed_is : (seat : Seat) (spent : Bool) → elim seat [ Hushed ↦ spent | _ ↦ false ] ≡ true → seat ≡ Hushed
+pub hushed_is : (seat : SeatState) (spent : Bool) → elim seat [ Hushed ↦ spent | _ ↦ false ] ≡ true → seat ≡ Hushed
 hushed_is Away spent e = absurd (true≢false (sym e))
 hushed_is Listens spent e = absurd (true≢false (sym e))
 hushed_is Hushed spent e = refl
 hushed_is Left spent e = absurd (true≢false (sym e))
 
-pub away_is : (seat : Seat) → is_away seat ≡ true → seat ≡ Away
+pub away_is : (seat : SeatState) → is_away seat ≡ true → seat ≡ Away
 away_is Away e = refl
 away_is Listens e = absurd (true≢false (sym e))
 away_is Hushed e = absurd (true≢false (sym e))
@@ -43,7 +43,7 @@ module _ (s : Setup) (i t : ℕ) (table : Table) where
   pub stopped_over : SeatAt table.seats i Listens → is_before_end t (s.until i) ≡ false → stopped s i t table ≡ hushed i table
   stopped_over h e = ap (λ b. cond {A = Table} (b && not (is_before_end t (s.until i))) (hushed i table) table) h.1 ∙ ap (λ b. cond {A = Table} (not b) (hushed i table) table) e
 
-  pub stopped_still : (seat : Seat) → SeatAt table.seats i seat → elim seat [ Listens ↦ not (is_before_end t (s.until i)) | _ ↦ false ] ≡ false → stopped s i t table ≡ table
+  pub stopped_still : (seat : SeatState) → SeatAt table.seats i seat → elim seat [ Listens ↦ not (is_before_end t (s.until i)) | _ ↦ false ] ≡ false → stopped s i t table ≡ table
   stopped_still Away h e = ap (λ o. cond {A = Table} (is_some o && not (is_before_end t (s.until i))) (hushed i table) table) h.1
   stopped_still Listens h e = ap (λ b. cond {A = Table} (b && not (is_before_end t (s.until i))) (hushed i table) table) h.1 ∙ ap (λ b. cond {A = Table} b (hushed i table) table) e
   stopped_still Hushed h e = go (may_stop s i t table)
@@ -65,7 +65,7 @@ hushed_seat i table h = (h.0, h.1, set_same table.seats.listens i false i refl)
 
 -- ---- a leg leaves
 module _ (s : Setup) (i : ℕ) (table : Table) where
-  pub departed_still : (seat : Seat) → SeatAt table.seats i seat → (seat ≡ Hushed → ⊥) → departed s i table ≡ table
+  pub departed_still : (seat : SeatState) → SeatAt table.seats i seat → (seat ≡ Hushed → ⊥) → departed s i table ≡ table
   departed_still Away h e = go (may_leave s i table)
     where
       go : (b : Bool) → cond {A = Table} b (freed i table) table ≡ table
@@ -79,7 +79,7 @@ module _ (s : Setup) (i : ℕ) (table : Table) where
       go true = freed_still i table h.1
       go false = refl
 
-  pub gone_still : (seat : Seat) → SeatAt table.seats i seat → (seat ≡ Hushed → ⊥) → (xs : List Chunk) → gone s i xs table ≡ table
+  pub gone_still : (seat : SeatState) → SeatAt table.seats i seat → (seat ≡ Hushed → ⊥) → (xs : List Chunk) → gone s i xs table ≡ table
   gone_still seat h e [] = departed_still seat h e
   gone_still seat h e (c ∷ cs) = refl
 
@@ -116,7 +116,7 @@ module _ (s : Setup) (i t : ℕ) (table : Table) where
   came_still : table.seats.came i ≡ true → entered s i t table ≡ table
   came_still e = ap (λ b. entering (nat_lt i s.legs && (not b && nat_le (s.from i) t))) e ∙ ap entering (no_other (nat_lt i s.legs) (nat_le (s.from i) t))
 
-  pub entered_still : (seat : Seat) → SeatAt table.seats i seat → is_away seat ≡ false → entered s i t table ≡ table
+  pub entered_still : (seat : SeatState) → SeatAt table.seats i seat → is_away seat ≡ false → entered s i t table ≡ table
   entered_still Away h e = absurd (true≢false e)
   entered_still Listens h e = came_still h.0
   entered_still Hushed h e = came_still h.0

@@ -10,16 +10,16 @@ use Rattle.mixer_spec.specs.Legs.{held}
 use Rattle.mixer_spec.specs.Core.{gone}
 use Rattle.mixer_spec.specs.Plain.{Desk, left_over, table_after, offers, goes}
 use Rattle.mixer_spec.proofs.Lists.{set_same, set_other}
-use Rattle.mix_loop.specs.declared.ports.Seat.{Seat}
-use Rattle.mix_loop.specs.declared.ports.Seat.TheVariants.{Away, Listens, Hushed, Left}
+use Rattle.mix_loop.specs.declared.ports.SeatState.{SeatState}
+use Rattle.mix_loop.specs.declared.ports.SeatState.TheVariants.{Away, Listens, Hushed, Left}
 use Rattle.mix_loop.specs.declared.ports.Port.{Port}
 use Rattle.mix_loop.specs.Items.{Gave, is_open}
 use Rattle.mix_loop.specs.Mixers.{At}
-use Rattle.mix_loop.specs.Ports.{MayCome, SeatAt, SeatsKept, Gathered, hand_of, hand_with, is_away, is_to_leave, SameSeat, Holds}
+use Rattle.mix_loop.specs.Ports.{MayCome, SeatAt, SeatsKept, Gathered, hand_of, hand_with, is_away, is_to_leave, SameSeat, PortHolds}
 use Rattle.mix_loop.specs.Turns.{Known, all_of, desk_of, MayComeAll, Reaches, Settled, KnownAt, AllKnown, IsNow, BecomesBy, comes}
 use Rattle.mix_loop.proofs.Lists.{funext, get_set_same, get_set_other, set_length}
 use Rattle.mix_loop.proofs.Places.{gone_still}
-use Rattle.file_spec.specs.declared.conf_lines.Stay.{Stay}
+use Rattle.file_spec.specs.declared.conference_lines.Stay.{Stay}
 
 -- ---- one step behind the other
 pub reaches_none : {F : Type 0} (kn : ℕ → Known F) (table : Table) → Reaches (λ d. d) kn table kn table
@@ -39,7 +39,7 @@ pub gone_is : {I F : Type 0} (s : Setup) (i : ℕ) (table : Table) (p : Port I F
     → (is_away p.seat ≡ false → hand ≡ None → is_open p.ended ≡ false) → gone s i (held hand ++ rest) table ≡ cond {A = Table} (is_to_leave p) (departed s i table) table
 gone_is s i table p seat hand is rest may settled = go p.seat p.full (is_open p.ended) refl refl refl seat
   where
-    go : (x : Seat) (f o : Bool) → p.seat ≡ x → p.full ≡ f → is_open p.ended ≡ o → SeatAt table.seats i x
+    go : (x : SeatState) (f o : Bool) → p.seat ≡ x → p.full ≡ f → is_open p.ended ≡ o → SeatAt table.seats i x
         → gone s i (held hand ++ rest) table ≡ cond {A = Table} (elim x [ Hushed ↦ not f && not o | _ ↦ false ]) (departed s i table) table
     go Away f o ex ef eo at = gone_still s i table Away at (λ e. cc e) (held hand ++ rest)
     go Listens f o ex ef eo at = gone_still s i table Listens at (λ e. cc e) (held hand ++ rest)
@@ -52,10 +52,10 @@ gone_is s i table p seat hand is rest may settled = go p.seat p.full (is_open p.
         spent false eo n a = ap (λ (v : Option Chunk × List Chunk). gone s i (held v.0 ++ v.1) table) (λ ι. (n ι, may eo ι))
 
 -- only its seat is another
-abbrev pub seated : {F : Type 0} → Known F → Seat → Known F
+abbrev pub seated : {F : Type 0} → Known F → SeatState → Known F
 seated x seat = record { gave = x.gave; hand = x.hand; seat = seat }
 
-module _ {F : Type 0} (kn : ℕ → Known F) (i : ℕ) (seat : Seat) where
+module _ {F : Type 0} (kn : ℕ → Known F) (i : ℕ) (seat : SeatState) where
   abbrev with_seat : ℕ → Known F
   with_seat = set_at kn i (seated (kn i) seat)
 
@@ -155,7 +155,7 @@ offers_one {F} s t i kn y table table' g = record {
 }
 
 -- ---- what is known of one leg is another
-seat_kept : (seat : Seat) (i j : ℕ) (old new : Seats) → SeatsKept i old new → (j ≡ i → ⊥) → SeatAt old j seat → SeatAt new j seat
+seat_kept : (seat : SeatState) (i j : ℕ) (old new : Seats) → SeatsKept i old new → (j ≡ i → ⊥) → SeatAt old j seat → SeatAt new j seat
 seat_kept Away i j old new k n h = (k.came j n ∙ h.0, k.place j n ∙ h.1)
 seat_kept Listens i j old new k n h = (k.came j n ∙ h.0, ap is_some (k.place j n) ∙ h.1, k.listens j n ∙ h.2)
 seat_kept Hushed i j old new k n h = (k.came j n ∙ h.0, ap is_some (k.place j n) ∙ h.1, k.listens j n ∙ h.2)
@@ -169,7 +169,7 @@ kept_more i a b c x y = record { place = λ j n. y.place j n ∙ x.place j n; ca
 
 module _ {I F : Type 0} (stands : I → I → Gave F → Type 0) (s : Setup) (firsts : List I) where
   -- a port whose leg and seat are as they were, with what it gave since
-  pub known_on : (i : ℕ) (p r : Port I F) (x : Known F) (k : KnownAt stands s firsts i p x) (gave : Gave F) → SameSeat p r → Holds stands i k.first r gave → KnownAt stands s firsts i r (record { gave = gave; hand = hand_of r; seat = x.seat })
+  pub known_on : (i : ℕ) (p r : Port I F) (x : Known F) (k : KnownAt stands s firsts i p x) (gave : Gave F) → SameSeat p r → PortHolds stands i k.first r gave → KnownAt stands s firsts i r (record { gave = gave; hand = hand_of r; seat = x.seat })
   known_on i p r x k gave same holds = record {
     first = k.first;
     of = k.of;

@@ -11,7 +11,7 @@ use Rattle.mixer_spec.specs.Legs.{held}
 use Rattle.mixer_spec.specs.Plain.{Desk, before_turn, is_over, plain_from, plain}
 use Rattle.mix_loop.specs.declared.ports.Port.{Port}
 use Rattle.mix_loop.specs.declared.turns.Before.TheVariants as before
-use Rattle.mix_loop.specs.declared.turns.Turned.TheVariants as turn
+use Rattle.mix_loop.specs.declared.turns.TurnsEnd.TheVariants as turn
 use Rattle.mix_loop.specs.Items.{Gave, is_fault, nothing}
 use Rattle.mix_loop.specs.Mixers.{At}
 use Rattle.mix_loop.specs.Ports.{hand_of, hand_with, is_away}
@@ -19,7 +19,7 @@ use Rattle.mix_loop.specs.Turns.{Known, unknown, all_of, desk_of, MayComeAll, Re
 use Rattle.mix_loop.proofs.Lists.{lt_or_ge}
 use Rattle.mix_loop.proofs.Reaching.{becomes_then}
 use Rattle.mix_loop.specs.declared.turns.Before.{Before}
-use Rattle.mix_loop.specs.declared.turns.Turned.{Turned}
+use Rattle.mix_loop.specs.declared.turns.TurnsEnd.{TurnsEnd}
 
 -- ---- plain mixing, cut behind what is done before a turn
 pick : (b : Bool) (x : Option Table) → cond b x None ≡ elim b as (λ b. Option Table) [ true ↦ x | false ↦ None ]
@@ -147,7 +147,7 @@ module _ {I F M : Type 0} (stands : I → I → Gave F → Type 0) (mixes : M �
     reached kn' table' r = subst (λ (t : ℕ). Reaches (before_turn s t) b.kn b.table kn' table') at r
 
     -- an answer of the turns, by what settling comes to
-    ends_as : {T : Type 0} (what : Before) (answer : Turned T) (o : SettlesBy stands mixes s firsts what (before_turn s now) b.kn b.table qs m1) → UnlessStopped answer (At mixes m1 s o.becomes.table') → AnswersAs answer s tick turns o.becomes.kn' o.becomes.table'
+    ends_as : {T : Type 0} (what : Before) (answer : TurnsEnd T) (o : SettlesBy stands mixes s firsts what (before_turn s now) b.kn b.table qs m1) → UnlessStopped answer (At mixes m1 s o.becomes.table') → AnswersAs answer s tick turns o.becomes.kn' o.becomes.table'
         → TurnsTo {T = T} stands mixes s firsts tick turns answer qs m1
     ends_as what answer o mixed answers = let n = o.becomes.now in record { kn = o.becomes.kn'; table = o.becomes.table'; known = n.known; legs = n.legs; above = n.above; mixed = mixed; answers = answers }
 

@@ -9,7 +9,7 @@ use Rattle.mixer_spec.proofs.Lists.{set_same, set_other}
 use Rattle.mix_loop.specs.declared.ports.Port.{Port}
 use Rattle.mix_loop.specs.Items.{Gave, is_open}
 use Rattle.mix_loop.specs.Mixers.{At}
-use Rattle.mix_loop.specs.Ports.{SeatAt, SeatsKept, StaysAs, OnlySeat, SameSeat, IsSound, Holds, Gathered, GatheredTo, hand_of, is_away, is_to_leave}
+use Rattle.mix_loop.specs.Ports.{SeatAt, SeatsKept, StaysAs, OnlySeat, SameSeat, PortIsSound, PortHolds, Gathered, GatheredTo, hand_of, is_away, is_to_leave}
 use Rattle.mix_loop.specs.Turns.{Known, AreSound, KnownAt, IsNow, BecomesBy, GoesBy, OffersBy, Settled, comes}
 use Rattle.mix_loop.proofs.Lists.{get_there, get_within, get_set_same, get_set_other}
 use Rattle.mix_loop.proofs.Places.{stopped_kept, departed_kept, entered_kept}
@@ -18,15 +18,15 @@ use Rattle.mix_loop.proofs.Reaching.{seated, goes_one, comes_one, offers_one, se
 -- ---- ports that are sound
 module _ {I F : Type 0} (good : I → Type 0) where
   -- one that is read at an index
-  pub sound_read : (ps : List (Port I F)) (i : ℕ) (x : Port I F) → AreSound good ps → i < length ps → IsSound good i (get_or ps i x)
+  pub sound_read : (ps : List (Port I F)) (i : ℕ) (x : Port I F) → AreSound good ps → i < length ps → PortIsSound good i (get_or ps i x)
   sound_read ps i x a low = a i (get_or ps i x) (get_there ps i x low)
 
-  pub sound_set : (ps : List (Port I F)) (i : ℕ) (q : Port I F) → AreSound good ps → i < length ps → IsSound good i q → AreSound good (set ps i q)
+  pub sound_set : (ps : List (Port I F)) (i : ℕ) (q : Port I F) → AreSound good ps → i < length ps → PortIsSound good i q → AreSound good (set ps i q)
   sound_set ps i q a low sound j r e = elim (cases_eq j i) [
     | inl same ↦
         let same_port : Some q ≡ Some r = sym (get_set_same ps i q low) ∙ (ap (slice_get (set ps i q)) (sym same) ∙ e) in
         let is : q ≡ r = cc same_port in
-        subst (λ (v : ℕ × Port I F). IsSound good v.0 v.1) (λ ι. (sym same ι, is ι)) sound
+        subst (λ (v : ℕ × Port I F). PortIsSound good v.0 v.1) (λ ι. (sym same ι, is ι)) sound
     | inr other ↦ a j r (sym (get_set_other ps i q j other) ∙ e)
   ]
 
@@ -34,7 +34,7 @@ module _ {I F : Type 0} (good : I → Type 0) where
   pub sound_seat : (ps : List (Port I F)) (i : ℕ) (p q : Port I F) → AreSound good ps → slice_get ps i ≡ Some p → OnlySeat p q → AreSound good (set ps i q)
   sound_seat ps i p q a e only =
       let r = a i p e in
-      sound_set ps i q a (get_within ps i p e) (subst (λ (x : Port I F). IsSound good i x) (sym only) (record { asked = r.asked; hand = r.hand }))
+      sound_set ps i q a (get_within ps i p e) (subst (λ (x : Port I F). PortIsSound good i x) (sym only) (record { asked = r.asked; hand = r.hand }))
 
 pub only_more : {I F : Type 0} (p q r : Port I F) → OnlySeat p q → OnlySeat q r → OnlySeat p r
 only_more {I} {F} p q r a b = b ∙ ap (λ (x : Port I F). record x { seat = r.seat }) a
@@ -107,7 +107,7 @@ module _ {I F M : Type 0} (stands : I → I → Gave F → Type 0) (mixes : M �
         (seat_known i p r x k only) (entered_kept s i t b.table') c.1 c.0 (comes_one b.kn' i r.seat s t b.table'))
 
     pub offer_more : OffersBy stands mixes s firsts i (offers_below s t i) kn table ps m → SameSeat p r
-        → ((s : Setup) (table : Table) (first : I) (gave : Gave F) → Holds stands i first p gave → At mixes m s table → GatheredTo stands mixes s i t first gave (hand_of p) table r m2)
+        → ((s : Setup) (table : Table) (first : I) (gave : Gave F) → PortHolds stands i first p gave → At mixes m s table → GatheredTo stands mixes s i t first gave (hand_of p) table r m2)
         → OffersBy stands mixes s firsts (i + 1) (offers_below s t (i + 1)) kn table (set ps i r) m2
     offer_more b same gathers =
         let n = b.becomes.now in

@@ -4,13 +4,13 @@ use Rattle.wire_spec.specs.Packets.{has_text}
 use Rattle.stream_spec.specs.Ready.{Chunk}
 use Rattle.mix_loop.specs.declared.items.Item.{Item}
 use Rattle.mix_loop.specs.declared.items.Item.TheVariants as item
-use Rattle.mix_loop.specs.declared.items.Ended.{Ended}
-use Rattle.mix_loop.specs.declared.items.Ended.TheVariants.{Open, AtEnd, AtFault}
+use Rattle.mix_loop.specs.declared.items.TextsEnd.{TextsEnd}
+use Rattle.mix_loop.specs.declared.items.TextsEnd.TheVariants.{Open, AtEnd, AtFault}
 
 -- these chunks, oldest first, and how they ended
 pub record Gave (F : Type 0) : Type 0 where
   pub chunks : List Chunk
-  pub ended : Ended F
+  pub ended : TextsEnd F
 
 -- a chunk has a text
 pub record IsSaid (c : Chunk) : Type 0 where
@@ -48,23 +48,23 @@ module _ {F : Type 0} where
   is_chunk item.Chunk = true
   is_chunk _ = false
 
-  abbrev pub ended_by : Item F → Ended F
+  abbrev pub ended_by : Item F → TextsEnd F
   ended_by item.Chunk = Open
   ended_by item.Later = Open
   ended_by item.End = AtEnd
   ended_by (item.Fault fault) = AtFault fault
 
-  abbrev pub is_open : Ended F → Bool
+  abbrev pub is_open : TextsEnd F → Bool
   is_open Open = true
   is_open AtEnd = false
   is_open (AtFault fault) = false
 
-  abbrev pub is_fault : Ended F → Bool
+  abbrev pub is_fault : TextsEnd F → Bool
   is_fault Open = false
   is_fault AtEnd = false
   is_fault (AtFault fault) = true
 
-  abbrev pub fault_in : Ended F → Option F
+  abbrev pub fault_in : TextsEnd F → Option F
   fault_in Open = None
   fault_in AtEnd = None
   fault_in (AtFault fault) = Some fault

@@ -1,6 +1,6 @@
 -- A mixer, by its table.
 use Rattle.std.specs.Prelude.{◌≡◌, ◌<◌, ◌*◌, ℕ, Bool, is_some, List, ◌∷◌}
-use Rattle.rtt_base.specs.declared.text_packets.Pts.{Pts}
+use Rattle.rtt_base.specs.declared.text_packets.PayloadTypes.{PayloadTypes}
 use Rattle.mixer_spec.specs.Setups.{Setup}
 use Rattle.mixer_spec.specs.Table.{Table, Call, Admit, Hush, Leave, Offer, Turn, after_calls, free_place, may_leave, has_room, is_idle}
 use Rattle.mixer_spec.specs.Calls.{IsAdmit, IsHush}
@@ -15,8 +15,8 @@ module _ {M : Type 0} where
     pub addresses : addresses_of new ≡ addresses_of old
 
   -- where the terminals have these payload types
-  abbrev pub Of : (M → Setup → (ℕ → Pts) → List Call → Type 0) → (ℕ → Pts) → M → Setup → List Call → Type 0
-  Of stands pts m s calls = stands m s pts calls
+  abbrev pub Of : (M → Setup → (ℕ → PayloadTypes) → List Call → Type 0) → (ℕ → PayloadTypes) → M → Setup → List Call → Type 0
+  Of stands payload_types m s calls = stands m s payload_types calls
 
   -- calls were made that lead to this table
   pub record At (mixes : M → Setup → List Call → Type 0) (m : M) (s : Setup) (table : Table) : Type 0 where
@@ -25,38 +25,38 @@ module _ {M : Type 0} where
     pub leads : after_calls s calls ≡ table
 
 -- ---- what a call tells, of a mixer that stands for calls
-module _ {M : Type 0} (stands : M → Setup → (ℕ → Pts) → List Call → Type 0) where
+module _ {M : Type 0} (stands : M → Setup → (ℕ → PayloadTypes) → List Call → Type 0) where
   -- a leg was admitted where it may be, and found a place or none
   abbrev pub Admits : M → M → ℕ → Bool → Bool → Type 0
   Admits old new leg listens found =
-      (s : Setup) (pts : ℕ → Pts) (calls : List Call) → stands old s pts calls → IsAdmit s leg listens calls
-      → stands new s pts (Admit leg listens ∷ calls) × (found ≡ is_some (free_place s (after_calls s calls).seats))
+      (s : Setup) (payload_types : ℕ → PayloadTypes) (calls : List Call) → stands old s payload_types calls → IsAdmit s leg listens calls
+      → stands new s payload_types (Admit leg listens ∷ calls) × (found ≡ is_some (free_place s (after_calls s calls).seats))
 
   -- a leg was hushed where it may be
   abbrev pub Hushes : M → M → ℕ → Type 0
-  Hushes old new leg = (s : Setup) (pts : ℕ → Pts) (calls : List Call) → stands old s pts calls → IsHush s leg calls → stands new s pts (Hush leg ∷ calls)
+  Hushes old new leg = (s : Setup) (payload_types : ℕ → PayloadTypes) (calls : List Call) → stands old s payload_types calls → IsHush s leg calls → stands new s payload_types (Hush leg ∷ calls)
 
   -- a leg left or stayed
   abbrev pub Leaves : M → M → ℕ → Bool → Type 0
   Leaves old new leg left =
-      (s : Setup) (pts : ℕ → Pts) (calls : List Call) → stands old s pts calls → stands new s pts (Leave leg ∷ calls) × (left ≡ may_leave s leg (after_calls s calls))
+      (s : Setup) (payload_types : ℕ → PayloadTypes) (calls : List Call) → stands old s payload_types calls → stands new s payload_types (Leave leg ∷ calls) × (left ≡ may_leave s leg (after_calls s calls))
 
   -- a chunk was taken or not
   abbrev pub Offers : M → M → Chunk → Bool → Type 0
   Offers old new c taken =
-      (s : Setup) (pts : ℕ → Pts) (calls : List Call) → stands old s pts calls → stands new s pts (Offer c ∷ calls) × (taken ≡ has_room s c.source c (after_calls s calls))
+      (s : Setup) (payload_types : ℕ → PayloadTypes) (calls : List Call) → stands old s payload_types calls → stands new s payload_types (Offer c ∷ calls) × (taken ≡ has_room s c.source c (after_calls s calls))
 
   -- a turn was made
   abbrev pub Turns : M → M → ℕ → Type 0
-  Turns old new now = (s : Setup) (pts : ℕ → Pts) (calls : List Call) → stands old s pts calls → stands new s pts (Turn now ∷ calls)
+  Turns old new now = (s : Setup) (payload_types : ℕ → PayloadTypes) (calls : List Call) → stands old s payload_types calls → stands new s payload_types (Turn now ∷ calls)
 
   -- a turn was not sent to its end
-  abbrev pub Halts : (M → Setup → (ℕ → Pts) → List Call → ℕ → Type 0) → M → M → ℕ → Type 0
-  Halts halted old new now = (s : Setup) (pts : ℕ → Pts) (calls : List Call) → stands old s pts calls → halted new s pts calls now
+  abbrev pub Halts : (M → Setup → (ℕ → PayloadTypes) → List Call → ℕ → Type 0) → M → M → ℕ → Type 0
+  Halts halted old new now = (s : Setup) (payload_types : ℕ → PayloadTypes) (calls : List Call) → stands old s payload_types calls → halted new s payload_types calls now
 
   -- whether its table is idle
   abbrev pub TellsIdle : M → Bool → Type 0
-  TellsIdle m idle = (s : Setup) (pts : ℕ → Pts) (calls : List Call) → stands m s pts calls → idle ≡ is_idle s (after_calls s calls)
+  TellsIdle m idle = (s : Setup) (payload_types : ℕ → PayloadTypes) (calls : List Call) → stands m s payload_types calls → idle ≡ is_idle s (after_calls s calls)
 
 -- so many turns, one each tick, come before this moment
 abbrev pub ComeBefore : ℕ → ℕ → ℕ → Type 0

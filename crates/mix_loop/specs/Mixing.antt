@@ -1,16 +1,16 @@
 -- What a mixing of inlets tells, by what they gave.
 use Rattle.std.specs.Prelude.{◌≡◌, ◌≤◌, ℕ, false, Some, List, [], length, map, slice_get}
 use Rattle.std.specs.Vec.{vec_capacity}
-use Rattle.rtt_base.specs.declared.text_packets.Pts.{Pts}
-use Rattle.file_spec.specs.declared.conf_lines.LegLine.{LegLine}
+use Rattle.rtt_base.specs.declared.text_packets.PayloadTypes.{PayloadTypes}
+use Rattle.file_spec.specs.declared.conference_lines.LegLine.{LegLine}
 use Rattle.mixer_spec.specs.Setups.{Setup, in_stay}
 use Rattle.mixer_spec.specs.Table.{Table, Call}
-use Rattle.mix_loop.specs.declared.mixing.Room.{Room}
-use Rattle.mix_loop.specs.declared.turns.Mixing.{Mixing}
+use Rattle.mix_loop.specs.declared.plain_mix.Room.{Room}
+use Rattle.mix_loop.specs.declared.turns.MixEnd.{MixEnd}
 use Rattle.mix_loop.specs.Items.{Gave, nothing, is_open}
 use Rattle.mix_loop.specs.Mixers.{At, Of}
 use Rattle.mix_loop.specs.Ports.{of_leg}
-use Rattle.mix_loop.specs.Turns.{Tells, UnlessUnsent}
+use Rattle.mix_loop.specs.Turns.{TellsMixing, UnlessUnsent}
 
 -- what counts of all that the leg j gave: what is ready within its stay, as its chunks
 abbrev pub part_of : {F : Type 0} → Setup → ℕ → Gave F → Gave F
@@ -45,16 +45,16 @@ module _ {I F : Type 0} where
 
   -- Each leg gave this, and no more. What is answered is what plain mixing comes to of what counts of it, or the lowest leg's fault;
   -- unless the mixer could not send, it has this table.
-  pub record MixedAll {M T : Type 0} (stands : I → I → Gave F → Type 0) (mixes : M → Setup → List Call → Type 0) (s : Setup) (tick turns : ℕ) (answer : Mixing F T) (old new : List I) (m : M) : Type 0 where
+  pub record MixedAll {M T : Type 0} (stands : I → I → Gave F → Type 0) (mixes : M → Setup → List Call → Type 0) (s : Setup) (tick turns : ℕ) (answer : MixEnd F T) (old new : List I) (m : M) : Type 0 where
     pub gave : ℕ → Gave F
     pub table : Table
     pub legs : (j : ℕ) (now : I) → slice_get new j ≡ Some now → GaveAll stands old j now (gave j)
     pub above : (j : ℕ) → s.legs ≤ j → gave j ≡ nothing
     pub mixed : UnlessUnsent answer (At mixes m s table)
-    pub tells : Tells answer s tick turns (λ j. part_of s j (gave j)) table
+    pub tells : TellsMixing answer s tick turns (λ j. part_of s j (gave j)) table
 
   -- In a mixing of inlets that gave nothing yet, by a mixer of which nothing was called, this was answered.
-  abbrev pub MixesInlets : {M T : Type 0} → (I → I → Gave F → Type 0) → (M → Setup → (ℕ → Pts) → List Call → Type 0) → ℕ → ℕ → List LegLine → Mixing F T → List I → List I → M → M → Type 0
+  abbrev pub MixesInlets : {M T : Type 0} → (I → I → Gave F → Type 0) → (M → Setup → (ℕ → PayloadTypes) → List Call → Type 0) → ℕ → ℕ → List LegLine → MixEnd F T → List I → List I → M → M → Type 0
   MixesInlets stands mixes tick turns legs answer old new m m' =
-      (s : Setup) (pts : ℕ → Pts) → NoneGave stands old → mixes m s pts [] → s.legs ≡ length old → StayAs s legs
-      → MixedAll stands (Of mixes pts) s tick turns answer old new m'
+      (s : Setup) (payload_types : ℕ → PayloadTypes) → NoneGave stands old → mixes m s payload_types [] → s.legs ≡ length old → StayAs s legs
+      → MixedAll stands (Of mixes payload_types) s tick turns answer old new m'

@@ -1,7 +1,7 @@
 -- What is known of one leg at the mixer. Whatever it still gives, its chunks so far are where they belong.
 use Rattle.std.specs.Prelude.{◌≡◌, ℕ, Bool, true, false, not, ◌&&◌, is_some, Option, None, Some, List, [], ◌++◌, map, filter, slice_get, if◌then◌else◌}
-use Rattle.file_spec.specs.declared.conf_lines.LegLine.{LegLine}
-use Rattle.file_spec.specs.declared.conf_lines.Stay.{Stay}
+use Rattle.file_spec.specs.declared.conference_lines.LegLine.{LegLine}
+use Rattle.file_spec.specs.declared.conference_lines.Stay.{Stay}
 use Rattle.file_spec.specs.Stays.{stays_at}
 use Rattle.stream_spec.specs.Ready.{Chunk, chunk_of}
 use Rattle.mixer_spec.specs.Setups.{Setup, is_before_end}
@@ -9,25 +9,25 @@ use Rattle.mixer_spec.specs.Table.{Table, Seats, Call}
 use Rattle.mixer_spec.specs.Legs.{held}
 use Rattle.mixer_spec.specs.Plain.{left_over, table_after}
 use Rattle.mix_loop.specs.declared.items.Item.{Item}
-use Rattle.mix_loop.specs.declared.items.Ended.{Ended}
-use Rattle.mix_loop.specs.declared.items.Ended.TheVariants.{Open}
-use Rattle.mix_loop.specs.declared.ports.Seat.{Seat}
-use Rattle.mix_loop.specs.declared.ports.Seat.TheVariants.{Away, Listens, Hushed, Left}
+use Rattle.mix_loop.specs.declared.items.TextsEnd.{TextsEnd}
+use Rattle.mix_loop.specs.declared.items.TextsEnd.TheVariants.{Open}
+use Rattle.mix_loop.specs.declared.ports.SeatState.{SeatState}
+use Rattle.mix_loop.specs.declared.ports.SeatState.TheVariants.{Away, Listens, Hushed, Left}
 use Rattle.mix_loop.specs.declared.ports.Port.{Port}
 use Rattle.mix_loop.specs.Items.{Gave, IsOf, is_chunk, is_open}
 use Rattle.mix_loop.specs.Mixers.{At}
 
 -- ---- seats
-abbrev pub is_away : Seat → Bool
+abbrev pub is_away : SeatState → Bool
 is_away Away = true
 is_away _ = false
 
 -- the seat of a leg that came
-abbrev pub seat_with : Bool → Seat
+abbrev pub seat_with : Bool → SeatState
 seat_with listens = if listens then Listens else Hushed
 
 -- who holds which place has this of the leg i
-abbrev pub SeatAt : Seats → ℕ → Seat → Type 0
+abbrev pub SeatAt : Seats → ℕ → SeatState → Type 0
 SeatAt seats i Away = (seats.came i ≡ false) × (seats.place i ≡ None)
 SeatAt seats i Listens = (seats.came i ≡ true) × (is_some (seats.place i) ≡ true) × (seats.listens i ≡ true)
 SeatAt seats i Hushed = (seats.came i ≡ true) × (is_some (seats.place i) ≡ true) × (seats.listens i ≡ false)
@@ -61,7 +61,7 @@ abbrev pub hand_with : Bool → Chunk → Option Chunk
 hand_with full c = if full then Some c else None
 
 -- these chunks may still come: none, where the leg's chunks ended
-abbrev pub MayCome : {F : Type 0} → Ended F → List Chunk → Type 0
+abbrev pub MayCome : {F : Type 0} → TextsEnd F → List Chunk → Type 0
 MayCome e rest = is_open e ≡ false → rest ≡ []
 
 -- From what a leg gave, with this hand, to more of it: whatever comes behind the later might have come behind the earlier, in
@@ -146,12 +146,12 @@ module _ {I F : Type 0} where
     pub until : s.until i ≡ p.stay.until
 
   -- its inlet may be asked, unless it ended; a chunk in hand is one of the leg j
-  pub record IsSound (good : I → Type 0) (j : ℕ) (p : Port I F) : Type 0 where
+  pub record PortIsSound (good : I → Type 0) (j : ℕ) (p : Port I F) : Type 0 where
     pub asked : is_open p.ended ≡ true → good p.inlet
     pub hand : p.full ≡ true → IsOf j (chunk_of p.hand)
 
   -- it is the port of the leg j, and this counts of what its inlet gave, from the inlet `first` on
-  pub record Holds (stands : I → I → Gave F → Type 0) (j : ℕ) (first : I) (p : Port I F) (gave : Gave F) : Type 0 where
+  pub record PortHolds (stands : I → I → Gave F → Type 0) (j : ℕ) (first : I) (p : Port I F) (gave : Gave F) : Type 0 where
     pub whole : Gave F
     pub gives : stands first p.inlet whole
     pub is : gave ≡ counted j p.stay whole
@@ -159,14 +159,14 @@ module _ {I F : Type 0} where
 
   pub record PulledTo (stands : I → I → Gave F → Type 0) (j : ℕ) (first : I) (hand : Option Chunk) (gave : Gave F) (p : Port I F) : Type 0 where
     pub gave' : Gave F
-    pub holds : Holds stands j first p gave'
+    pub holds : PortHolds stands j first p gave'
     pub pulls : Pulls gave hand gave' (hand_of p)
 
   -- from what the first inlet gave to what this port's did: the mixer is at a table to which this leads
   pub record LeadsTo {M : Type 0} (stands : I → I → Gave F → Type 0) (mixes : M → Setup → List Call → Type 0) (s : Setup) (i : ℕ) (first : I) (leads : Gave F → Option Chunk → Table → Type 0) (p : Port I F) (m : M) : Type 0 where
     pub gave' : Gave F
     pub table' : Table
-    pub holds : Holds stands i first p gave'
+    pub holds : PortHolds stands i first p gave'
     pub mixed : At mixes m s table'
     pub gathers : leads gave' (hand_of p) table'
 
@@ -178,5 +178,5 @@ module _ {I F : Type 0} where
 
   pub record DrainedTo (stands : I → I → Gave F → Type 0) (j : ℕ) (first : I) (gave : Gave F) (p : Port I F) : Type 0 where
     pub gave' : Gave F
-    pub holds : Holds stands j first p gave'
+    pub holds : PortHolds stands j first p gave'
     pub grows : Grows gave gave'

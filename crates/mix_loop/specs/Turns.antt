@@ -1,32 +1,32 @@
 -- How far a mixing is: whatever the legs still give, plain mixing goes on from here.
 use Rattle.std.specs.Prelude.{◌≡◌, ℕ, zero, suc, ◌-◌, ◌*◌, ◌<◌, ◌≤◌, Bool, true, false, Option, None, Some, List, [], ◌∷◌, ◌++◌, length, slice_get}
-use Rattle.rtt_base.specs.declared.text_packets.Pts.{Pts}
+use Rattle.rtt_base.specs.declared.text_packets.PayloadTypes.{PayloadTypes}
 use Rattle.stream_spec.specs.Ready.{Chunk}
 use Rattle.mixer_spec.specs.Setups.{Setup}
 use Rattle.mixer_spec.specs.Table.{Table, Call, empty, entered}
 use Rattle.mixer_spec.specs.Legs.{held}
 use Rattle.mixer_spec.specs.Plain.{Desk, is_over, plain_from, plain}
 use Rattle.mixer_spec.specs.Table as table
-use Rattle.mix_loop.specs.declared.items.Ended.{Ended}
-use Rattle.mix_loop.specs.declared.items.Ended.TheVariants.{Open, AtEnd, AtFault}
-use Rattle.mix_loop.specs.declared.ports.Seat.{Seat}
-use Rattle.mix_loop.specs.declared.ports.Seat.TheVariants.{Away}
+use Rattle.mix_loop.specs.declared.items.TextsEnd.{TextsEnd}
+use Rattle.mix_loop.specs.declared.items.TextsEnd.TheVariants.{Open, AtEnd, AtFault}
+use Rattle.mix_loop.specs.declared.ports.SeatState.{SeatState}
+use Rattle.mix_loop.specs.declared.ports.SeatState.TheVariants.{Away}
 use Rattle.mix_loop.specs.declared.ports.Port.{Port}
 use Rattle.mix_loop.specs.declared.turns.Before.{Before}
 use Rattle.mix_loop.specs.declared.turns.Before.TheVariants as before
-use Rattle.mix_loop.specs.declared.turns.Turned.{Turned}
-use Rattle.mix_loop.specs.declared.turns.Turned.TheVariants as turned
-use Rattle.mix_loop.specs.declared.turns.Mixing.{Mixing}
-use Rattle.mix_loop.specs.declared.turns.Mixing.TheVariants as mixing
+use Rattle.mix_loop.specs.declared.turns.TurnsEnd.{TurnsEnd}
+use Rattle.mix_loop.specs.declared.turns.TurnsEnd.TheVariants as turned
+use Rattle.mix_loop.specs.declared.turns.MixEnd.{MixEnd}
+use Rattle.mix_loop.specs.declared.turns.MixEnd.TheVariants as mixing
 use Rattle.mix_loop.specs.Items.{Gave, nothing, is_open, is_fault}
 use Rattle.mix_loop.specs.Mixers.{At, Of}
-use Rattle.mix_loop.specs.Ports.{MayCome, SeatAt, StaysAs, IsSound, Holds, counted, hand_of, is_away}
+use Rattle.mix_loop.specs.Ports.{MayCome, SeatAt, StaysAs, PortIsSound, PortHolds, counted, hand_of, is_away}
 
 -- what a leg gave, what of it is in hand, and its seat
 pub record Known (F : Type 0) : Type 0 where
   pub gave : Gave F
   pub hand : Option Chunk
-  pub seat : Seat
+  pub seat : SeatState
 
 abbrev pub unknown : {F : Type 0} → Known F
 unknown = record { gave = nothing; hand = None; seat = Away }
@@ -98,21 +98,21 @@ Finds before.Over s kn table = IsOverAs true s kn table
 Finds before.Going s kn table = IsOverAs false s kn table
 
 -- what the end of the turns says
-abbrev pub AnswersAs : {F T : Type 0} → Turned T → Setup → ℕ → ℕ → (ℕ → Known F) → Table → Type 0
+abbrev pub AnswersAs : {F T : Type 0} → TurnsEnd T → Setup → ℕ → ℕ → (ℕ → Known F) → Table → Type 0
 AnswersAs turned.Over s tick turns kn table = Answers s tick turns kn (Some table)
 AnswersAs turned.TooLong s tick turns kn table = Answers s tick turns kn None
 AnswersAs (turned.Stopped why) s tick turns kn table = Unit {0}
 AnswersAs turned.Faulted s tick turns kn table = HasFault kn
 
 -- this, unless the mixer could not send
-abbrev pub UnlessStopped : {T : Type 0} → Turned T → Type 0 → Type 0
+abbrev pub UnlessStopped : {T : Type 0} → TurnsEnd T → Type 0 → Type 0
 UnlessStopped turned.Over P = P
 UnlessStopped turned.TooLong P = P
 UnlessStopped (turned.Stopped why) P = Unit {0}
 UnlessStopped turned.Faulted P = P
 
 -- where the turns were stopped, the mixer could not send for this reason
-abbrev pub WasStopped : {M T : Type 0} → (M → T → Type 0) → Turned T → M → Type 0
+abbrev pub WasStopped : {M T : Type 0} → (M → T → Type 0) → TurnsEnd T → M → Type 0
 WasStopped unsent turned.Over m = Unit {0}
 WasStopped unsent turned.TooLong m = Unit {0}
 WasStopped unsent (turned.Stopped why) m = unsent m why
@@ -124,21 +124,21 @@ pub record GrowsAll {F : Type 0} (kn kn' : ℕ → Known F) : Type 0 where
   pub kept : (j : ℕ) → is_open (kn j).gave.ended ≡ false → (kn' j).gave ≡ (kn j).gave
 
 -- ---- what is answered in the end
-abbrev pub mixing_of : {F T : Type 0} → Turned T → Mixing F T
+abbrev pub mixing_of : {F T : Type 0} → TurnsEnd T → MixEnd F T
 mixing_of turned.Over = mixing.Over
 mixing_of turned.TooLong = mixing.TooLong
 mixing_of turned.Faulted = mixing.TooLong
 mixing_of (turned.Stopped why) = mixing.Stopped why
 
 -- this, unless the mixer could not send
-abbrev pub UnlessUnsent : {F T : Type 0} → Mixing F T → Type 0 → Type 0
+abbrev pub UnlessUnsent : {F T : Type 0} → MixEnd F T → Type 0 → Type 0
 UnlessUnsent mixing.Over P = P
 UnlessUnsent mixing.TooLong P = P
 UnlessUnsent (mixing.Stopped why) P = Unit {0}
 UnlessUnsent (mixing.Faulted leg fault) P = Unit {0}
 
 -- where mixing was stopped, the mixer could not send for this reason
-abbrev pub IsUnsent : {F T M : Type 0} → (M → T → Type 0) → Mixing F T → M → Type 0
+abbrev pub IsUnsent : {F T M : Type 0} → (M → T → Type 0) → MixEnd F T → M → Type 0
 IsUnsent unsent mixing.Over m = Unit {0}
 IsUnsent unsent mixing.TooLong m = Unit {0}
 IsUnsent unsent (mixing.Stopped why) m = unsent m why
@@ -155,21 +155,21 @@ pub record IsLowest {F : Type 0} (n leg : ℕ) (fault : F) (gave : ℕ → Gave 
   pub lowest : AllAtEnd leg gave
 
 -- Where no leg has a fault, what plain mixing of these chunks comes to; else the lowest leg's fault.
-abbrev pub Tells : {F T : Type 0} → Mixing F T → Setup → ℕ → ℕ → (ℕ → Gave F) → Table → Type 0
-Tells mixing.Over s tick turns gave table = (plain s tick turns (λ j. (gave j).chunks) ≡ Some table) × AllAtEnd s.legs gave
-Tells mixing.TooLong s tick turns gave table = (plain s tick turns (λ j. (gave j).chunks) ≡ None) × AllAtEnd s.legs gave
-Tells (mixing.Stopped why) s tick turns gave table = Unit {0}
-Tells (mixing.Faulted leg fault) s tick turns gave table = IsLowest s.legs leg fault gave
+abbrev pub TellsMixing : {F T : Type 0} → MixEnd F T → Setup → ℕ → ℕ → (ℕ → Gave F) → Table → Type 0
+TellsMixing mixing.Over s tick turns gave table = (plain s tick turns (λ j. (gave j).chunks) ≡ Some table) × AllAtEnd s.legs gave
+TellsMixing mixing.TooLong s tick turns gave table = (plain s tick turns (λ j. (gave j).chunks) ≡ None) × AllAtEnd s.legs gave
+TellsMixing (mixing.Stopped why) s tick turns gave table = Unit {0}
+TellsMixing (mixing.Faulted leg fault) s tick turns gave table = IsLowest s.legs leg fault gave
 
 -- ---- the ports
 module _ {I F : Type 0} where
   abbrev pub AreSound : (I → Type 0) → List (Port I F) → Type 0
-  AreSound good ps = (j : ℕ) (p : Port I F) → slice_get ps j ≡ Some p → IsSound good j p
+  AreSound good ps = (j : ℕ) (p : Port I F) → slice_get ps j ≡ Some p → PortIsSound good j p
 
   pub record KnownAt (stands : I → I → Gave F → Type 0) (s : Setup) (firsts : List I) (j : ℕ) (p : Port I F) (k : Known F) : Type 0 where
     pub first : I
     pub of : slice_get firsts j ≡ Some first
-    pub holds : Holds stands j first p k.gave
+    pub holds : PortHolds stands j first p k.gave
     pub hand : hand_of p ≡ k.hand
     pub seat : p.seat ≡ k.seat
     pub stays : StaysAs s j p
@@ -216,7 +216,7 @@ module _ {I F : Type 0} where
     pub before : IsBefore s tick turns k kn table
 
   -- after the turns; of the mixer nothing is said where it could not send
-  pub record TurnsTo {M T : Type 0} (stands : I → I → Gave F → Type 0) (mixes : M → Setup → List Call → Type 0) (s : Setup) (firsts : List I) (tick turns : ℕ) (t : Turned T) (ps : List (Port I F)) (m : M) : Type 0 where
+  pub record TurnsTo {M T : Type 0} (stands : I → I → Gave F → Type 0) (mixes : M → Setup → List Call → Type 0) (s : Setup) (firsts : List I) (tick turns : ℕ) (t : TurnsEnd T) (ps : List (Port I F)) (m : M) : Type 0 where
     pub kn : ℕ → Known F
     pub table : Table
     pub known : AllKnown stands s firsts ps kn
@@ -234,7 +234,7 @@ module _ {I F : Type 0} where
     pub closed : (j : ℕ) → j < n → is_open (kn' j).gave.ended ≡ false
 
   -- how the texts of the leg j ended
-  abbrev pub ended_at : List (Port I F) → ℕ → Ended F
+  abbrev pub ended_at : List (Port I F) → ℕ → TextsEnd F
   ended_at [] j = Open
   ended_at (p ∷ ps) zero = p.ended
   ended_at (p ∷ ps) (suc j) = ended_at ps j
@@ -258,14 +258,14 @@ module _ {I F : Type 0} where
 
   -- Of each leg this counts, and no more: it was read to its end. What is answered is what plain mixing of these chunks comes to,
   -- or the lowest leg's fault; unless the mixer could not send, it has this table.
-  pub record MixedAs {M T : Type 0} (stands : I → I → Gave F → Type 0) (mixes : M → Setup → List Call → Type 0) (s : Setup) (firsts : List I) (tick turns : ℕ) (answer : Mixing F T) (ps : List (Port I F)) (m : M) : Type 0 where
+  pub record MixedAs {M T : Type 0} (stands : I → I → Gave F → Type 0) (mixes : M → Setup → List Call → Type 0) (s : Setup) (firsts : List I) (tick turns : ℕ) (answer : MixEnd F T) (ps : List (Port I F)) (m : M) : Type 0 where
     pub gave : ℕ → Gave F
     pub table : Table
     pub legs : (j : ℕ) (p : Port I F) → slice_get ps j ≡ Some p → GaveAt stands firsts j p (gave j)
     pub above : (j : ℕ) → s.legs ≤ j → gave j ≡ nothing
     pub stays : (j : ℕ) (p : Port I F) → slice_get ps j ≡ Some p → StaysAs s j p
     pub mixed : UnlessUnsent answer (At mixes m s table)
-    pub tells : Tells answer s tick turns gave table
+    pub tells : TellsMixing answer s tick turns gave table
 
   -- nothing came to the port j yet
   pub record IsFresh (stands : I → I → Gave F → Type 0) (s : Setup) (firsts : List I) (j : ℕ) (p : Port I F) : Type 0 where
@@ -281,7 +281,7 @@ module _ {I F : Type 0} where
   AllFresh stands s firsts ps = (j : ℕ) (p : Port I F) → slice_get ps j ≡ Some p → IsFresh stands s firsts j p
 
   -- In a mixing of ports to which nothing came, by a mixer of which nothing was called, this was answered.
-  abbrev pub IsMixing : {M T : Type 0} → (I → I → Gave F → Type 0) → (M → Setup → (ℕ → Pts) → List Call → Type 0) → ℕ → ℕ → Mixing F T → List (Port I F) → List (Port I F) → M → M → Type 0
+  abbrev pub IsMixing : {M T : Type 0} → (I → I → Gave F → Type 0) → (M → Setup → (ℕ → PayloadTypes) → List Call → Type 0) → ℕ → ℕ → MixEnd F T → List (Port I F) → List (Port I F) → M → M → Type 0
   IsMixing stands mixes tick turns answer ps ps' m m' =
-      (s : Setup) (pts : ℕ → Pts) (firsts : List I) → AllFresh stands s firsts ps → At (Of mixes pts) m s empty → s.legs ≡ length ps
-      → MixedAs stands (Of mixes pts) s firsts tick turns answer ps' m'
+      (s : Setup) (payload_types : ℕ → PayloadTypes) (firsts : List I) → AllFresh stands s firsts ps → At (Of mixes payload_types) m s empty → s.legs ≡ length ps
+      → MixedAs stands (Of mixes payload_types) s firsts tick turns answer ps' m'

@@ -23,20 +23,20 @@ impl<F: Copy> Item<F> {
     }
 
     /// How a leg's texts ended with this answer.
-    pub(crate) fn ended(&self) -> Ended<F>
+    pub(crate) fn ended(&self) -> TextsEnd<F>
         ensures { result ≡ ended_by self.now }
     {
         match self {
-            Item::Chunk | Item::Later => Ended::Open,
-            Item::End => Ended::AtEnd,
-            Item::Fault(fault) => Ended::AtFault(*fault),
+            Item::Chunk | Item::Later => TextsEnd::Open,
+            Item::End => TextsEnd::AtEnd,
+            Item::Fault(fault) => TextsEnd::AtFault(*fault),
         }
     }
 }
 
 /// How a leg's texts ended.
 #[derive(Clone, Copy, Debug, PartialEq, Eq)]
-pub enum Ended<F> {
+pub enum TextsEnd<F> {
     /// There may be more.
     Open,
     /// There is no more.
@@ -45,19 +45,19 @@ pub enum Ended<F> {
     AtFault(F),
 }
 
-impl<F: Copy> Ended<F> {
+impl<F: Copy> TextsEnd<F> {
     /// Whether there may be more.
     pub fn is_open(&self) -> bool
         ensures { result ≡ is_open self.now }
     {
-        matches!(self, Ended::Open)
+        matches!(self, TextsEnd::Open)
     }
 
     /// Whether it was at a fault.
     pub fn is_fault(&self) -> bool
         ensures { result ≡ is_fault self.now }
     {
-        matches!(self, Ended::AtFault(_))
+        matches!(self, TextsEnd::AtFault(_))
     }
 
     /// The fault, if it was at one.
@@ -65,7 +65,7 @@ impl<F: Copy> Ended<F> {
         ensures { result ≡ fault_in self.now }
     {
         match self {
-            Ended::AtFault(fault) => Some(*fault),
+            TextsEnd::AtFault(fault) => Some(*fault),
             _ => None,
         }
     }

@@ -1,15 +1,15 @@
 //! A lane of what gives answers, as where a leg's texts come from.
 use crate::answers::Answer;
-use crate::asking::hand_out;
+use crate::questions::hand_out;
 use crate::inlets::Inlet;
 use crate::items::Item;
-use item_lanes::Lane;
-use item_queue::Gives;
+use item_lanes::Worker;
+use item_queue::Producer;
 use rtt_base::Chunk;
 use rtt_io::Gate;
 use std::sync::Wait;
 
-impl<F: Copy + Drop, L: Gives<Answer<F>>, G: Gate> Inlet for Lane<Answer<F>, L, G> {
+impl<F: Copy + Drop, L: Producer<Answer<F>>, G: Gate> Inlet for Worker<Answer<F>, L, G> {
     ghost use Rattle.mix_loop.specs.Lanes.{LaneStands};
 
     type Fault = F;

@@ -3,23 +3,23 @@
 #![tactic(auto)]
 
 mod answers;
-mod asking;
-mod coming;
-mod gathering;
+mod questions;
+mod admissions;
+mod offers;
 mod inlets;
 mod items;
 mod lanes;
 mod mixers;
-mod mixing;
+mod plain_mix;
 mod port_lists;
 mod ports;
 mod turns;
 
 pub use answers::Answer;
-pub use asking::{ask, copy_chunk};
+pub use questions::{ask, copy_chunk};
 pub use inlets::Inlet;
-pub use items::{Ended, Item};
-pub use mixers::Mixes;
-pub use mixing::{Mixed, Room, mix_inlets};
+pub use items::{TextsEnd, Item};
+pub use mixers::MixerCalls;
+pub use plain_mix::{InletReturn, Room, mix_inlets};
 pub use port_lists::{HasInlet, inlets_of};
-pub use turns::Mixing;
+pub use turns::MixEnd;

@@ -1,6 +1,6 @@
 //! The mixer, by its calls.
 ghost use Rattle.std.specs.Prelude.{◌≡◌, ℕ, ◌+◌, ◌<◌, List, is_ok, OnOk, OnErr, IfErr};
-ghost use Rattle.rtt_base.specs.declared.text_packets.Pts.{Pts};
+ghost use Rattle.rtt_base.specs.declared.text_packets.PayloadTypes.{PayloadTypes};
 ghost use Rattle.stream_spec.specs.Ready.{chunk_of};
 ghost use Rattle.mixer_spec.specs.Setups.{Setup};
 ghost use Rattle.mixer_spec.specs.Table.{Call};
@@ -12,7 +12,7 @@ use link_io::Beat;
 use rtt_base::{Chunk, Full};
 
 /// A mixer, which stands for the calls that were made of it. Where it sends what a turn sends is its own matter.
-pub trait Mixes {
+pub trait MixerCalls {
     /// Why what a turn sends could not be sent.
     type Fault: Copy;
 
@@ -21,11 +21,11 @@ pub trait Mixes {
 
     /// In a conference of this setup, with these payload types at its terminals, these calls were made, newest first, and all
     /// that they send was sent.
-    ghost stands: { Self → Setup → (ℕ → Pts) → List Call → Type 0 };
+    ghost stands: { Self → Setup → (ℕ → PayloadTypes) → List Call → Type 0 };
 
     /// These calls were made, and then a turn at this moment (milliseconds). All that the calls send was sent, and of what the
     /// turn sends maybe not all.
-    ghost halted: { Self → Setup → (ℕ → Pts) → List Call → ℕ → Type 0 };
+    ghost halted: { Self → Setup → (ℕ → PayloadTypes) → List Call → ℕ → Type 0 };
 
     /// How many legs there are.
     ghost legs: { Self → ℕ };

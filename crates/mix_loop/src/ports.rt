@@ -7,13 +7,13 @@ ghost use Rattle.mix_loop.specs.Calm.{IsCalmBefore};
 ghost use Rattle.mix_loop.specs.Items.{is_open};
 ghost use Rattle.mix_loop.specs.Ports.{AreNew, IsNew, counts, is_away, is_spent, is_to_leave, is_to_stop, seat_with};
 
-use crate::{Ended, HasInlet, Inlet, Item};
+use crate::{TextsEnd, HasInlet, Inlet, Item};
 use file_spec::{LegLine, Stay};
 use rtt_base::Chunk;
 
 /// Whether a leg holds a place at the mixer.
 #[derive(Clone, Copy, Debug, PartialEq, Eq)]
-pub(crate) enum Seat {
+pub(crate) enum SeatState {
     /// It did not come yet.
     Away,
     /// It holds a place, and listens.
@@ -31,9 +31,9 @@ pub(crate) struct Port<I: Inlet> {
     pub(crate) hand: Chunk,
     /// Whether a text is in hand.
     pub(crate) full: bool,
-    pub(crate) ended: Ended<I::Fault>,
+    pub(crate) ended: TextsEnd<I::Fault>,
     pub(crate) stay: Stay,
-    pub(crate) seat: Seat,
+    pub(crate) seat: SeatState,
 }
 
 impl<I: Inlet> Port<I> {
@@ -45,9 +45,9 @@ impl<I: Inlet> Port<I> {
             inlet,
             hand: Chunk::default(),
             full: false,
-            ended: Ended::Open,
+            ended: TextsEnd::Open,
             stay,
-            seat: Seat::Away,
+            seat: SeatState::Away,
         }
     }
 
@@ -55,14 +55,14 @@ impl<I: Inlet> Port<I> {
     pub(crate) fn is_to_stop(&self, now: u64) -> bool
         ensures { result ≡ is_to_stop now self.now }
     {
-        matches!(self.seat, Seat::Listens) && !self.stay.is_before_end(now)
+        matches!(self.seat, SeatState::Listens) && !self.stay.is_before_end(now)
     }
 
     /// Whether it listens no more, and has nothing left to offer.
     pub(crate) fn is_to_leave(&self) -> bool
         ensures { result ≡ is_to_leave self.now }
     {
-        matches!(self.seat, Seat::Hushed) && self.is_spent()
+        matches!(self.seat, SeatState::Hushed) && self.is_spent()
     }
 
     fn is_spent(&self) -> bool
@@ -99,10 +99,10 @@ impl<I: Inlet> Port<I> {
         ensures keeps { 0 < result → is_to_leave self.now ≡ false }
     {
         match self.seat {
-            Seat::Away => u64::from(self.stay.from),
-            Seat::Listens => end_of(self.stay),
-            Seat::Hushed => self.offering_until(),
-            Seat::Left => u64::MAX,
+            SeatState::Away => u64::from(self.stay.from),
+            SeatState::Listens => end_of(self.stay),
+            SeatState::Hushed => self.offering_until(),
+            SeatState::Left => u64::MAX,
         }
     }
 
@@ -147,17 +147,17 @@ fn end_of(stay: Stay) -> u64
 }
 
 /// The seat of a leg that came.
-pub(crate) fn seat_with(listens: bool) -> Seat
+pub(crate) fn seat_with(listens: bool) -> SeatState
     ensures { result ≡ seat_with listens }
 {
-    if listens { Seat::Listens } else { Seat::Hushed }
+    if listens { SeatState::Listens } else { SeatState::Hushed }
 }
 
-impl Seat {
+impl SeatState {
     pub(crate) fn is_away(self) -> bool
         ensures { result ≡ is_away self }
     {
-        matches!(self, Seat::Away)
+        matches!(self, SeatState::Away)
     }
 }
 

@@ -9,13 +9,13 @@ ghost use Rattle.mix_loop.specs.Turns.{AreSound, IsLowestAt, IsMixing, IsUnsent,
 ghost use Rattle.file_spec.specs.declared.limits.TheConstants.{MOST_LEGS};
 
 use crate::ports::Port;
-use crate::{Inlet, Mixes};
+use crate::{Inlet, MixerCalls};
 use link_io::Beat;
 use std::sync::Wait;
 
 /// How a mixing ended.
 #[derive(Clone, Copy, Debug, PartialEq, Eq)]
-pub enum Mixing<F, T> {
+pub enum MixEnd<F, T> {
     /// Nothing is left.
     Over,
     /// Something is left after the last turn.
@@ -39,7 +39,7 @@ pub(crate) enum Before {
 
 /// How the turns ended.
 #[derive(Clone, Copy, Debug, PartialEq, Eq)]
-pub(crate) enum Turned<T> {
+pub(crate) enum TurnsEnd<T> {
     Over,
     TooLong,
     Faulted,
@@ -47,7 +47,7 @@ pub(crate) enum Turned<T> {
 }
 
 /// Legs go whose stay is over at the moment `now`, in leg order.
-fn go_all<I: Inlet, M: Mixes>(ports: &mut [Port<I>], mixer: &mut M, now: u64)
+fn go_all<I: Inlet, M: MixerCalls>(ports: &mut [Port<I>], mixer: &mut M, now: u64)
     requires sound { AreSound I.good ports.old }
     requires legs { M.legs mixer.old ≡ length ports.old }
     ensures sound { AreSound I.good ports.new }
@@ -62,7 +62,7 @@ fn go_all<I: Inlet, M: Mixes>(ports: &mut [Port<I>], mixer: &mut M, now: u64)
 }
 
 /// Legs come whose stay has begun at the moment `now`, in leg order.
-fn come_all<I: Inlet, M: Mixes>(ports: &mut [Port<I>], mixer: &mut M, now: u64)
+fn come_all<I: Inlet, M: MixerCalls>(ports: &mut [Port<I>], mixer: &mut M, now: u64)
     requires sound { AreSound I.good ports.old }
     requires legs { M.legs mixer.old ≡ length ports.old }
     ensures sound { AreSound I.good ports.new }
@@ -76,7 +76,7 @@ fn come_all<I: Inlet, M: Mixes>(ports: &mut [Port<I>], mixer: &mut M, now: u64)
 }
 
 /// Each leg offers what it can at the moment `now`, in leg order.
-fn gather_all<I: Inlet, M: Mixes, R: Wait>(rt: &R, ports: &mut [Port<I>], mixer: &mut M, now: u64)
+fn gather_all<I: Inlet, M: MixerCalls, R: Wait>(rt: &R, ports: &mut [Port<I>], mixer: &mut M, now: u64)
     requires few { length ports.old ≤ MOST_LEGS }
     requires sound { AreSound I.good ports.old }
     requires legs { M.legs mixer.old ≡ length ports.old }
@@ -91,7 +91,7 @@ fn gather_all<I: Inlet, M: Mixes, R: Wait>(rt: &R, ports: &mut [Port<I>], mixer:
 }
 
 /// Whether each hand is empty and nothing waits at the mixer.
-fn is_over<I: Inlet, M: Mixes>(ports: &[Port<I>], mixer: &M) -> bool
+fn is_over<I: Inlet, M: MixerCalls>(ports: &[Port<I>], mixer: &M) -> bool
     ensures { TellsOver M.stands ports.now mixer.now result }
 {
     let spent = all_empty(ports);
@@ -113,7 +113,7 @@ fn has_fault<I: Inlet>(ports: &[Port<I>]) -> bool
 }
 
 /// At the moment `now` legs go, legs come, and each offers what it can.
-fn move_all<I: Inlet, M: Mixes, R: Wait>(rt: &R, ports: &mut [Port<I>], mixer: &mut M, now: u64)
+fn move_all<I: Inlet, M: MixerCalls, R: Wait>(rt: &R, ports: &mut [Port<I>], mixer: &mut M, now: u64)
     requires few { length ports.old ≤ MOST_LEGS }
     requires sound { AreSound I.good ports.old }
     requires legs { M.legs mixer.old ≡ length ports.old }
@@ -127,7 +127,7 @@ fn move_all<I: Inlet, M: Mixes, R: Wait>(rt: &R, ports: &mut [Port<I>], mixer: &
 }
 
 /// Does all that is done before a turn at the moment `now`, and answers what is found then.
-fn settle<I: Inlet, M: Mixes, R: Wait>(
+fn settle<I: Inlet, M: MixerCalls, R: Wait>(
     rt: &R,
     ports: &mut [Port<I>],
     mixer: &mut M,
@@ -171,7 +171,7 @@ fn calm_until<I: Inlet>(ports: &[Port<I>], next: u64) -> u64
 
 /// Does all that is done before a turn at the moment `now`, and answers what is found then. Nothing is done before the moment
 /// `calm`, which is then the next such moment, where that is behind `next`, the moment of the next turn.
-fn settle_from<I: Inlet, M: Mixes, R: Wait>(
+fn settle_from<I: Inlet, M: MixerCalls, R: Wait>(
     rt: &R,
     ports: &mut [Port<I>],
     mixer: &mut M,
@@ -206,13 +206,13 @@ fn moment_of(turn: u64, tick: u64) -> u64
 }
 
 /// Makes turns until nothing is left, or a leg has a fault, or so many turns are made. Turn `k` is at `k` ticks.
-fn take_turns<I: Inlet, M: Mixes, R: Wait>(
+fn take_turns<I: Inlet, M: MixerCalls, R: Wait>(
     rt: &R,
     ports: &mut [Port<I>],
     mixer: &mut M,
     tick: u64,
     turns: u64,
-) -> Turned<M::Fault>
+) -> TurnsEnd<M::Fault>
     requires few { length ports.old ≤ MOST_LEGS }
     requires sound { AreSound I.good ports.old }
     requires legs { M.legs mixer.old ≡ length ports.old }
@@ -230,18 +230,18 @@ fn take_turns<I: Inlet, M: Mixes, R: Wait>(
         let next = moment_of(k + 1, tick);
         match settle_from(rt, ports, mixer, now, next, &mut calm) {
             Before::Going => {}
-            Before::Over => return Turned::Over,
-            Before::Faulted => return Turned::Faulted,
+            Before::Over => return TurnsEnd::Over,
+            Before::Faulted => return TurnsEnd::Faulted,
         }
         match mixer.turn(now, &Beat::last()) {
             Ok(()) => {}
-            Err(fault) => return Turned::Stopped(fault),
+            Err(fault) => return TurnsEnd::Stopped(fault),
         }
     }
     match settle(rt, ports, mixer, moment_of(turns, tick)) {
-        Before::Going => Turned::TooLong,
-        Before::Over => Turned::Over,
-        Before::Faulted => Turned::Faulted,
+        Before::Going => TurnsEnd::TooLong,
+        Before::Over => TurnsEnd::Over,
+        Before::Faulted => TurnsEnd::Faulted,
     }
 }
 
@@ -281,24 +281,24 @@ fn fault_at<I: Inlet>(ports: &[Port<I>], leg: usize) -> Option<I::Fault>
 }
 
 /// What is answered where no leg has a fault.
-fn mixing_of<F, T>(turned: Turned<T>) -> Mixing<F, T>
+fn mixing_of<F, T>(turned: TurnsEnd<T>) -> MixEnd<F, T>
     ensures { result ≡ mixing_of turned }
 {
     match turned {
-        Turned::Over => Mixing::Over,
-        Turned::TooLong | Turned::Faulted => Mixing::TooLong,
-        Turned::Stopped(fault) => Mixing::Stopped(fault),
+        TurnsEnd::Over => MixEnd::Over,
+        TurnsEnd::TooLong | TurnsEnd::Faulted => MixEnd::TooLong,
+        TurnsEnd::Stopped(fault) => MixEnd::Stopped(fault),
     }
 }
 
 /// Mixes what comes to these ports, at most 64, and reads each leg to its end.
-pub(crate) fn mix_ports<I: Inlet, M: Mixes, R: Wait>(
+pub(crate) fn mix_ports<I: Inlet, M: MixerCalls, R: Wait>(
     rt: &R,
     ports: &mut [Port<I>],
     mixer: &mut M,
     tick: u64,
     turns: u64,
-) -> Mixing<I::Fault, M::Fault>
+) -> MixEnd<I::Fault, M::Fault>
     requires few { length ports.old ≤ MOST_LEGS }
     requires sound { AreSound I.good ports.old }
     requires legs { M.legs mixer.old ≡ length ports.old }
@@ -313,7 +313,7 @@ pub(crate) fn mix_ports<I: Inlet, M: Mixes, R: Wait>(
     let turned = take_turns(rt, ports, mixer, tick, turns);
     drain_all(rt, ports);
     match lowest_fault(ports) {
-        Some(lowest) => Mixing::Faulted {
+        Some(lowest) => MixEnd::Faulted {
             leg: lowest.0,
             fault: lowest.1,
         },

@@ -1,7 +1,7 @@
 -- Calls of a mixer whose packets are sent.
 use Rattle.std.proofs.Common.{◌≡◌, ◌≤◌, ◌<◌, ℕ, Bool, true, false, true≢false, Ok, Err, List, ◌∷◌, length, refl, ap, sym, subst, ◌∙◌, arith}
 use Rattle.std.specs.Prelude.{◌↔◌, Result, IsOk, OnErr, OnOk, is_ok}
-use Rattle.rtt_base.specs.declared.text_packets.Pts.{Pts}
+use Rattle.rtt_base.specs.declared.text_packets.PayloadTypes.{PayloadTypes}
 use Rattle.stream_spec.specs.Ready.{Chunk}
 use Rattle.mixer_spec.specs.Setups.{Setup}
 use Rattle.mixer_spec.specs.Table.{Call, Turn, after_calls}
@@ -11,7 +11,7 @@ use Rattle.mix_loop.specs.Mixers.{Keeps}
 use Rattle.mixer_turn.specs.declared.batches.Post.{Post}
 use Rattle.mixer_turn.specs.Allowed.{IsOffer}
 use Rattle.mixer_turn.specs.States.{legs_of}
-use Rattle.mixer_turn.specs.Standing.{Leads, StandsFor}
+use Rattle.mixer_turn.specs.Standing.{LeadsByCall, MixerStandsFor}
 use Rattle.mixer_turn.specs.Turns.{HasBatch, OfCalls, posts_at}
 use Rattle.mixer_posts.specs.States.{SendingState}
 use Rattle.mixer_posts.specs.Posts.{AreNext, IsHaltedIn, TakesAll, TakesFirst, sent_by, with_posts}
@@ -41,29 +41,29 @@ abbrev pub KeepsAll : {O : Type 0} → (O → List Address) → SendingState O �
 KeepsAll {O} addresses old new = Keeps (λ (m : SendingState O). legs_of m.mixer) (λ (m : SendingState O). m.mixer.turns) (λ (m : SendingState O). addresses m.outbound) old new
 
 -- a turn was made, and what it sends was taken
-pub turn_sent : {O : Type 0} (took : O → Setup → (ℕ → Pts) → List (ℕ × Post) → Type 0) (sources : O → List ℕ) (horizon now : ℕ) (old new : SendingState O) (posts : List Post) → now < horizon
-    → Leads old.mixer new.mixer (Turn now) → old.mixer.turns ≤ 4999999 → OfCalls old.mixer (λ s table. HasBatch s now table posts)
+pub turn_sent : {O : Type 0} (took : O → Setup → (ℕ → PayloadTypes) → List (ℕ × Post) → Type 0) (sources : O → List ℕ) (horizon now : ℕ) (old new : SendingState O) (posts : List Post) → now < horizon
+    → LeadsByCall old.mixer new.mixer (Turn now) → old.mixer.turns ≤ 4999999 → OfCalls old.mixer (λ s table. HasBatch s now table posts)
     → TakesAll took old.outbound new.outbound now posts → sources new.outbound ≡ sources old.outbound
-    → (s : Setup) (pts : ℕ → Pts) (calls : List Call) → SendsFor took sources horizon old s pts calls → SendsFor took sources horizon new s pts (Turn now ∷ calls)
-turn_sent took sources horizon now old new posts soon leads few has takes same s pts calls h =
+    → (s : Setup) (payload_types : ℕ → PayloadTypes) (calls : List Call) → SendsFor took sources horizon old s payload_types calls → SendsFor took sources horizon new s payload_types (Turn now ∷ calls)
+turn_sent took sources horizon now old new posts soon leads few has takes same s payload_types calls h =
     let is : posts ≡ posts_at s now (after_calls s calls) = has s calls h.stands in
-    let stands : StandsFor s new.mixer (Turn now ∷ calls) = leads s calls h.stands h.stands.allowed in
+    let stands : MixerStandsFor s new.mixer (Turn now ∷ calls) = leads s calls h.stands h.stands.allowed in
     let next : AreNext s (with_posts now posts (sent_by s calls)) = subst (λ (ps : List Post). AreNext s (with_posts now ps (sent_by s calls))) (sym is) (are_next s new.mixer (Turn now ∷ calls) stands) in
     record {
       stands = stands;
-      sent = subst (λ (ps : List Post). took new.outbound s pts (with_posts now ps (sent_by s calls))) is (takes s pts (sent_by s calls) next h.sent);
+      sent = subst (λ (ps : List Post). took new.outbound s payload_types (with_posts now ps (sent_by s calls))) is (takes s payload_types (sent_by s calls) next h.sent);
       all = ap (λ (xs : List ℕ). length xs) same ∙ h.all;
       early = (soon, h.early);
       few = omega (arith, few, h.stands.turns);
     }
 
 -- or not to its end
-pub turn_halted : {O : Type 0} (took : O → Setup → (ℕ → Pts) → List (ℕ × Post) → Type 0) (halted : O → Setup → (ℕ → Pts) → List (ℕ × Post) → ℕ → Post → Type 0) (sources : O → List ℕ) (horizon now : ℕ) (old new : SendingState O) (posts : List Post)
-    → Leads old.mixer new.mixer (Turn now) → OfCalls old.mixer (λ s table. HasBatch s now table posts)
+pub turn_halted : {O : Type 0} (took : O → Setup → (ℕ → PayloadTypes) → List (ℕ × Post) → Type 0) (halted : O → Setup → (ℕ → PayloadTypes) → List (ℕ × Post) → ℕ → Post → Type 0) (sources : O → List ℕ) (horizon now : ℕ) (old new : SendingState O) (posts : List Post)
+    → LeadsByCall old.mixer new.mixer (Turn now) → OfCalls old.mixer (λ s table. HasBatch s now table posts)
     → TakesFirst halted took old.outbound new.outbound now posts
-    → (s : Setup) (pts : ℕ → Pts) (calls : List Call) → SendsFor took sources horizon old s pts calls → HaltsFor halted new s pts calls now
-turn_halted took halted sources horizon now old new posts leads has takes s pts calls h =
+    → (s : Setup) (payload_types : ℕ → PayloadTypes) (calls : List Call) → SendsFor took sources horizon old s payload_types calls → HaltsFor halted new s payload_types calls now
+turn_halted took halted sources horizon now old new posts leads has takes s payload_types calls h =
     let is : posts ≡ posts_at s now (after_calls s calls) = has s calls h.stands in
-    let stands : StandsFor s new.mixer (Turn now ∷ calls) = leads s calls h.stands h.stands.allowed in
+    let stands : MixerStandsFor s new.mixer (Turn now ∷ calls) = leads s calls h.stands h.stands.allowed in
     let next : AreNext s (with_posts now posts (sent_by s calls)) = subst (λ (ps : List Post). AreNext s (with_posts now ps (sent_by s calls))) (sym is) (are_next s new.mixer (Turn now ∷ calls) stands) in
-    subst (λ (ps : List Post). IsHaltedIn halted new.outbound s pts (sent_by s calls) now ps) is (takes s pts (sent_by s calls) next h.sent)
+    subst (λ (ps : List Post). IsHaltedIn halted new.outbound s payload_types (sent_by s calls) now ps) is (takes s payload_types (sent_by s calls) next h.sent)

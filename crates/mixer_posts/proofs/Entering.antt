@@ -40,7 +40,7 @@ place_enters s seats now t d None = inl refl
 place_enters s seats now t d (Some p) = leg_enters s now t p d (leg_in seats s.legs p) (λ i e. (leg_in_some seats s.legs p i e).0)
 
 composed_enters : (s : Setup) (j now t : ℕ) (d : Terminal) (o : Option Answer) → Enters s false now d.past (compose s j now t d o).past
-composed_enters s j now t d None = go (is_asked s t d && has_text_in (s.gens j) (sent_from s.mixer d))
+composed_enters s j now t d None = go (is_asked s t d && has_text_in (s.generations j) (sent_from s.mixer d))
   where
     go : (b : Bool) → Enters s false now d.past (repeated s j now t b d.past)
     go true = inr (record { at = now; place = 0; leg = j; chunks = []; sent = record { source = s.mixer; media = t; text = [] } }, refl, refl, refl)

@@ -6,12 +6,12 @@ use Rattle.std.proofs.Math.Seq.{take-suc}
 use Rattle.std.proofs.lemmas.List.{get_or-map, length-map}
 use Rattle.std.proofs.lemmas.List.Quantifiers.{all_pairs_remove}
 use Rattle.std.proofs.lemmas.List.FromFn.{length-enumerate_from, get_or-enumerate_from}
-use Rattle.file_spec.specs.declared.conf_lines.LegLine.{LegLine}
-use Rattle.file_spec.specs.Conf.{Conf}
+use Rattle.file_spec.specs.declared.conference_lines.LegLine.{LegLine}
+use Rattle.file_spec.specs.Conference.{Conference}
 use Rattle.file_spec.specs.Kept.{Differ}
 
 -- the first lines with their numbers, and one more
-pub legs_more : (c : Conf) (k : ℕ) (d : LegLine) → k < length c.legs → take (k + 1) (enumerate_from 0 c.legs) ≡ take k (enumerate_from 0 c.legs) ++ (k, get_or c.legs k d) ∷ []
+pub legs_more : (c : Conference) (k : ℕ) (d : LegLine) → k < length c.legs → take (k + 1) (enumerate_from 0 c.legs) ≡ take k (enumerate_from 0 c.legs) ++ (k, get_or c.legs k d) ∷ []
 legs_more c k d l =
     let all = enumerate_from 0 c.legs in
     let size = length-enumerate_from 0 c.legs in

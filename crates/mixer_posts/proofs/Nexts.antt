@@ -7,7 +7,7 @@ use Rattle.mixer_spec.specs.Table.{Call, TurnEntry, after_calls, sents}
 use Rattle.aware_output.specs.Speakers.{EachIsNext}
 use Rattle.mixer_turn.specs.declared.batches.Post.{Post}
 use Rattle.mixer_turn.specs.States.{State}
-use Rattle.mixer_turn.specs.Standing.{StandsFor}
+use Rattle.mixer_turn.specs.Standing.{MixerStandsFor}
 use Rattle.mixer_turn.proofs.Nexts.{each_is_next}
 use Rattle.mixer_posts.specs.Posts.{AreNext, sent_by, sent_of_post, sents_to}
 use Rattle.mixer_posts.proofs.Entering.{entered_law}
@@ -16,7 +16,7 @@ pub texts_are : (past : List TurnEntry) → map (λ (x : ℕ × Sent). x.1) (map
 texts_are [] = refl
 texts_are (e ∷ past) = ap (λ (xs : List Sent). e.sent ∷ xs) (texts_are past)
 
-pub are_next : (s : Setup) (m : State) (calls : List Call) → StandsFor s m calls → AreNext s (sent_by s calls)
+pub are_next : (s : Setup) (m : State) (calls : List Call) → MixerStandsFor s m calls → AreNext s (sent_by s calls)
 are_next s m calls h j sources l a =
     let past = ((after_calls s calls).terminals j).past in
     subst (λ (xs : List Sent). EachIsNext (stream s j) xs) (sym (ap (λ (xs : List (ℕ × Sent)). map (λ (x : ℕ × Sent). x.1) xs) (entered_law s calls j sources l a) ∙ texts_are past))

@@ -4,16 +4,16 @@ use Rattle.std.specs.Prelude.{AllPairs, IfOk, Result, Ok, Err, option_map, slice
 use Rattle.std.specs.Global.{Vec}
 use Rattle.std.proofs.lemmas.List.{length-map}
 use Rattle.std.proofs.lemmas.Option.{slice_get_within, slice_get-map, slice_get_read, get_or_from_slice_get}
-use Rattle.file_spec.specs.declared.conf_lines.LegLine.{LegLine}
-use Rattle.file_spec.specs.Conf.{Conf}
+use Rattle.file_spec.specs.declared.conference_lines.LegLine.{LegLine}
+use Rattle.file_spec.specs.Conference.{Conference}
 use Rattle.file_spec.specs.Kept.{Differ, IsConference, IsLeg}
 use Rattle.stream_spec.specs.Lists.{In}
-use Rattle.mixer_spec.specs.Setups.{gens_of, is_aware_leg, leg_at, setup, ssrc_of}
-use Rattle.aware_output.specs.declared.outputs.OutConf.{OutConf}
-use Rattle.aware_output.specs.Confs.{IsConf}
+use Rattle.mixer_spec.specs.Setups.{generations_of, is_aware_leg, leg_at, setup, ssrc_of}
+use Rattle.aware_output.specs.declared.outputs.PacketizerSettings.{PacketizerSettings}
+use Rattle.aware_output.specs.Settings.{AreSettings}
 use Rattle.aware_output.specs.Speakers.{AreDistinct}
 use Rattle.mixer_turn.specs.Making.{source_counts}
-use Rattle.mixer_posts.specs.Streams.{AreSourcesAt, AreSourcesOf, conf_at, pts_at, pts_of}
+use Rattle.mixer_posts.specs.Streams.{AreSourcesAt, AreSourcesOf, settings_at, payload_types_at, payload_types_of}
 
 -- ---- the leg
 pub leg_found : (ls : List LegLine) (k : ℕ) (l : LegLine) → slice_get ls k ≡ Some l → leg_at ls k ≡ Some l
@@ -22,20 +22,20 @@ leg_found (x ∷ ls) zero l e = e
 leg_found (x ∷ ls) (suc k) l e = leg_found ls k l e
 
 -- the stream of a leg with this line
-abbrev stream_by : Conf → Option LegLine → OutConf
-stream_by c o = record { ssrc = c.mixer.ssrc; seq = c.mixer.seq; stamp = c.mixer.stamp; pts = pts_of o; gens = gens_of o }
+abbrev stream_by : Conference → Option LegLine → PacketizerSettings
+stream_by c o = record { ssrc = c.mixer.ssrc; seq = c.mixer.seq; timestamp = c.mixer.timestamp; payload_types = payload_types_of o; generations = generations_of o }
 
-pub stream_is : (c : Conf) (k : ℕ) (leg : LegLine) → slice_get c.legs k ≡ Some leg → stream_by c (Some leg) ≡ conf_at (setup c) (pts_at c k) k
+pub stream_is : (c : Conference) (k : ℕ) (leg : LegLine) → slice_get c.legs k ≡ Some leg → stream_by c (Some leg) ≡ settings_at (setup c) (payload_types_at c k) k
 stream_is c k leg g = ap (stream_by c) (sym (leg_found c.legs k leg g))
 
-pub stream_is_sound : (c : Conf) (k : ℕ) (leg : LegLine) → IsConference c → slice_get c.legs k ≡ Some leg → IsConf (stream_by c (Some leg))
+pub stream_is_sound : (c : Conference) (k : ℕ) (leg : LegLine) → IsConference c → slice_get c.legs k ≡ Some leg → AreSettings (stream_by c (Some leg))
 stream_is_sound c k leg h g =
     let is : IsLeg leg = subst (λ (l : LegLine). IsLeg l) (get_or_from_slice_get c.legs k leg leg g) (h.legs.each k leg (slice_get_within c.legs k leg g)) in
     record {
       t140 = omega (arith, is.types.t140.high);
       red = omega (arith, is.types.red.high);
       differ = is.types.differ;
-      gens = is.gens;
+      generations = is.generations;
     }
 
 -- ---- the sources
@@ -56,14 +56,14 @@ ssrc_there [] k l = absurd (omega arith)
 ssrc_there (x ∷ ls) zero l = refl
 ssrc_there (x ∷ ls) (suc k) l = ssrc_there ls k (omega arith)
 
-aware_is : (c : Conf) (k : ℕ) (leg : LegLine) → slice_get c.legs k ≡ Some leg → leg.aware ≡ (setup c).aware k
+aware_is : (c : Conference) (k : ℕ) (leg : LegLine) → slice_get c.legs k ≡ Some leg → leg.aware ≡ (setup c).aware k
 aware_is c k leg g = sym (ap is_aware_leg (leg_found c.legs k leg g))
 
-abbrev count_by : Conf → LegLine → ℕ
+abbrev count_by : Conference → LegLine → ℕ
 count_by c leg = cond leg.aware (length c.legs) 1
 
 -- there are as many as the mixer has for it
-pub count_law : (c : Conf) (k : ℕ) (leg : LegLine) (sources : List ℕ) → slice_get c.legs k ≡ Some leg → AreSourcesAt (setup c) k sources → slice_get (source_counts c) k ≡ Some (length sources)
+pub count_law : (c : Conference) (k : ℕ) (leg : LegLine) (sources : List ℕ) → slice_get c.legs k ≡ Some leg → AreSourcesAt (setup c) k sources → slice_get (source_counts c) k ≡ Some (length sources)
 count_law c k leg sources g a =
     slice_get-map (count_by c) c.legs k ∙ (ap (λ (o : Option LegLine). option_map (count_by c) o) g
     ∙ ap Some (go leg.aware (subst (λ (b : Bool). AreSourcesOf b (setup c) sources) (sym (aware_is c k leg g)) a)))
@@ -73,18 +73,18 @@ count_law c k leg sources g a =
     go false h = sym (ap (λ (xs : List ℕ). length xs) h)
 
 -- what is told of the sources of a terminal
-pub record AreSourcesTo (c : Conf) (k : ℕ) (sources : List ℕ) : Type 0 where
+pub record AreSourcesTo (c : Conference) (k : ℕ) (sources : List ℕ) : Type 0 where
   pub are : AreSourcesAt (setup c) k sources
   pub distinct : AreDistinct sources
   pub count : slice_get (source_counts c) k ≡ Some (length sources)
 
-all_legs : (c : Conf) (k : ℕ) (leg : LegLine) → IsConference c → slice_get c.legs k ≡ Some leg → leg.aware ≡ true → AreSourcesTo c k (map (λ l. l.ssrc) c.legs)
+all_legs : (c : Conference) (k : ℕ) (leg : LegLine) → IsConference c → slice_get c.legs k ≡ Some leg → leg.aware ≡ true → AreSourcesTo c k (map (λ l. l.ssrc) c.legs)
 all_legs c k leg h g e =
     let ssrcs = map (λ (l : LegLine). l.ssrc) c.legs in
     let are : AreSourcesAt (setup c) k ssrcs = subst (λ (b : Bool). AreSourcesOf b (setup c) ssrcs) (sym e ∙ aware_is c k leg g) (length-map c.legs (λ (l : LegLine). l.ssrc), λ i l. ssrc_there c.legs i l) in
     record { are = are; distinct = all_distinct c.legs h.legs.differ; count = count_law c k leg ssrcs g are }
 
-pub mixer_alone : (c : Conf) (k : ℕ) (leg : LegLine) (sources : List ℕ) → slice_get c.legs k ≡ Some leg → leg.aware ≡ false → sources ≡ c.mixer.ssrc ∷ [] → AreSourcesTo c k sources
+pub mixer_alone : (c : Conference) (k : ℕ) (leg : LegLine) (sources : List ℕ) → slice_get c.legs k ≡ Some leg → leg.aware ≡ false → sources ≡ c.mixer.ssrc ∷ [] → AreSourcesTo c k sources
 mixer_alone c k leg sources g e is =
     let one = c.mixer.ssrc ∷ [] in
     let are : AreSourcesAt (setup c) k one = subst (λ (b : Bool). AreSourcesOf b (setup c) one) (sym e ∙ aware_is c k leg g) refl in
@@ -95,7 +95,7 @@ mixer_alone c k leg sources g e is =
 pub leg_read : (legs xs : List LegLine) (own : ℕ) (leg : LegLine) → xs ≡ legs → own < length legs → leg ≡ get_or xs own leg → slice_get legs own ≡ Some leg
 leg_read legs xs own leg same low is = slice_get_read legs (length legs) own leg refl low (is ∙ ap (λ (ls : List LegLine). get_or ls own leg) same)
 
-pub all_made : {E : Type 0} (c : Conf) (k : ℕ) (leg : LegLine) (legs : List LegLine) (r : Result (Vec ℕ) E) → IsConference c → slice_get c.legs k ≡ Some leg → leg.aware ≡ true → legs ≡ c.legs
+pub all_made : {E : Type 0} (c : Conference) (k : ℕ) (leg : LegLine) (legs : List LegLine) (r : Result (Vec ℕ) E) → IsConference c → slice_get c.legs k ≡ Some leg → leg.aware ≡ true → legs ≡ c.legs
     → IfOk r (λ v. v.items ≡ map (λ l. l.ssrc) legs) → IfOk r (λ v. AreSourcesTo c k v.items)
 all_made c k leg legs (Ok v) h g e same is = subst (λ (xs : List ℕ). AreSourcesTo c k xs) (sym (is ∙ ap (λ (ls : List LegLine). map (λ (l : LegLine). l.ssrc) ls) same)) (all_legs c k leg h g e)
 all_made c k leg legs (Err x) h g e same is = tt

@@ -1,22 +1,22 @@
 -- The stream to each terminal of a conference, and its sources (RFC 3550, section 5.1; RFC 9071).
 use Rattle.std.specs.Prelude.{◌≡◌, ℕ, ◌<◌, Bool, true, false, Option, None, Some, List, [], ◌∷◌, length, slice_index}
-use Rattle.rtt_base.specs.declared.text_packets.Pts.{Pts}
-use Rattle.file_spec.specs.declared.conf_lines.LegLine.{LegLine}
-use Rattle.file_spec.specs.Conf.{Conf}
+use Rattle.rtt_base.specs.declared.text_packets.PayloadTypes.{PayloadTypes}
+use Rattle.file_spec.specs.declared.conference_lines.LegLine.{LegLine}
+use Rattle.file_spec.specs.Conference.{Conference}
 use Rattle.mixer_spec.specs.Setups.{Setup, leg_at}
-use Rattle.aware_output.specs.declared.outputs.OutConf.{OutConf}
+use Rattle.aware_output.specs.declared.outputs.PacketizerSettings.{PacketizerSettings}
 
-abbrev pub pts_of : Option LegLine → Pts
-pts_of None = record { t140 = 0; red = 0 }
-pts_of (Some leg) = leg.pts
+abbrev pub payload_types_of : Option LegLine → PayloadTypes
+payload_types_of None = record { t140 = 0; red = 0 }
+payload_types_of (Some leg) = leg.payload_types
 
 -- the payload types of the terminal of the leg j
-abbrev pub pts_at : Conf → ℕ → Pts
-pts_at c j = pts_of (leg_at c.legs j)
+abbrev pub payload_types_at : Conference → ℕ → PayloadTypes
+payload_types_at c j = payload_types_of (leg_at c.legs j)
 
 -- the stream to the terminal j, with these payload types
-abbrev pub conf_at : Setup → Pts → ℕ → OutConf
-conf_at s pts j = record { ssrc = s.mixer; seq = s.first; stamp = s.base; pts = pts; gens = s.gens j }
+abbrev pub settings_at : Setup → PayloadTypes → ℕ → PacketizerSettings
+settings_at s payload_types j = record { ssrc = s.mixer; seq = s.first; timestamp = s.base; payload_types = payload_types; generations = s.generations j }
 
 -- the SSRCs of all legs, in leg order, where the terminal is aware; else the mixer's alone
 abbrev pub AreSourcesOf : Bool → Setup → List ℕ → Type 0

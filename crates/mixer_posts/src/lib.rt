@@ -5,12 +5,12 @@
 mod laws;
 mod mixers;
 mod outbounds;
-mod sending;
+mod posts;
 mod streams;
 
 pub use laws::posts_are_entered;
-pub use mixers::Sending;
-pub use outbounds::Outbound;
+pub use mixers::SendingMixer;
+pub use outbounds::PostSink;
 pub use streams::{sources_to, ssrcs_of, stream_to};
 
 #[cfg(test)]

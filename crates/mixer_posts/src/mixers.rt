@@ -2,23 +2,23 @@
 ghost use Rattle.std.specs.Prelude.{◌≡◌};
 ghost use Rattle.mixer_turn.specs.States.{sources_of};
 
-use crate::Outbound;
-use crate::sending::send_posts;
+use crate::PostSink;
+use crate::posts::send_posts;
 use link_io::Beat;
-use mix_loop::Mixes;
+use mix_loop::MixerCalls;
 use mixer_turn::{Batch, Mixer};
 use rtt_base::{Chunk, Full};
 use std::marker::Model;
 
 /// The mixer of a conference, with what its last turn sent, and where that goes.
 #[derive(Drop)]
-pub struct Sending<O: Outbound> {
+pub struct SendingMixer<O: PostSink> {
     mixer: Mixer,
     batch: Batch,
     outbound: O,
 }
 
-impl<O: Outbound> Model for Sending<O> {
+impl<O: PostSink> Model for SendingMixer<O> {
     ghost use Rattle.mixer_posts.specs.States.{IsForEach, SendingState};
 
     ghost Value = { SendingState O };
@@ -28,15 +28,15 @@ impl<O: Outbound> Model for Sending<O> {
     ghost invariant = { λ m. IsForEach O.sources (record { mixer = m.mixer; outbound = m.outbound }) };
 }
 
-impl<O: Outbound> Sending<O> {
+impl<O: PostSink> SendingMixer<O> {
     /// This mixer, whose posts go there, where each terminal has as many sources as for the mixer. The batch has room for those
     /// of a turn.
-    pub fn new(mixer: Mixer, batch: Batch, outbound: O) -> Sending<O>
+    pub fn new(mixer: Mixer, batch: Batch, outbound: O) -> SendingMixer<O>
         requires { O.sources outbound ≡ sources_of mixer }
         ensures mixer { result.mixer ≡ mixer }
         ensures outbound { result.outbound ≡ outbound }
     {
-        Sending {
+        SendingMixer {
             mixer,
             batch,
             outbound,
@@ -47,7 +47,7 @@ impl<O: Outbound> Sending<O> {
     pub fn into_outbound(self) -> O
         ensures { result ≡ self.outbound }
     {
-        let Sending {
+        let SendingMixer {
             mixer: _,
             batch: _,
             outbound,
@@ -56,7 +56,7 @@ impl<O: Outbound> Sending<O> {
     }
 }
 
-impl<O: Outbound> Mixes for Sending<O> {
+impl<O: PostSink> MixerCalls for SendingMixer<O> {
     ghost use Rattle.mixer_posts.specs.Standing.{HaltsFor, SendsFor};
     ghost use Rattle.mixer_turn.specs.States.{legs_of};
 
@@ -64,9 +64,9 @@ impl<O: Outbound> Mixes for Sending<O> {
 
     type Clock = O::Clock;
 
-    ghost stands = { λ m s pts calls. SendsFor O.took O.sources O.horizon m s pts calls };
+    ghost stands = { λ m s payload_types calls. SendsFor O.took O.sources O.horizon m s payload_types calls };
 
-    ghost halted = { λ m s pts calls now. HaltsFor O.halted m s pts calls now };
+    ghost halted = { λ m s payload_types calls now. HaltsFor O.halted m s payload_types calls now };
 
     ghost legs = { λ m. legs_of m.mixer };
 

@@ -1,6 +1,6 @@
 //! Where what a mixer sends goes.
 ghost use Rattle.std.specs.Prelude.{◌≡◌, ◌<◌, ◌≤◌, ◌^◌, ℕ, List, OnOk, OnErr, IfErr};
-ghost use Rattle.rtt_base.specs.declared.text_packets.Pts.{Pts};
+ghost use Rattle.rtt_base.specs.declared.text_packets.PayloadTypes.{PayloadTypes};
 ghost use Rattle.mixer_spec.specs.Setups.{Setup};
 ghost use Rattle.mixer_turn.specs.declared.batches.Post.{Post};
 ghost use Rattle.mixer_turn.specs.Posts.{IsPost};
@@ -11,7 +11,7 @@ use link_io::Beat;
 use mixer_turn::Post;
 
 /// Where what is sent to the terminals of a conference goes: recordings, or links. It makes the packets.
-pub trait Outbound {
+pub trait PostSink {
     /// Why it took no post.
     type Fault: Copy;
 
@@ -19,10 +19,10 @@ pub trait Outbound {
     type Clock;
 
     /// It took these posts, newest first, each with its moment, for the terminals of this setup, with these payload types.
-    ghost took: { Self → Setup → (ℕ → Pts) → List (ℕ × Post) → Type 0 };
+    ghost took: { Self → Setup → (ℕ → PayloadTypes) → List (ℕ × Post) → Type 0 };
 
     /// It took these posts so, and maybe one more behind them, at this moment: that may have been given, or not.
-    ghost halted: { Self → Setup → (ℕ → Pts) → List (ℕ × Post) → ℕ → Post → Type 0 };
+    ghost halted: { Self → Setup → (ℕ → PayloadTypes) → List (ℕ × Post) → ℕ → Post → Type 0 };
 
     /// How many sources each terminal has, in leg order.
     ghost sources: { Self → List ℕ };

@@ -1,30 +1,31 @@
 //! The stream to each terminal of a conference, and its sources.
 ghost use Rattle.std.specs.Prelude.{◌≡◌, ◌<◌, IfOk, Some, length, map, slice_get};
 ghost use Rattle.mixer_spec.specs.Setups.{setup};
-ghost use Rattle.conference.specs.Conferences.{conf_of};
-ghost use Rattle.aware_output.specs.Confs.{IsConf};
+ghost use Rattle.conference.specs.Conferences.{meaning_of};
+ghost use Rattle.aware_output.specs.Settings.{AreSettings};
 ghost use Rattle.aware_output.specs.Speakers.{AreDistinct};
 ghost use Rattle.mixer_turn.specs.Making.{source_counts};
-ghost use Rattle.mixer_posts.specs.Streams.{AreSourcesAt, conf_at, pts_at};
+ghost use Rattle.mixer_posts.specs.Streams.{AreSourcesAt, settings_at, payload_types_at};
 
-use aware_output::OutConf;
-use conference::{Conf, LegLine};
+use aware_output::PacketizerSettings;
+use conference::{Conference, LegLine};
 use rtt_base::NoMemory;
 use std::alloc::Global;
 
 /// The stream to the terminal of the leg with this number.
-pub fn stream_to(conf: &Conf, own: usize) -> OutConf
-    requires { own < length conf.now.legs }
-    ensures stream { result ≡ conf_at (setup (conf_of conf.now)) (pts_at (conf_of conf.now) own) own }
-    ensures conf { IsConf result }
+pub fn stream_to(conference: &Conference, own: usize) -> PacketizerSettings
+    requires { own < length conference.now.legs }
+    ensures stream { result ≡ settings_at (setup (meaning_of conference.now))
+        (payload_types_at (meaning_of conference.now) own) own }
+    ensures settings { AreSettings result }
 {
-    let leg = &conf.legs.as_slice()[own];
-    OutConf {
-        ssrc: conf.mixer.ssrc,
-        seq: conf.mixer.seq,
-        stamp: conf.mixer.stamp,
-        pts: leg.pts,
-        gens: leg.gens,
+    let leg = &conference.legs.as_slice()[own];
+    PacketizerSettings {
+        ssrc: conference.mixer.ssrc,
+        seq: conference.mixer.seq,
+        timestamp: conference.mixer.timestamp,
+        payload_types: leg.payload_types,
+        generations: leg.generations,
     }
 }
 
@@ -41,17 +42,18 @@ pub fn ssrcs_of(alloc: Global, legs: &[LegLine]) -> Result<Vec<u32>, NoMemory>
 
 /// The SSRCs of the sources of the terminal of the leg with this number: those of all legs where it is aware, else the mixer's
 /// alone.
-pub fn sources_to(alloc: Global, conf: &Conf, own: usize) -> Result<Vec<u32>, NoMemory>
-    requires { own < length conf.now.legs }
-    ensures are { IfOk result (λ v. AreSourcesAt (setup (conf_of conf.now)) own v.items) }
+pub fn sources_to(alloc: Global, conference: &Conference, own: usize) -> Result<Vec<u32>, NoMemory>
+    requires { own < length conference.now.legs }
+    ensures are { IfOk result (λ v. AreSourcesAt (setup (meaning_of conference.now)) own v.items) }
     ensures distinct { IfOk result (λ v. AreDistinct v.items) }
-    ensures count { IfOk result (λ v. slice_get (source_counts (conf_of conf.now)) own ≡ Some (length v.items)) }
+    ensures count { IfOk result (λ v. slice_get (source_counts (meaning_of conference.now)) own
+        ≡ Some (length v.items)) }
 {
-    let leg = &conf.legs.as_slice()[own];
+    let leg = &conference.legs.as_slice()[own];
     if leg.aware {
-        return ssrcs_of(alloc, conf.legs.as_slice());
+        return ssrcs_of(alloc, conference.legs.as_slice());
     }
     let mut sources = Vec::with_capacity(alloc, 1)?;
-    sources.push(conf.mixer.ssrc)?;
+    sources.push(conference.mixer.ssrc)?;
     Ok(sources)
 }

@@ -1,11 +1,11 @@
 //! What a turn sends is given to an outbound.
 ghost use Rattle.std.specs.Prelude.{◌≡◌, IfOk};
 
-use crate::{Outbound, Sending};
+use crate::{PostSink, SendingMixer};
 use conf_text::{Form, read_conf};
-use conference::Conf;
+use conference::Conference;
 use link_io::Beat;
-use mix_loop::Mixes;
+use mix_loop::MixerCalls;
 use mixer_turn::{Batch, Mixer, Post};
 use rtt_base::{Chunk, NoMemory, Text};
 use std::alloc::Global;
@@ -18,26 +18,26 @@ const TWO: &[u8] = b"leg A aware 1001 a.rtp a\nleg B aware 1002 b.rtp b\nmixer 9
 /// Notes to which terminal of the conference something is sent, and when. It takes so many.
 #[derive(Drop)]
 struct Notes {
-    conf: Conf,
+    conference: Conference,
     sent: Vec<(u64, usize)>,
     room: usize,
 }
 
-impl Outbound for Notes {
+impl PostSink for Notes {
     ghost use Rattle.std.proofs.Common.{rules};
     ghost use Rattle.std.specs.Prelude.{◌^◌, []};
-    ghost use Rattle.conference.specs.Conferences.{conf_of};
+    ghost use Rattle.conference.specs.Conferences.{meaning_of};
     ghost use Rattle.mixer_turn.specs.Making.{source_counts};
 
     type Fault = NoMemory;
 
     type Clock = ();
 
-    ghost took = { λ notes s pts sent. Unit {0} };
+    ghost took = { λ notes s payload_types sent. Unit {0} };
 
-    ghost halted = { λ notes s pts sent now post. Unit {0} };
+    ghost halted = { λ notes s payload_types sent now post. Unit {0} };
 
-    ghost sources = { λ notes. source_counts (conf_of notes.conf) };
+    ghost sources = { λ notes. source_counts (meaning_of notes.conference) };
 
     ghost addresses = { λ notes. [] };
 
@@ -59,13 +59,13 @@ impl Outbound for Notes {
 }
 
 /// The mixer of two legs, the first of which typed, and an outbound that takes so many posts.
-fn typed(rt: &impl Abort, alloc: Global, room: usize) -> Result<Sending<Notes>, NoMemory>
+fn typed(rt: &impl Abort, alloc: Global, room: usize) -> Result<SendingMixer<Notes>, NoMemory>
     ensures turns { IfOk result (λ sending. sending.mixer.turns ≡ 0) }
 {
-    let Ok(conf) = read_conf(alloc, TWO, Form::Files) else {
+    let Ok(conference) = read_conf(alloc, TWO, Form::Files) else {
         return Err(NoMemory);
     };
-    let mut mixer = Mixer::new(alloc, &conf)?;
+    let mut mixer = Mixer::new(alloc, &conference)?;
     assert!(rt; mixer.legs() == 2);
     assert!(rt; mixer.admit(0, true));
     assert!(rt; mixer.admit(1, true));
@@ -81,8 +81,8 @@ fn typed(rt: &impl Abort, alloc: Global, room: usize) -> Result<Sending<Notes>, 
     };
     assert!(rt; mixer.offer(&chunk).is_ok());
     let sent = Vec::new(alloc);
-    let notes = Notes { conf, sent, room };
-    Ok(Sending::new(mixer, Batch::new(alloc)?, notes))
+    let notes = Notes { conference, sent, room };
+    Ok(SendingMixer::new(mixer, Batch::new(alloc)?, notes))
 }
 
 #[test]

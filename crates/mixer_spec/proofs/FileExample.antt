@@ -6,7 +6,7 @@ use Rattle.std.specs.Str.{is_utf8, chars}
 use Rattle.std.specs.Char.{encode_utf8}
 use Rattle.std.proofs.lemmas.Str.{IsUtf8-from_is_utf8, IsUtf8-nil}
 use lib.Utf8.{encode}
-use Rattle.rtt_base.specs.declared.text_packets.Pts.{Pts}
+use Rattle.rtt_base.specs.declared.text_packets.PayloadTypes.{PayloadTypes}
 use Rattle.wire_spec.specs.Packets.{Packet, blocks_of}
 use Rattle.wire_spec.specs.Rtp.{rtp, rtp_of_header, rtp_written}
 use Rattle.wire_spec.specs.Red.{headers_at, texts_at, red, red_written}
@@ -19,14 +19,14 @@ use Rattle.stream_spec.specs.Ready.{Chunk, chunk}
 use Rattle.stream_spec.proofs.Sent.{sent_lawful, sent_own}
 use Rattle.stream_spec.proofs.OwnPackets.{own_come}
 use Rattle.stream_spec.proofs.Walks.{are_places}
-use Rattle.file_spec.specs.declared.conf_lines.Form.TheVariants.{Files}
-use Rattle.file_spec.specs.declared.conf_lines.LegLine.{LegLine}
-use Rattle.file_spec.specs.declared.conf_lines.Stay.{Stay}
-use Rattle.file_spec.specs.declared.conf_lines.What.TheVariants.{Lose}
+use Rattle.file_spec.specs.declared.conference_lines.Form.TheVariants.{Files}
+use Rattle.file_spec.specs.declared.conference_lines.LegLine.{LegLine}
+use Rattle.file_spec.specs.declared.conference_lines.Stay.{Stay}
+use Rattle.file_spec.specs.declared.conference_lines.What.TheVariants.{Lose}
 use Rattle.file_spec.specs.Kept.{IsConference}
-use Rattle.file_spec.specs.Conf as line
+use Rattle.file_spec.specs.Conference as line
 use Rattle.file_spec.specs.Services.{no_service}
-use Rattle.file_spec.specs.Conf.{Conf, conf, entry, leg_of, mixer_of, plan_of, stay_or_plan, time_or_other}
+use Rattle.file_spec.specs.Conference.{Conference, conference_from, entry, leg_of, mixer_of, plan_of, stay_or_plan, time_or_other}
 use Rattle.text_spec.specs.Characters.{class_of}
 use Rattle.text_spec.specs.Ends.{ends_line, ends_sentence}
 use Rattle.text_spec.specs.Views.{label, label_after}
@@ -50,22 +50,22 @@ use Rattle.mixer_spec.proofs.MixedExample.{table_of}
 abbrev file : List ℕ
 file = codes "leg Ann aware 1001 ann.in ann.out\nleg Bob aware 1002 bob.in bob.out\nleg Cy unaware 1003 cy.in cy.out\nmixer 9000 100 5000\nturns 30\nlose Bob 1\n"
 
-abbrev pub types : Pts
+abbrev pub types : PayloadTypes
 types = record { t140 = 98; red = 100 }
 
 abbrev pub for_good : Stay
 for_good = record { from = 0; until = None }
 
 abbrev ann_leg : LegLine
-ann_leg = record { line = 1; name = codes "Ann"; aware = true; ssrc = 1001; input = codes "ann.in"; output = codes "ann.out"; pts = types; gens = 2; stay = for_good; follow = false }
+ann_leg = record { line = 1; name = codes "Ann"; aware = true; ssrc = 1001; input = codes "ann.in"; output = codes "ann.out"; payload_types = types; generations = 2; stay = for_good; follow = false }
 
 abbrev bob_leg : LegLine
-bob_leg = record { line = 2; name = codes "Bob"; aware = true; ssrc = 1002; input = codes "bob.in"; output = codes "bob.out"; pts = types; gens = 2; stay = for_good; follow = false }
+bob_leg = record { line = 2; name = codes "Bob"; aware = true; ssrc = 1002; input = codes "bob.in"; output = codes "bob.out"; payload_types = types; generations = 2; stay = for_good; follow = false }
 
 abbrev cy_leg : LegLine
-cy_leg = record { line = 3; name = codes "Cy"; aware = false; ssrc = 1003; input = codes "cy.in"; output = codes "cy.out"; pts = types; gens = 2; stay = for_good; follow = false }
+cy_leg = record { line = 3; name = codes "Cy"; aware = false; ssrc = 1003; input = codes "cy.in"; output = codes "cy.out"; payload_types = types; generations = 2; stay = for_good; follow = false }
 
-abbrev call : Conf
+abbrev call : Conference
 call = record {
   legs = ann_leg ∷ bob_leg ∷ cy_leg ∷ [];
   tick = 100;
@@ -73,12 +73,12 @@ call = record {
   wait = 1000;
   turns = 30;
   relabel = None;
-  mixer = record { ssrc = 9000; seq = 100; stamp = 5000 };
+  mixer = record { ssrc = 9000; seq = 100; timestamp = 5000 };
   plan = record { terminal = 1; packet = 1; what = Lose } ∷ [];
   service = no_service;
 }
 
-is_read : conf Files file ≡ Ok call
+is_read : conference_from Files file ≡ Ok call
 unfolding entry time_or_other stay_or_plan leg_of mixer_of plan_of is_utf8 chars encode_utf8
 is_read = refl
 
@@ -87,7 +87,7 @@ accepted = (accepted_law Files file call is_read).0
 
 -- ---- what Ann sends: one letter, which is repeated twice
 abbrev of_ann : Stream
-of_ann = record { ssrc = 1001; first = 0; base = 0; gens = 2 }
+of_ann = record { ssrc = 1001; first = 0; base = 0; generations = 2 }
 
 abbrev sent : List Sent
 sent = record { source = 1001; media = 600; text = [] } ∷ record { source = 1001; media = 300; text = [] } ∷ record { source = 1001; media = 0; text = codes "H" } ∷ []
@@ -96,7 +96,7 @@ abbrev ann : History
 ann = sent_history of_ann sent
 
 abbrev octets_of : Packet → List ℕ
-octets_of p = rtp_written (record { mark = p.mark; pt = 100; seq = p.seq; stamp = p.stamp; ssrc = p.ssrc; csrc = None }) (red_written (blocks_of p) types)
+octets_of p = rtp_written (record { marker_bit = p.marker_bit; pt = 100; seq = p.seq; timestamp = p.timestamp; ssrc = p.ssrc; csrc = None }) (red_written (blocks_of p) types)
 
 -- the recordings of Ann's packets, and of nobody's
 abbrev inputs : ℕ → List ℕ
@@ -140,7 +140,7 @@ lawful = sent_lawful of_ann sent (omega arith) sendable
 
 -- ---- what comes of it
 abbrev entry_at : ℕ → ℕ → List ℕ → ℕ → Placed
-entry_at k media text reach = record { place = k; index = k; source = 1001; media = media; text = text; gens = 2; reach = reach }
+entry_at k media text reach = record { place = k; index = k; source = 1001; media = media; text = text; generations = 2; reach = reach }
 
 abbrev came : List (ℕ × Placed)
 came = (600, entry_at 2 600 [] 600) ∷ (300, entry_at 1 300 [] 16383) ∷ (0, entry_at 0 0 (codes "H") 16383) ∷ []
@@ -238,7 +238,7 @@ enough_turns : (setup call).places ≤ turns_in (replicate 14 (event.Turn 0)) + 
 enough_turns = omega arith
 
 -- after a turn it is still to be repeated
-repeated : has_text_in ((setup call).gens 1) (sent_from ((setup call).ssrc 0) ((after (setup call) said (event.Turn 0 ∷ taken)).table.terminals 1)) ≡ true
+repeated : has_text_in ((setup call).generations 1) (sent_from ((setup call).ssrc 0) ((after (setup call) said (event.Turn 0 ∷ taken)).table.terminals 1)) ≡ true
 repeated = refl
 
 at_once : last_media (sent_from ((setup call).ssrc 0) ((after (setup call) said (event.Turn 0 ∷ taken)).table.terminals 1)) ≡ Some 0
@@ -259,20 +259,20 @@ took_all zero = refl
 took_all (suc i) = sym (ap (λ (xs : List Taken). chunks_taken xs ++ []) (set_other (after_calls (setup call) (Admit 1 true ∷ Admit 0 true ∷ [])).taken 0 _ (suc i) (λ q. omega (arith, q))))
 
 -- ---- the same call, where Ann goes at 500 and Bob is sent no generation
-abbrev going : Conf
-going = record call { legs = record ann_leg { stay = record { from = 0; until = Some 500 } } ∷ record bob_leg { gens = 0 } ∷ cy_leg ∷ [] }
+abbrev going : Conference
+going = record call { legs = record ann_leg { stay = record { from = 0; until = Some 500 } } ∷ record bob_leg { generations = 0 } ∷ cy_leg ∷ [] }
 
-going_is_read : conf Files (file ++ codes "gens Bob 0\nstay Ann 0 500\n") ≡ Ok going
-unfolding entry time_or_other stay_or_plan leg_of mixer_of plan_of line.gens_of line.stay_of is_utf8 chars encode_utf8
+going_is_read : conference_from Files (file ++ codes "gens Bob 0\nstay Ann 0 500\n") ≡ Ok going
+unfolding entry time_or_other stay_or_plan leg_of mixer_of plan_of line.generations_of line.stay_of is_utf8 chars encode_utf8
 going_is_read = refl
 
 ann_goes : (setup going).until 0 ≡ Some 500
 ann_goes = refl
 
-none_to_bob : (setup going).gens 1 ≡ 0
+none_to_bob : (setup going).generations 1 ≡ 0
 none_to_bob = refl
 
-two_to_cy : (setup going).gens 2 ≡ 2
+two_to_cy : (setup going).generations 2 ≡ 2
 two_to_cy = refl
 
 goes : AreMade (setup going) (λ i. []) (Leave 0 ∷ Hush 0 ∷ Admit 1 true ∷ Admit 0 true ∷ [])

@@ -64,7 +64,7 @@ EndIsClosed =
     → IsSetup s → AllTexts chunks
     → j < s.legs
     → IsOverWith s tick turns chunks table
-    → Closed (s.gens j) (history_at s table j)
+    → Closed (s.generations j) (history_at s table j)
 
 -- ---- that it ends
 -- Where there are as many places as legs, some number of turns is enough.

@@ -2,8 +2,8 @@
 -- conference in files.
 use Rattle.std.specs.Prelude.{◌≡◌, ℕ, ◌<◌, ◌≤◌, false, Ok, List, length}
 use Rattle.wire_spec.specs.Packets.{Arrival}
-use Rattle.file_spec.specs.declared.conf_lines.Form.{Form}
-use Rattle.file_spec.specs.Conf.{Conf, conf}
+use Rattle.file_spec.specs.declared.conference_lines.Form.{Form}
+use Rattle.file_spec.specs.Conference.{Conference, conference_from}
 use Rattle.file_spec.specs.Kept.{IsConference}
 use Rattle.stream_spec.specs.History.{History, Come}
 use Rattle.stream_spec.specs.Ready.{Chunk}
@@ -142,21 +142,21 @@ AllHasHeadline =
 -- What a conference file is accepted as is a conference, and a setup.
 abbrev pub AcceptedIsSetup : Type 0
 AcceptedIsSetup =
-    (form : Form) (octets : List ℕ) (c : Conf)
-    → conf form octets ≡ Ok c
+    (form : Form) (octets : List ℕ) (c : Conference)
+    → conference_from form octets ≡ Ok c
     → IsConference c × IsSetup (setup c)
 
 -- Where what comes of a leg is of a lawful history, that is a hop without its keep-alives.
 abbrev pub ConferenceHops : Type 0
 ConferenceHops =
-    (c : Conf) (inputs : ℕ → List ℕ) (i : ℕ) (h : History)
+    (c : Conference) (inputs : ℕ → List ℕ) (i : ℕ) (h : History)
     → IsSentBy c inputs i h
     → IsHop (hop_from c inputs i h)
 
 -- At an aware terminal it is bridged, for every lawful history of which a leg's arrivals come.
 abbrev pub ConferenceIsBridged : Type 0
 ConferenceIsBridged =
-    (c : Conf) (inputs : ℕ → List ℕ) (table : Table)
+    (c : Conference) (inputs : ℕ → List ℕ) (table : Table)
     → IsConference c
     → IsConferenceMixed c inputs table
     → (j i : ℕ) → IsPair (setup c) j i
@@ -166,7 +166,7 @@ ConferenceIsBridged =
 -- At a terminal that is not aware it is so as one source.
 abbrev pub ConferenceIsBridgedAsOne : Type 0
 ConferenceIsBridgedAsOne =
-    (c : Conf) (inputs : ℕ → List ℕ) (table : Table)
+    (c : Conference) (inputs : ℕ → List ℕ) (table : Table)
     → IsConference c
     → IsConferenceMixed c inputs table
     → (j : ℕ)
@@ -177,7 +177,7 @@ ConferenceIsBridgedAsOne =
 -- Where there are no more legs than places, some number of turns is enough.
 abbrev pub ConferenceEnds : Type 0
 ConferenceEnds =
-    (c : Conf) (inputs : ℕ → List ℕ)
+    (c : Conference) (inputs : ℕ → List ℕ)
     → IsConference c
     → length c.legs ≤ PLACES
     → (n : ℕ) × (table : Table) × IsOverWith (setup c) c.tick n (leg_chunks c inputs) table
@@ -185,7 +185,7 @@ ConferenceEnds =
 -- At each terminal, aware or not, what it shares of a leg stands in what is heard of the leg.
 abbrev pub ConferenceIsPart : Type 0
 ConferenceIsPart =
-    (c : Conf) (inputs : ℕ → List ℕ) (table : Table)
+    (c : Conference) (inputs : ℕ → List ℕ) (table : Table)
     → IsConference c
     → IsConferenceMixed c inputs table
     → (j i : ℕ)

@@ -4,7 +4,7 @@ use Rattle.std.specs.Prelude.{◌≡◌, ℕ, ◌⊎◌, ◌↔◌, List, map, d
 use Rattle.stream_spec.specs.Lists.{In}
 use Rattle.stream_spec.specs.History.{History, Placed, placed}
 use Rattle.stream_spec.specs.Carries.{Carries}
-use Rattle.stream_spec.specs.Kept.{ArePlaces, Block, Item, Mark, Parts, Rising, blocks_in, kept, texts}
+use Rattle.stream_spec.specs.Kept.{ArePlaces, Block, Item, Marker, Parts, Rising, blocks_in, kept, texts}
 use Rattle.mixer_spec.specs.Through.{carried_by, group_of, text_entries, through}
 use Rattle.mixer_spec.specs.Laws.{PartsAt}
 
@@ -44,7 +44,7 @@ BlocksAreCarried =
     → In (Block k) (told_from n h1 i1 s1)
     → (y : Placed) × In y (text_entries h2 s2) × In (Block k) (carried_by (told_from n h1 i1 s1) h2 s2 y)
 
--- Where the second hop lost the entry that carries a block, and shows a mark for it, a mark stands for the block.
+-- Where the second hop lost the entry that carries a block, and shows a marker for it, a marker stands for the block.
 abbrev pub SecondIsMarked : Type 0
 SecondIsMarked =
     (h1 h2 : History) (i1 i2 : List Placed) (s1 s2 n : ℕ) (k y : Placed)
@@ -55,8 +55,8 @@ SecondIsMarked =
     → Parts y (kept h2 i2 s2)
     → PartsAt k (through (told_from n h1 i1 s1) h2 i2 s2)
 
--- Where the first hop shows a mark for a block, an entry carries that mark: where the entry came, or the second hop shows a
--- mark for it in turn, a mark stands for the block.
+-- Where the first hop shows a marker for a block, an entry carries that marker: where the entry came, or the second hop shows a
+-- marker for it in turn, a marker stands for the block.
 abbrev pub FirstIsMarked : Type 0
 FirstIsMarked =
     (h1 h2 : History) (i1 i2 : List Placed) (s1 s2 n : ℕ) (k : Placed)
@@ -69,15 +69,15 @@ FirstIsMarked =
     × (In (Block y) (kept h2 i2 s2) ⊎ Parts y (kept h2 i2 s2) → PartsAt k (through (told_from n h1 i1 s1) h2 i2 s2))
 
 -- ---- nothing is added
--- Where neither hop shows a mark none stands behind both.
-abbrev pub NoMarkIsAdded : Type 0
-NoMarkIsAdded =
+-- Where neither hop shows a marker none stands behind both.
+abbrev pub NoMarkerIsAdded : Type 0
+NoMarkerIsAdded =
     (h1 h2 : History) (i1 i2 : List Placed) (s1 s2 n : ℕ)
-    → (In Mark (told_from n h1 i1 s1) → ⊥)
-    → (In Mark (kept h2 i2 s2) → ⊥)
-    → In Mark (through (told_from n h1 i1 s1) h2 i2 s2) → ⊥
+    → (In Marker (told_from n h1 i1 s1) → ⊥)
+    → (In Marker (kept h2 i2 s2) → ⊥)
+    → In Marker (through (told_from n h1 i1 s1) h2 i2 s2) → ⊥
 
--- Where the second hop tells all its entries with text, and no mark, both tell what the first one tells.
+-- Where the second hop tells all its entries with text, and no marker, both tell what the first one tells.
 abbrev pub WholeIsPassed : Type 0
 WholeIsPassed =
     (h1 h2 : History) (i1 i2 : List Placed) (s1 s2 n : ℕ)

@@ -27,7 +27,7 @@ HistoriesAreLawful = HoldsOfHistories Lawful
 abbrev pub HistoriesAreOwn : Type 0
 HistoriesAreOwn =
     (s : Setup) (chunks : ℕ → List Chunk) (past : List Event) (j : ℕ)
-    → Own (s.gens j) (history_at s (after s chunks past).table j)
+    → Own (s.generations j) (history_at s (after s chunks past).table j)
 
 -- The packets that were sent are those of the history.
 abbrev pub PacketsAreOwn : Type 0

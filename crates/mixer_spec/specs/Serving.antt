@@ -22,7 +22,7 @@ WaitsAreShort =
     → j < s.legs → i < s.legs → IsAnother i j
     → let w = (after s chunks past).table in
     w.media ≡ Some t
-    → has_text_in (s.gens j) (sent_at s w j i) ≡ true
+    → has_text_in (s.generations j) (sent_at s w j i) ≡ true
     → last_media (sent_at s w j i) ≡ Some m
     → IsWaiting s w j i t m
 
@@ -33,7 +33,7 @@ PacketsAreNear =
     (s : Setup) (chunks : ℕ → List Chunk) (past : List Event) (j x : ℕ)
     → IsSetup s → AllTexts chunks
     → j < s.legs
-    → Tight (s.gens j) (gap s) (sent_from x ((after s chunks past).table.terminals j))
+    → Tight (s.generations j) (gap s) (sent_from x ((after s chunks past).table.terminals j))
 
 -- the leg i is due at the terminal j in a turn at the moment `now`
 abbrev pub IsDueAt : Setup → Table → ℕ → ℕ → ℕ → Type 0

@@ -3,24 +3,24 @@ use Rattle.std.proofs.Common.{◌≡◌, ℕ, zero, suc, ◌+◌, ◌<◌, inl, 
 use Rattle.std.specs.Prelude.{◌&&◌, ◌==◌, slice_get, slice_index_or, nat_le, IfOk, Result, Ok, Err, if◌then◌else◌}
 use Rattle.std.proofs.lemmas.Bool.{cases_lt, cases_eq, le-leb, lt-leb}
 use Rattle.std.proofs.lemmas.Option.{slice_get_within}
-use Rattle.file_spec.specs.declared.conf_lines.LegLine.{LegLine}
-use Rattle.file_spec.specs.Conf.{Conf}
+use Rattle.file_spec.specs.declared.conference_lines.LegLine.{LegLine}
+use Rattle.file_spec.specs.Conference.{Conference}
 use Rattle.file_spec.specs.Kept.{IsConference}
 use Rattle.mixer_spec.proofs.Conferences.{setup_law}
 use Rattle.outlet.specs.AwareStanding.{IsMadeFor}
-use Rattle.outlet.specs.declared.outlets.Outlet.{Outlet}
-use Rattle.outlet.specs.Outlets.{StandsNew, own_of, legs_of, next_turn, sources_of}
+use Rattle.outlet.specs.declared.schedulers.TerminalScheduler.{TerminalScheduler}
+use Rattle.outlet.specs.Schedulers.{StandsNew, own_of, legs_of, next_turn, sources_of}
 use Rattle.rtt_base.specs.declared.errors.NoMemory.{NoMemory}
 use Rattle.conference.specs.Speakers.{AreNamed}
 use Rattle.mixer_turn.specs.Making.{IsMade}
 use Rattle.mixer_turn.proofs.Counting.{get_map}
 use Rattle.mixer_spec.specs.Rounds.{set_at}
 use Rattle.mixer_spec.proofs.Lists.{set_same, set_other}
-use Rattle.mixer_spec.specs.Setups.{Setup, leg_at, is_aware_leg, name_of, gens_of, setup}
+use Rattle.mixer_spec.specs.Setups.{Setup, leg_at, is_aware_leg, name_of, generations_of, setup}
 use Rattle.mixer_spec.specs.Table.{Table, empty, no_seats, is_given}
 use Rattle.slot_table.specs.Lanes.{Waiting}
 use Rattle.slot_table.specs.Words.{all_listen, listening}
-use Rattle.slot_table.specs.Standing.{SourceStands, StandsFor}
+use Rattle.slot_table.specs.Standing.{SourceStands, SlotsStandFor}
 use Rattle.slot_table.proofs.Holding.{part_same}
 use Rattle.slot_table.proofs.Sources.{stands_same, get_push}
 
@@ -29,7 +29,7 @@ use Rattle.slot_table.proofs.Sources.{stands_same, get_push}
 abbrev pub listening_from : ℕ → Table
 listening_from n = record empty { seats = record no_seats { listens = λ j. nat_le n j } }
 
-pub all_first : (s : Setup) (waiting : List Waiting) → StandsFor s waiting all_listen → StandsFor s waiting (listening_from 0)
+pub all_first : (s : Setup) (waiting : List Waiting) → SlotsStandFor s waiting all_listen → SlotsStandFor s waiting (listening_from 0)
 all_first s waiting h = stands_same s waiting all_listen (listening_from 0) h (λ i. refl) (λ j. le-leb 0 j (omega arith)) (λ j i. refl)
 
 from_next : (n j : ℕ) → nat_le (n + 1) j ≡ set_at (λ x. nat_le n x) n false j
@@ -41,7 +41,7 @@ from_next n j = elim (cases_eq j n) [
   ]
 ]
 
-pub one_less : (s : Setup) (waiting : List Waiting) (n : ℕ) → StandsFor s waiting (listening n false (listening_from n)) → StandsFor s waiting (listening_from (n + 1))
+pub one_less : (s : Setup) (waiting : List Waiting) (n : ℕ) → SlotsStandFor s waiting (listening n false (listening_from n)) → SlotsStandFor s waiting (listening_from (n + 1))
 one_less s waiting n h = stands_same s waiting (listening n false (listening_from n)) (listening_from (n + 1)) h (λ i. refl) (λ j. from_next n j) (λ j i. refl)
 
 -- of the terminals that are no legs nothing is known
@@ -59,7 +59,7 @@ source_below s i w h = record {
   };
 }
 
-pub none_listens : (s : Setup) (waiting : List Waiting) → StandsFor s waiting (listening_from s.legs) → StandsFor s waiting empty
+pub none_listens : (s : Setup) (waiting : List Waiting) → SlotsStandFor s waiting (listening_from s.legs) → SlotsStandFor s waiting empty
 none_listens s waiting h = record { legs = h.legs; sources = λ i w g. source_below s i w (h.sources i w g) }
 
 -- ---- the legs
@@ -73,23 +73,23 @@ name_there [] k l = absurd (omega arith)
 name_there (x ∷ ls) zero l = refl
 name_there (x ∷ ls) (suc k) l = name_there ls k (omega arith)
 
-made_for : (c : Conf) (k count : ℕ) (leg : LegLine) → IsConference c → slice_get c.legs k ≡ Some leg → count ≡ length c.legs → IsMadeFor (setup c) leg.gens count k c.spacing
+made_for : (c : Conference) (k count : ℕ) (leg : LegLine) → IsConference c → slice_get c.legs k ≡ Some leg → count ≡ length c.legs → IsMadeFor (setup c) leg.generations count k c.spacing
 made_for c k count leg h g e = record {
   setup = setup_law c h;
   places = refl;
-  gens_is = sym (ap gens_of (leg_found c.legs k leg g));
+  generations_is = sym (ap generations_of (leg_found c.legs k leg g));
   legs_is = e;
   spacing_is = refl;
 }
 
-aware_is : (c : Conf) (k : ℕ) (leg : LegLine) → slice_get c.legs k ≡ Some leg → leg.aware ≡ (setup c).aware k
+aware_is : (c : Conference) (k : ℕ) (leg : LegLine) → slice_get c.legs k ≡ Some leg → leg.aware ≡ (setup c).aware k
 aware_is c k leg g = sym (ap is_aware_leg (leg_found c.legs k leg g))
 
-pub all_named : (c : Conf) → IsConference c → AreNamed c.legs
+pub all_named : (c : Conference) → IsConference c → AreNamed c.legs
 all_named c h = λ i x l. (h.legs.each i x l).name
 
 -- what is told of a new outlet, where there are so many legs
-pub made_of : (c : Conf) (k count : ℕ) (leg : LegLine) (r : Result Outlet NoMemory) → IsConference c → slice_get c.legs k ≡ Some leg → count ≡ length c.legs → IfOk r (λ o. StandsNew leg.aware leg.gens count k c.spacing c.relabel o)
+pub made_of : (c : Conference) (k count : ℕ) (leg : LegLine) (r : Result TerminalScheduler NoMemory) → IsConference c → slice_get c.legs k ≡ Some leg → count ≡ length c.legs → IfOk r (λ o. StandsNew leg.aware leg.generations count k c.spacing c.relabel o)
     → IfOk r (λ o. own_of o ≡ k) → IfOk r (λ o. legs_of o ≡ count) → IfOk r (λ o. sources_of o ≡ (if leg.aware then count else 1)) → IfOk r (λ o. next_turn o ≡ 0) → IfOk r (λ o. IsMade c k o)
 made_of c k count leg (Ok o) h g e stands own legs sources next = record {
   stands = stands (setup c) (made_for c k count leg h g e) refl (aware_is c k leg g);
@@ -101,8 +101,8 @@ made_of c k count leg (Ok o) h g e stands own legs sources next = record {
 made_of c k count leg (Err x) h g e stands own legs sources next = tt
 
 -- ---- one more
-pub made_more : (c : Conf) (xs : List Outlet) (o : Outlet) → ((j : ℕ) (p : Outlet) → slice_get xs j ≡ Some p → IsMade c j p) → IsMade c (length xs) o → (j : ℕ) (p : Outlet) → slice_get (xs ++ o ∷ []) j ≡ Some p → IsMade c j p
+pub made_more : (c : Conference) (xs : List TerminalScheduler) (o : TerminalScheduler) → ((j : ℕ) (p : TerminalScheduler) → slice_get xs j ≡ Some p → IsMade c j p) → IsMade c (length xs) o → (j : ℕ) (p : TerminalScheduler) → slice_get (xs ++ o ∷ []) j ≡ Some p → IsMade c j p
 made_more c xs o f n j p e = elim (get_push xs o j p e) [
   | inl g ↦ f j p g
-  | inr q ↦ subst (λ (i : ℕ). IsMade c i p) (sym q.0) (subst (λ (v : Outlet). IsMade c (length xs) v) (sym q.1) n)
+  | inr q ↦ subst (λ (i : ℕ). IsMade c i p) (sym q.0) (subst (λ (v : TerminalScheduler). IsMade c (length xs) v) (sym q.1) n)
 ]

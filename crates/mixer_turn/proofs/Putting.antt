@@ -10,10 +10,10 @@ use Rattle.slot_table.specs.Lanes.{Waiting}
 use Rattle.slot_table.proofs.Lists.{get_set_same, get_read}
 use Rattle.seating.specs.States as seating
 use Rattle.seating.specs.Standing as seatings
-use Rattle.outlet.specs.declared.outlets.Outlet.{Outlet}
+use Rattle.outlet.specs.declared.schedulers.TerminalScheduler.{TerminalScheduler}
 use Rattle.outlet.specs.Turns.{SendsNext}
-use Rattle.outlet.specs.Outlets as outlets
-use Rattle.outlet.specs.Outlets.{IsTurn}
+use Rattle.outlet.specs.Schedulers as schedulers
+use Rattle.outlet.specs.Schedulers.{IsTurn}
 use Rattle.mixer_turn.specs.declared.batches.Post.{Post}
 use Rattle.mixer_turn.specs.Posts.{ArePosts, IsPost}
 use Rattle.mixer_turn.specs.Turns.{turned_below, IsPut, Reaches, LegMayTurn, LegTurned}
@@ -47,12 +47,12 @@ pub posts_more : (sources : List ℕ) (leg t source : ℕ) (text : List ℕ) (ol
 posts_more sources leg t source text old low within h = All-push (IsPost sources) old (record { terminal = leg; source = source; media = t; text = text }) h (record { below = low; source = within })
 
 -- ---- a leg that holds a place
-pub leg_turned : (s : Setup) (table : Table) (now t leg : ℕ) (o new : Outlet) (places : seating.State) (waiting after : List Waiting) (called : List (List ℕ)) (old batch : List Post)
+pub leg_turned : (s : Setup) (table : Table) (now t leg : ℕ) (o new : TerminalScheduler) (places : seating.State) (waiting after : List Waiting) (called : List (List ℕ)) (old batch : List Post)
     → LegMayTurn s table now t leg o places called → is_seated table.seats leg ≡ true → Reaches s table now t leg waiting old
     → (IsTurn s leg (turned_below s now t table leg) o places waiting called now t → IsPut s leg leg (turned_below s now t table leg) now t new after old batch)
     → LegTurned s table now t leg new after batch
 leg_turned s table now t leg o new places waiting after called old batch may seated r call = record {
-  stands = subst (outlets.StandsFor s leg new) turned (put.turned).stands;
+  stands = subst (schedulers.SchedulerStandsFor s leg new) turned (put.turned).stands;
   reaches = subst (Reaches s table now t (suc leg) after) (sym put.batch) (reach_more s table now t leg waiting after old put.source put.text r (put.turned).slots_stand (put.turned).puts);
 }
   where
@@ -70,8 +70,8 @@ leg_turned s table now t leg o new places waiting after called old batch may sea
 
     asked : IsTurn s leg v o places waiting called now t
     asked = record {
-      stands = subst (outlets.StandsFor s leg o) (sym there) may.stands;
-      seats_stand = subst (seatings.StandsFor s places) (sym seats) may.seats;
+      stands = subst (schedulers.SchedulerStandsFor s leg o) (sym there) may.stands;
+      seats_stand = subst (seatings.SeatingStandsFor s places) (sym seats) may.seats;
       slots_stand = r.waits;
       seated = ap (λ (x : Seats). is_seated x leg) seats ∙ seated;
       texts = λ i. subst (λ (d : Terminal). AreTexts (d.waits i)) (sym there) ((may.all).texts leg i);
@@ -84,9 +84,9 @@ leg_turned s table now t leg o new places waiting after called old batch may sea
     put = call asked
 
 -- ---- a leg that holds none
-pub leg_passed : (s : Setup) (table : Table) (now t leg : ℕ) (o : Outlet) (places : seating.State) (waiting : List Waiting) (called : List (List ℕ)) (old : List Post)
+pub leg_passed : (s : Setup) (table : Table) (now t leg : ℕ) (o : TerminalScheduler) (places : seating.State) (waiting : List Waiting) (called : List (List ℕ)) (old : List Post)
     → LegMayTurn s table now t leg o places called → is_seated table.seats leg ≡ false → Reaches s table now t leg waiting old → LegTurned s table now t leg o waiting old
 leg_passed s table now t leg o places waiting called old may e r = record {
-  stands = subst (outlets.StandsFor s leg o) (sym (no_turn s table.seats leg now t (table.terminals leg) e)) may.stands;
+  stands = subst (schedulers.SchedulerStandsFor s leg o) (sym (no_turn s table.seats leg now t (table.terminals leg) e)) may.stands;
   reaches = reach_past s table now t leg waiting old e r;
 }

@@ -2,7 +2,7 @@
 use Rattle.std.proofs.Common.{◌≡◌, ℕ, suc, ◌*◌, ◌^◌, ◌<◌, ◌≤◌, Bool, true, false, cond, inl, inr, Option, Some, None, List, [], ◌∷◌, ◌++◌, length, length-append, map, refl, ap, subst, sym, arith}
 use Rattle.std.specs.List.{AllByRecursion}
 use Rattle.std.proofs.lemmas.List.{length-map}
-use Rattle.rtt_base.specs.declared.text_packets.Pts.{Pts}
+use Rattle.rtt_base.specs.declared.text_packets.PayloadTypes.{PayloadTypes}
 use Rattle.wire_spec.specs.Packets.{Arrival}
 use Rattle.wire_spec.specs.SentPackets.{packet_written}
 use Rattle.stream_spec.specs.Lists.{In}
@@ -17,7 +17,7 @@ use Rattle.mixer_spec.proofs.Paced.{can_send}
 use Rattle.mixer_turn.specs.Allowed.{AreAllowed}
 use Rattle.mixer_turn.specs.Early.{AreEarly}
 use Rattle.mixer_turn.specs.States.{State}
-use Rattle.mixer_turn.specs.Standing.{StandsFor}
+use Rattle.mixer_turn.specs.Standing.{MixerStandsFor}
 use Rattle.mixer_turn.proofs.Sending.{good}
 use Rattle.rtt_base.specs.declared.limits.TheConstants.{MOST_PACKET_OCTETS}
 
@@ -55,21 +55,21 @@ sent_few s (Turn now ∷ past) j a = elim (one_law s now j (after_calls s past))
 ]
 
 -- ---- as records
-abbrev pub record_of : Pts → Arrival → ℕ × List ℕ
-record_of pts a = (a.time, packet_written pts a.packet)
+abbrev pub record_of : PayloadTypes → Arrival → ℕ × List ℕ
+record_of payload_types a = (a.time, packet_written payload_types a.packet)
 
 -- the record's moment and its packet's octets
 abbrev pub IsShortRecord : ℕ × List ℕ → Type 0
 IsShortRecord r = (r.0 < 2 ^ 32) × (length r.1 ≤ MOST_PACKET_OCTETS)
 
-push_record : (pts : Pts) (xs : List Arrival) (x : Arrival) → AllByRecursion IsShortRecord (map (record_of pts) xs) → IsShortRecord (record_of pts x) → AllByRecursion IsShortRecord (map (record_of pts) (xs ++ x ∷ []))
-push_record pts [] x a p = (p, tt)
-push_record pts (y ∷ xs) x a p = (a.0, push_record pts xs x a.1 p)
+push_record : (payload_types : PayloadTypes) (xs : List Arrival) (x : Arrival) → AllByRecursion IsShortRecord (map (record_of payload_types) xs) → IsShortRecord (record_of payload_types x) → AllByRecursion IsShortRecord (map (record_of payload_types) (xs ++ x ∷ []))
+push_record payload_types [] x a p = (p, tt)
+push_record payload_types (y ∷ xs) x a p = (a.0, push_record payload_types xs x a.1 p)
 
-short_records : (pts : Pts) (c : Stream) (past : List TurnEntry) → c.gens ≤ 3 → Sendable c (sents past) → ((e : TurnEntry) → In e past → e.at < 2 ^ 32) → AllByRecursion IsShortRecord (map (record_of pts) (packets c past))
-short_records pts c [] g d f = tt
-short_records pts c (e ∷ past) g d f =
-    push_record pts (packets c past) (record { time = e.at; packet = packet_after c (sents past) e.sent }) (short_records pts c past g d.1 (λ x i. f x (inr i))) (f e (inl refl), few_octets pts c (sents past) e.sent g d)
+short_records : (payload_types : PayloadTypes) (c : Stream) (past : List TurnEntry) → c.generations ≤ 3 → Sendable c (sents past) → ((e : TurnEntry) → In e past → e.at < 2 ^ 32) → AllByRecursion IsShortRecord (map (record_of payload_types) (packets c past))
+short_records payload_types c [] g d f = tt
+short_records payload_types c (e ∷ past) g d f =
+    push_record payload_types (packets c past) (record { time = e.at; packet = packet_after c (sents past) e.sent }) (short_records payload_types c past g d.1 (λ x i. f x (inr i))) (f e (inl refl), few_octets payload_types c (sents past) e.sent g d)
 
 count_packets : (c : Stream) (past : List TurnEntry) → length (packets c past) ≡ length past
 count_packets c [] = refl
@@ -79,20 +79,20 @@ pub record AreRecords (k : ℕ) (records : List (ℕ × List ℕ)) : Type 0 wher
   pub each : AllByRecursion IsShortRecord records
   pub few : length records ≤ k
 
-pub records_fit : (s : Setup) (pts : Pts) (calls : List Call) (j : ℕ) → IsSetup s → AreAllowed s calls → s.step * turns_made calls < 2 ^ 31 → AreEarly calls → j < s.legs
-    → AreRecords (turns_made calls) (map (record_of pts) (packets (stream s j) ((after_calls s calls).terminals j).past))
-records_fit s pts calls j is a b early l =
+pub records_fit : (s : Setup) (payload_types : PayloadTypes) (calls : List Call) (j : ℕ) → IsSetup s → AreAllowed s calls → s.step * turns_made calls < 2 ^ 31 → AreEarly calls → j < s.legs
+    → AreRecords (turns_made calls) (map (record_of payload_types) (packets (stream s j) ((after_calls s calls).terminals j).past))
+records_fit s payload_types calls j is a b early l =
     let w = after_calls s calls in
     let h = sent_few s calls j early in
     record {
-      each = short_records pts (stream s j) (w.terminals j).past (is.gens j) (can_send s is j (turns_made calls) w.media (w.terminals j).past b ((good s is calls a).timed j l).paced) h.early;
-      few = omega (arith, h.few, length-map (packets (stream s j) (w.terminals j).past) (record_of pts), count_packets (stream s j) (w.terminals j).past);
+      each = short_records payload_types (stream s j) (w.terminals j).past (is.generations j) (can_send s is j (turns_made calls) w.media (w.terminals j).past b ((good s is calls a).timed j l).paced) h.early;
+      few = omega (arith, h.few, length-map (packets (stream s j) (w.terminals j).past) (record_of payload_types), count_packets (stream s j) (w.terminals j).past);
     }
 
 -- of a mixer that made at most five million turns
-pub mixer_records : (s : Setup) (pts : ℕ → Pts) (m : State) (calls : List Call) (j : ℕ) → StandsFor s m calls → m.turns ≤ 5000000 → AreEarly calls → j < s.legs
-    → AreRecords 5000000 (map (record_of (pts j)) (packets (stream s j) ((after_calls s calls).terminals j).past))
-mixer_records s pts m calls j h t early l =
+pub mixer_records : (s : Setup) (payload_types : ℕ → PayloadTypes) (m : State) (calls : List Call) (j : ℕ) → MixerStandsFor s m calls → m.turns ≤ 5000000 → AreEarly calls → j < s.legs
+    → AreRecords 5000000 (map (record_of (payload_types j)) (packets (stream s j) ((after_calls s calls).terminals j).past))
+mixer_records s payload_types m calls j h t early l =
     let span : s.step * turns_made calls < 2 ^ 31 = let e : s.step * turns_made calls ≡ 200 * turns_made calls = ap (λ k. k * turns_made calls) h.step in omega (arith, e, h.turns, t) in
-    let r = records_fit s (pts j) calls j h.setup h.allowed span early l in
+    let r = records_fit s (payload_types j) calls j h.setup h.allowed span early l in
     record { each = r.each; few = omega (arith, r.few, h.turns, t) }

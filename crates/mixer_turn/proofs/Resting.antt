@@ -12,12 +12,12 @@ use Rattle.seating.specs.declared.seats.Seat.{Seat}
 use Rattle.seating.specs.Places.{has_place, place_on}
 use Rattle.seating.specs.States as seating
 use Rattle.seating.specs.Standing as seatings
-use Rattle.outlet.specs.declared.outlets.Outlet.{Outlet}
-use Rattle.outlet.specs.Outlets as outlets
+use Rattle.outlet.specs.declared.schedulers.TerminalScheduler.{TerminalScheduler}
+use Rattle.outlet.specs.Schedulers as schedulers
 use Rattle.outlet.specs.Turns.{new_entry}
 use Rattle.mixer_turn.specs.declared.batches.Post.{Post}
 use Rattle.mixer_turn.specs.Calm.{AreCalmBefore}
-use Rattle.mixer_turn.specs.Turns.{AreOutletsOf, posts_between, post_of, AllMayTurn, AllTurned}
+use Rattle.mixer_turn.specs.Turns.{AreSchedulersOf, posts_between, post_of, AllMayTurn, AllTurned}
 use Rattle.mixer_turn.proofs.Few.{none_new}
 use Rattle.mixer_turn.proofs.Turning.{no_turn, not_seated}
 
@@ -27,7 +27,7 @@ get_at [] i low = absurd (omega arith)
 get_at (y ∷ xs) zero low = (y, refl)
 get_at (y ∷ xs) (suc i) low = get_at xs i (omega (arith, low))
 
-module _ (s : Setup) (table : Table) (now t : ℕ) (all : List Outlet) (places : seating.State) (waiting : List Waiting) (called : List (List ℕ)) (may : AllMayTurn s table now t all places waiting called) (calm : ℕ) (early : t < calm) (are : AreCalmBefore calm places all) where
+module _ (s : Setup) (table : Table) (now t : ℕ) (all : List TerminalScheduler) (places : seating.State) (waiting : List Waiting) (called : List (List ℕ)) (may : AllMayTurn s table now t all places waiting called) (calm : ℕ) (early : t < calm) (are : AreCalmBefore calm places all) where
   -- who holds a place in the table holds one
   placed : (j : ℕ) → j < s.legs → is_seated table.seats j ≡ true → has_place places j ≡ true
   placed j low e =
@@ -42,7 +42,7 @@ module _ (s : Setup) (table : Table) (now t : ℕ) (all : List Outlet) (places :
       held e = elim (cases_lt j s.legs) [
         | inl low ↦
             let x = get_at all j (let a = may.legs in omega (arith, a, low)) in
-            are j x.0 x.1 (placed j low e) s j (table.terminals j) (may.outlets j x.0 x.1) table.seats now t early
+            are j x.0 x.1 (placed j low e) s j (table.terminals j) (may.schedulers j x.0 x.1) table.seats now t early
         | inr high ↦ no_turn s table.seats j now t (table.terminals j) (not_seated s table.seats j may.may.held high)
       ]
 
@@ -59,15 +59,15 @@ module _ (s : Setup) (table : Table) (now t : ℕ) (all : List Outlet) (places :
 
   pub calm_turned : (batch : List Post) → batch ≡ [] → AllTurned s table now t all waiting batch
   calm_turned batch e = record {
-    outlets = λ j o g. subst (λ (d : Terminal). outlets.StandsFor s j o d) (sym (same j)) (may.outlets j o g);
+    schedulers = λ j o g. subst (λ (d : Terminal). schedulers.SchedulerStandsFor s j o d) (sym (same j)) (may.schedulers j o g);
     waits = stands_same s waiting table (turned_to s now t table) may.waits (λ i. refl) (λ j. refl) (λ j i. ap (λ (d : Terminal). d.waits i) (same j));
     posts = e ∙ sym (none_sent s.legs);
   }
 
 -- before no media time
-pub never_calm : (places : seating.State) (all : List Outlet) → AreCalmBefore 0 places all
+pub never_calm : (places : seating.State) (all : List TerminalScheduler) → AreCalmBefore 0 places all
 never_calm places all j o g e s k d h seats now t l = absurd (omega (arith, l))
 
 -- the next turn may come later
-pub later : (n t : ℕ) (all : List Outlet) → AreOutletsOf n t all → AreOutletsOf n (t + 1) all
+pub later : (n t : ℕ) (all : List TerminalScheduler) → AreSchedulersOf n t all → AreSchedulersOf n (t + 1) all
 later n t all are j o g = let x = are j o g in record { own = x.own; all = x.all; next = let l = x.next in omega (arith, l) }

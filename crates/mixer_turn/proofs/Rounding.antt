@@ -20,18 +20,18 @@ use Rattle.mixer_turn.proofs.Allowing.{events_of, events_law, good_taken, rests,
 use Rattle.mixer_turn.proofs.Going.{accepted_law}
 
 -- ---- one moment
-pub near_packets : (s : Setup) (calls : List Call) (j x : ℕ) → IsSetup s → AreAllowed s calls → j < s.legs → Tight (s.gens j) (gap s) (sent_from x ((after_calls s calls).terminals j))
+pub near_packets : (s : Setup) (calls : List Call) (j x : ℕ) → IsSetup s → AreAllowed s calls → j < s.legs → Tight (s.generations j) (gap s) (sent_from x ((after_calls s calls).terminals j))
 near_packets s calls j x is a l =
     let e = events_law s calls a in
-    subst (λ (w : Table). Tight (s.gens j) (gap s) (sent_from x (w.terminals j))) e.table (near_law s (λ i. took s i calls) e.past j x is (λ i. (good_taken s calls a i).texts) l)
+    subst (λ (w : Table). Tight (s.generations j) (gap s) (sent_from x (w.terminals j))) e.table (near_law s (λ i. took s i calls) e.past j x is (λ i. (good_taken s calls a i).texts) l)
 
 pub short_waits : (s : Setup) (calls : List Call) (j i t m : ℕ) → IsSetup s → AreAllowed s calls → s.aware j ≡ true → j < s.legs → i < s.legs → (i ≡ j → ⊥)
     → let w = after_calls s calls in
-    w.media ≡ Some t → has_text_in (s.gens j) (sent_from (s.ssrc i) (w.terminals j)) ≡ true → last_media (sent_from (s.ssrc i) (w.terminals j)) ≡ Some m
+    w.media ≡ Some t → has_text_in (s.generations j) (sent_from (s.ssrc i) (w.terminals j)) ≡ true → last_media (sent_from (s.ssrc i) (w.terminals j)) ≡ Some m
     → IsWaiting s w j i t m
 short_waits s calls j i t m is a aw lj li n =
     let e = events_law s calls a in
-    subst (λ (w : Table). w.media ≡ Some t → has_text_in (s.gens j) (sent_from (s.ssrc i) (w.terminals j)) ≡ true → last_media (sent_from (s.ssrc i) (w.terminals j)) ≡ Some m → IsWaiting s w j i t m)
+    subst (λ (w : Table). w.media ≡ Some t → has_text_in (s.generations j) (sent_from (s.ssrc i) (w.terminals j)) ≡ true → last_media (sent_from (s.ssrc i) (w.terminals j)) ≡ Some m → IsWaiting s w j i t m)
     e.table (spacing_law s (λ i. took s i calls) e.past j i t m is (λ i. (good_taken s calls a i).texts) aw lj li n)
 
 pub lawful_history : (s : Setup) (calls : List Call) (j : ℕ) → IsSetup s → AreAllowed s calls → s.step * turns_made calls < 2 ^ 31 → j < s.legs → Lawful (history_to s j ((after_calls s calls).terminals j).past)
@@ -40,10 +40,10 @@ lawful_history s calls j is a b l =
     subst (λ (w : Table). Lawful (history_to s j (w.terminals j).past)) e.table
     (lawful_law s (λ i. took s i calls) e.past j is (λ i. (good_taken s calls a i).texts) (subst (λ (k : ℕ). s.step * k < 2 ^ 31) (sym e.turns) b) l)
 
-pub own_history : (s : Setup) (calls : List Call) (j : ℕ) → AreAllowed s calls → Own (s.gens j) (history_to s j ((after_calls s calls).terminals j).past)
+pub own_history : (s : Setup) (calls : List Call) (j : ℕ) → AreAllowed s calls → Own (s.generations j) (history_to s j ((after_calls s calls).terminals j).past)
 own_history s calls j a =
     let e = events_law s calls a in
-    subst (λ (w : Table). Own (s.gens j) (history_to s j (w.terminals j).past)) e.table (own_law s (λ i. took s i calls) e.past j)
+    subst (λ (w : Table). Own (s.generations j) (history_to s j (w.terminals j).past)) e.table (own_law s (λ i. took s i calls) e.past j)
 
 pub come_history : (s : Setup) (calls : List Call) (j : ℕ) → IsSetup s → AreAllowed s calls → s.step * turns_made calls < 2 ^ 31 → j < s.legs
     → let h = history_to s j ((after_calls s calls).terminals j).past in

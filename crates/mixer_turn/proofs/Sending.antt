@@ -47,12 +47,12 @@ last_is_next s near j k t e past span p = record {
       let b = p.within e (inl refl) in
       let m : x.media ≡ r.0.sent.media = ap (λ (y : Sent). y.media) r.2 in
       (omega (arith, l, m), omega (arith, a, b, m, span));
-  near = near_last (s.gens j) (gap s) (longest_step (s.gens j)) e.sent.media (sent_of e.sent.source (sents past)) (within_step (s.gens j) (gap s) near) own.0;
+  near = near_last (s.generations j) (gap s) (longest_step (s.generations j)) e.sent.media (sent_of e.sent.source (sents past)) (within_step (s.generations j) (gap s) near) own.0;
   text = p.texts e (inl refl);
 }
   where
-    own : Tight (s.gens j) (gap s) (e.sent ∷ sent_of e.sent.source (sents past))
-    own = subst (λ (b : Bool). Tight (s.gens j) (gap s) (cond b (e.sent ∷ sent_of e.sent.source (sents past)) (sent_of e.sent.source (sents past)))) (eq-eqb e.sent.source e.sent.source refl) (p.tight e.sent.source)
+    own : Tight (s.generations j) (gap s) (e.sent ∷ sent_of e.sent.source (sents past))
+    own = subst (λ (b : Bool). Tight (s.generations j) (gap s) (cond b (e.sent ∷ sent_of e.sent.source (sents past)) (sent_of e.sent.source (sents past)))) (eq-eqb e.sent.source e.sent.source refl) (p.tight e.sent.source)
 
 -- a terminal with no place sends nothing
 none_there : (s : Setup) (seats : Seats) (j now t : ℕ) (d : Terminal) → Seated s seats → s.legs ≤ j → turn_at s seats j now t d ≡ d

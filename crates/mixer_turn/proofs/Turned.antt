@@ -4,22 +4,22 @@ use Rattle.mixer_spec.specs.Setups.{Setup}
 use Rattle.mixer_spec.specs.Table.{Call, Turn, next_media, turned_to, after_calls}
 use Rattle.mixer_spec.specs.Calls.{turns_made}
 use Rattle.slot_table.specs.Lanes.{Waiting}
-use Rattle.outlet.specs.declared.outlets.Outlet.{Outlet}
+use Rattle.outlet.specs.declared.schedulers.TerminalScheduler.{TerminalScheduler}
 use Rattle.mixer_turn.specs.declared.batches.Post.{Post}
 use Rattle.mixer_turn.specs.Allowed.{MayTurn}
 use Rattle.mixer_turn.specs.States.{State, least_media}
-use Rattle.mixer_turn.specs.Standing.{Keeps, StandsFor}
-use Rattle.mixer_turn.specs.Insides.{IsSound}
+use Rattle.mixer_turn.specs.Standing.{Keeps, MixerStandsFor}
+use Rattle.mixer_turn.specs.Insides.{MixerIsSound}
 use Rattle.mixer_turn.specs.Calm.{AreCalmBefore}
-use Rattle.mixer_turn.specs.Turns.{AreOutletsOf, MayTurnAll, AllMayTurn, AllTurned, OfMixers, HasBatch, posts_between}
+use Rattle.mixer_turn.specs.Turns.{AreSchedulersOf, MayTurnAll, AllMayTurn, AllTurned, OfMixers, HasBatch, posts_between}
 use Rattle.mixer_turn.proofs.MayTurns.{may_turn_all}
 
 -- the mixer behind a turn at this media time
-abbrev pub with_turn : State → ℕ → List Outlet → List Waiting → State
-with_turn m t all waiting = record { seating = m.seating; slots = waiting; outlets = all; names = m.names; media = Some t; turns = m.turns + 1 }
+abbrev pub with_turn : State → ℕ → List TerminalScheduler → List Waiting → State
+with_turn m t all waiting = record { seating = m.seating; slots = waiting; schedulers = all; names = m.names; media = Some t; turns = m.turns + 1 }
 
 -- it may be made, and this is its media time
-may_turn : (s : Setup) (m : State) (calls : List Call) → StandsFor s m calls → m.turns < 5000000 → MayTurn s calls
+may_turn : (s : Setup) (m : State) (calls : List Call) → MixerStandsFor s m calls → m.turns < 5000000 → MayTurn s calls
 may_turn s m calls h l = record {
   setup = h.setup;
   near = h.near;
@@ -27,22 +27,22 @@ may_turn s m calls h l = record {
   allowed = h.allowed;
 }
 
-media_is : (s : Setup) (m : State) (calls : List Call) (now t : ℕ) → StandsFor s m calls → t ≡ next_media 200 m.media now → t ≡ next_media s.step (after_calls s calls).media now
+media_is : (s : Setup) (m : State) (calls : List Call) (now t : ℕ) → MixerStandsFor s m calls → t ≡ next_media 200 m.media now → t ≡ next_media s.step (after_calls s calls).media now
 media_is s m calls now t h e = e ∙ (ap (λ k. next_media k m.media now) (sym h.step) ∙ ap (λ o. next_media s.step o now) h.media)
 
-all_may : (s : Setup) (m : State) (calls : List Call) (now t : ℕ) → StandsFor s m calls → m.turns < 5000000 → t ≡ next_media 200 m.media now
-    → AllMayTurn s (after_calls s calls) now t m.outlets m.seating m.slots m.names
+all_may : (s : Setup) (m : State) (calls : List Call) (now t : ℕ) → MixerStandsFor s m calls → m.turns < 5000000 → t ≡ next_media 200 m.media now
+    → AllMayTurn s (after_calls s calls) now t m.schedulers m.seating m.slots m.names
 all_may s m calls now t h l e = record {
   may = subst (MayTurnAll s (after_calls s calls) now) (sym (media_is s m calls now t h e)) (may_turn_all s calls now (may_turn s m calls h l));
   legs = (h.keeps).legs;
-  outlets = (h.keeps).outlets;
+  schedulers = (h.keeps).schedulers;
   seats = (h.keeps).seats;
   waits = (h.keeps).waits;
   names = (h.keeps).names;
 }
 
-pub turn_stands : (s : Setup) (m : State) (calls : List Call) (now t : ℕ) (all : List Outlet) (waiting : List Waiting) (batch : List Post) → StandsFor s m calls → m.turns < 5000000 → t ≡ next_media 200 m.media now
-    → length all ≡ length m.outlets → OfMixers m.outlets m.seating m.slots m.names t (λ s table now. AllTurned s table now t all waiting batch) → StandsFor s (with_turn m t all waiting) (Turn now ∷ calls)
+pub turn_stands : (s : Setup) (m : State) (calls : List Call) (now t : ℕ) (all : List TerminalScheduler) (waiting : List Waiting) (batch : List Post) → MixerStandsFor s m calls → m.turns < 5000000 → t ≡ next_media 200 m.media now
+    → length all ≡ length m.schedulers → OfMixers m.schedulers m.seating m.slots m.names t (λ s table now. AllTurned s table now t all waiting batch) → MixerStandsFor s (with_turn m t all waiting) (Turn now ∷ calls)
 turn_stands s m calls now t all waiting batch h l e n f =
     let w = after_calls s calls in
     let r = f s (after_calls s calls) now (all_may s m calls now t h l e) in
@@ -53,13 +53,13 @@ turn_stands s m calls now t all waiting batch h l e n f =
       step = h.step;
       allowed = h.allowed;
       keeps = subst (λ (k : ℕ). Keeps s (with_turn m t all waiting) (turned_to s now k (after_calls s calls))) is
-          (record { legs = n ∙ (h.keeps).legs; seats = (h.keeps).seats; waits = r.waits; outlets = r.outlets; names = (h.keeps).names });
+          (record { legs = n ∙ (h.keeps).legs; seats = (h.keeps).seats; waits = r.waits; schedulers = r.schedulers; names = (h.keeps).names });
       media = ap Some is;
       turns = let one : m.turns + 1 ≡ suc m.turns = omega arith in one ∙ ap suc h.turns;
     }
 
-pub turn_batch : (s : Setup) (m : State) (calls : List Call) (now t : ℕ) (all : List Outlet) (waiting : List Waiting) (batch : List Post) → StandsFor s m calls → m.turns < 5000000 → t ≡ next_media 200 m.media now
-    → OfMixers m.outlets m.seating m.slots m.names t (λ s table now. AllTurned s table now t all waiting batch) → HasBatch s now (after_calls s calls) batch
+pub turn_batch : (s : Setup) (m : State) (calls : List Call) (now t : ℕ) (all : List TerminalScheduler) (waiting : List Waiting) (batch : List Post) → MixerStandsFor s m calls → m.turns < 5000000 → t ≡ next_media 200 m.media now
+    → OfMixers m.schedulers m.seating m.slots m.names t (λ s table now. AllTurned s table now t all waiting batch) → HasBatch s now (after_calls s calls) batch
 turn_batch s m calls now t all waiting batch h l e f =
     let r = f s (after_calls s calls) now (all_may s m calls now t h l e) in
     subst (λ (k : ℕ). batch ≡ posts_between s (after_calls s calls) (turned_to s now k (after_calls s calls)) s.legs) (media_is s m calls now t h e) r.posts
@@ -69,22 +69,22 @@ pub media_rises : (last : Option ℕ) (now turns : ℕ) → now < 2 ^ 47 → Rat
 media_rises None now turns l h = omega (arith, l)
 media_rises (Some t) now turns l h = omega (arith, l, h)
 
-pub sound_after : (m : State) (was is : ℕ) (now t : ℕ) (all : List Outlet) (waiting : List Waiting) → IsSound m was → m.turns < 5000000 → now < 2 ^ 47 → t ≡ next_media 200 m.media now → length all ≡ length m.outlets → length waiting ≡ length m.slots
-    → AreOutletsOf (length m.outlets) (t + 1) all → AreCalmBefore is m.seating all → IsSound (with_turn m t all waiting) is
+pub sound_after : (m : State) (was is : ℕ) (now t : ℕ) (all : List TerminalScheduler) (waiting : List Waiting) → MixerIsSound m was → m.turns < 5000000 → now < 2 ^ 47 → t ≡ next_media 200 m.media now → length all ≡ length m.schedulers → length waiting ≡ length m.slots
+    → AreSchedulersOf (length m.schedulers) (t + 1) all → AreCalmBefore is m.seating all → MixerIsSound (with_turn m t all waiting) is
 sound_after m was is now t all waiting h l b e n k each calm = record {
   seats = h.seats ∙ sym n;
   slots = k ∙ (h.slots ∙ sym n);
   names = h.names ∙ sym n;
-  outlets = subst (λ (x : ℕ). AreOutletsOf x (t + 1) all) (sym n) each;
+  schedulers = subst (λ (x : ℕ). AreSchedulersOf x (t + 1) all) (sym n) each;
   media = subst (λ (x : ℕ). x < 2 ^ 47 + (m.turns + 1)) (sym e) (media_rises m.media now m.turns b h.media);
   turns = omega (arith, l);
   calm = calm;
 }
 
 -- each outlet may have a turn at this media time
-pub next_from : (m : State) (was : ℕ) (now t : ℕ) → IsSound m was → t ≡ next_media 200 m.media now → AreOutletsOf (length m.outlets) t m.outlets
+pub next_from : (m : State) (was : ℕ) (now t : ℕ) → MixerIsSound m was → t ≡ next_media 200 m.media now → AreSchedulersOf (length m.schedulers) t m.schedulers
 next_from m was now t h e j o g =
-    let x = h.outlets j o g in
+    let x = h.schedulers j o g in
     let l : least_media m.media ≤ t = subst (λ (k : ℕ). least_media m.media ≤ k) (sym e) (rises m.media now) in
     record { own = x.own; all = x.all; next = let n = x.next in omega (arith, n, l) }
   where

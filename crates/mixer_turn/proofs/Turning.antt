@@ -54,7 +54,7 @@ all_turned s now t table j h = elim (Rattle.std.proofs.lemmas.Bool.cases_lt j s.
   | inr l ↦ still_there s now t table s.legs j l ∙ sym (no_turn s table.seats j now t (table.terminals j) (not_seated s table.seats j h l))
 ]
 
-pub slots_turned : (s : Setup) (now t : ℕ) (table : Table) (waiting : List Waiting) → AreHeld s table.seats → slots.StandsFor s waiting (turned_below s now t table s.legs) → slots.StandsFor s waiting (turned_to s now t table)
+pub slots_turned : (s : Setup) (now t : ℕ) (table : Table) (waiting : List Waiting) → AreHeld s table.seats → slots.SlotsStandFor s waiting (turned_below s now t table s.legs) → slots.SlotsStandFor s waiting (turned_to s now t table)
 slots_turned s now t table waiting h stands =
     stands_same s waiting (turned_below s now t table s.legs) (turned_to s now t table) stands
     (λ i. ap (λ (f : ℕ → List Taken). f i) (sym (taken_below s now t table s.legs)))
@@ -89,10 +89,10 @@ reach_past s table now t n waiting batch e r = record {
 pub reach_more : (s : Setup) (table : Table) (now t n : ℕ) (waiting after : List Waiting) (batch : List Post) (source : Option ℕ) (text : List ℕ) → Reaches s table now t n waiting batch
     → let v = turned_below s now t table n in
     let d = turn_at s v.seats n now t (v.terminals n) in
-    slots.StandsFor s after (with_terminal n d v) → Puts (s.aware n) t (new_entry (v.terminals n).past d.past) source text
+    slots.SlotsStandFor s after (with_terminal n d v) → Puts (s.aware n) t (new_entry (v.terminals n).past d.past) source text
     → Reaches s table now t (suc n) after (batch_with source n t text batch)
 reach_more s table now t n waiting after batch source text r stands puts = record {
-  waits = subst (λ (d : Terminal). slots.StandsFor s after (with_terminal n d (turned_below s now t table n))) is stands;
+  waits = subst (λ (d : Terminal). slots.SlotsStandFor s after (with_terminal n d (turned_below s now t table n))) is stands;
   posts = ap (batch_with source n t text) r.posts
       ∙ put_is s n t (new_entry (table.terminals n).past ((turned_to s now t table).terminals n).past) source text (posts_between s table (turned_to s now t table) n)
       (one_or_none (table.terminals n).past ((turned_to s now t table).terminals n).past)

@@ -2,9 +2,9 @@
 use Rattle.std.specs.Prelude.{◌≡◌, ℕ, true, Some, List, slice_get}
 use Rattle.seating.specs.States.{State}
 use Rattle.seating.specs.Places.{has_place}
-use Rattle.outlet.specs.declared.outlets.Outlet.{Outlet}
-use Rattle.outlet.specs.Outlets.{IsCalmBefore}
+use Rattle.outlet.specs.declared.schedulers.TerminalScheduler.{TerminalScheduler}
+use Rattle.outlet.specs.Schedulers.{IsCalmBefore}
 
 -- at each whose leg holds a place no turn before this media time changes anything
-abbrev pub AreCalmBefore : ℕ → State → List Outlet → Type 0
-AreCalmBefore calm seating all = (j : ℕ) (o : Outlet) → slice_get all j ≡ Some o → has_place seating j ≡ true → IsCalmBefore calm o
+abbrev pub AreCalmBefore : ℕ → State → List TerminalScheduler → Type 0
+AreCalmBefore calm seating all = (j : ℕ) (o : TerminalScheduler) → slice_get all j ≡ Some o → has_place seating j ≡ true → IsCalmBefore calm o

@@ -123,14 +123,14 @@ BatchesAreSent = (s : Setup) (calls : List Call) (j : ℕ) → j < s.legs
 -- where text is still to be repeated behind a packet of a source, the next comes at most `gap` later
 abbrev pub PacketsComeNear : Type 0
 PacketsComeNear = (s : Setup) (calls : List Call) (j x : ℕ) → IsSetup s → AreAllowed s calls → j < s.legs
-    → Tight (s.gens j) (gap s) (sent_from x ((after_calls s calls).terminals j))
+    → Tight (s.generations j) (gap s) (sent_from x ((after_calls s calls).terminals j))
 
 -- a leg with such text holds a place, and waits the less the nearer it is to its turn
 abbrev pub RepeatersWait : Type 0
 RepeatersWait = (s : Setup) (calls : List Call) (j i t m : ℕ) → IsSetup s → AreAllowed s calls
     → s.aware j ≡ true → j < s.legs → i < s.legs → (i ≡ j → ⊥)
     → let w = after_calls s calls in
-    w.media ≡ Some t → has_text_in (s.gens j) (sent_from (s.ssrc i) (w.terminals j)) ≡ true
+    w.media ≡ Some t → has_text_in (s.generations j) (sent_from (s.ssrc i) (w.terminals j)) ≡ true
     → last_media (sent_from (s.ssrc i) (w.terminals j)) ≡ Some m
     → IsWaiting s w j i t m
 
@@ -171,7 +171,7 @@ SentIsLawful = (s : Setup) (calls : List Call) (j : ℕ) → IsSetup s → AreAl
 
 -- of the mixer's own packets
 abbrev pub SentIsOwn : Type 0
-SentIsOwn = (s : Setup) (calls : List Call) (j : ℕ) → AreAllowed s calls → Own (s.gens j) (sent_to s j calls)
+SentIsOwn = (s : Setup) (calls : List Call) (j : ℕ) → AreAllowed s calls → Own (s.generations j) (sent_to s j calls)
 
 -- whatever of these packets comes, in whatever order, comes from that history
 abbrev pub SentMayCome : Type 0

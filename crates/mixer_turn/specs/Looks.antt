@@ -4,17 +4,17 @@ use Rattle.mixer_spec.specs.Setups.{Setup}
 use Rattle.mixer_spec.specs.Table.{Table, Terminal, has_work}
 use Rattle.slot_table.specs.Lanes.{Waiting}
 use Rattle.slot_table.specs.Standing as slots
-use Rattle.outlet.specs.declared.outlets.Outlet.{Outlet}
-use Rattle.outlet.specs.Outlets.{legs_of}
-use Rattle.mixer_turn.specs.Standing.{AreOutlets}
+use Rattle.outlet.specs.declared.schedulers.TerminalScheduler.{TerminalScheduler}
+use Rattle.outlet.specs.Schedulers.{legs_of}
+use Rattle.mixer_turn.specs.Standing.{AreSchedulers}
 
 -- each is of so many legs
-abbrev pub AreAll : ℕ → List Outlet → Type 0
-AreAll legs all = (j : ℕ) (o : Outlet) → slice_get all j ≡ Some o → legs_of o ≡ legs
+abbrev pub AreAll : ℕ → List TerminalScheduler → Type 0
+AreAll legs all = (j : ℕ) (o : TerminalScheduler) → slice_get all j ≡ Some o → legs_of o ≡ legs
 
 -- of each such table
-abbrev pub OfTables : List Outlet → List Waiting → (Setup → Table → Type 0) → Type 0
-OfTables all waiting P = (s : Setup) (table : Table) → AreOutlets s all table.terminals → slots.StandsFor s waiting table → P s table
+abbrev pub OfTables : List TerminalScheduler → List Waiting → (Setup → Table → Type 0) → Type 0
+OfTables all waiting P = (s : Setup) (table : Table) → AreSchedulers s all table.terminals → slots.SlotsStandFor s waiting table → P s table
 
 -- the terminal j is the leg's own, or nothing of the leg waits or is to be repeated there
 abbrev pub is_free_of : Setup → ℕ → ℕ → Terminal → Bool

@@ -5,26 +5,26 @@ use Rattle.mixer_spec.specs.Table.{Table, Terminal, Call, after_calls}
 use Rattle.mixer_spec.specs.Calls.{turns_made}
 use Rattle.slot_table.specs.Standing as slots
 use Rattle.seating.specs.Standing as seatings
-use Rattle.outlet.specs.declared.outlets.Outlet.{Outlet}
-use Rattle.outlet.specs.Outlets as outlets
+use Rattle.outlet.specs.declared.schedulers.TerminalScheduler.{TerminalScheduler}
+use Rattle.outlet.specs.Schedulers as schedulers
 use Rattle.mixer_turn.specs.Allowed.{AreAllowed}
 use Rattle.mixer_turn.specs.States.{State}
 use Rattle.rtt_base.specs.declared.limits.TheConstants.{LONGEST_STEP}
 
 -- each stands for the terminal of its leg
-abbrev pub AreOutlets : Setup → List Outlet → (ℕ → Terminal) → Type 0
-AreOutlets s all terminals = (j : ℕ) (o : Outlet) → slice_get all j ≡ Some o → outlets.StandsFor s j o (terminals j)
+abbrev pub AreSchedulers : Setup → List TerminalScheduler → (ℕ → Terminal) → Type 0
+AreSchedulers s all terminals = (j : ℕ) (o : TerminalScheduler) → slice_get all j ≡ Some o → schedulers.SchedulerStandsFor s j o (terminals j)
 
 -- The parts of the mixer stand for those of the table, and the names are those of the legs.
 pub record Keeps (s : Setup) (m : State) (table : Table) : Type 0 where
-  pub legs : length m.outlets ≡ s.legs
-  pub seats : seatings.StandsFor s m.seating table.seats
-  pub waits : slots.StandsFor s m.slots table
-  pub outlets : AreOutlets s m.outlets table.terminals
+  pub legs : length m.schedulers ≡ s.legs
+  pub seats : seatings.SeatingStandsFor s m.seating table.seats
+  pub waits : slots.SlotsStandFor s m.slots table
+  pub schedulers : AreSchedulers s m.schedulers table.terminals
   pub names : (i : ℕ) → i < s.legs → slice_index_or m.names i [] ≡ s.name i
 
 -- These calls were made of the mixer, each where it is allowed.
-pub record StandsFor (s : Setup) (m : State) (calls : List Call) : Type 0 where
+pub record MixerStandsFor (s : Setup) (m : State) (calls : List Call) : Type 0 where
   pub setup : IsSetup s
   pub near : gap s ≤ LONGEST_STEP
   pub step : s.step ≡ 200
@@ -34,9 +34,9 @@ pub record StandsFor (s : Setup) (m : State) (calls : List Call) : Type 0 where
   pub turns : m.turns ≡ turns_made calls
 
 -- whatever calls it stands for
-abbrev pub Tells : State → (Setup → Table → Type 0) → Type 0
-Tells m P = (s : Setup) (calls : List Call) → StandsFor s m calls → P s (after_calls s calls)
+abbrev pub MixerTells : State → (Setup → Table → Type 0) → Type 0
+MixerTells m P = (s : Setup) (calls : List Call) → MixerStandsFor s m calls → P s (after_calls s calls)
 
 -- from all calls for which it stood to these and one call more, where that is allowed
-abbrev pub Leads : State → State → Call → Type 0
-Leads old new call = (s : Setup) (calls : List Call) → StandsFor s old calls → AreAllowed s (call ∷ calls) → StandsFor s new (call ∷ calls)
+abbrev pub LeadsByCall : State → State → Call → Type 0
+LeadsByCall old new call = (s : Setup) (calls : List Call) → MixerStandsFor s old calls → AreAllowed s (call ∷ calls) → MixerStandsFor s new (call ∷ calls)

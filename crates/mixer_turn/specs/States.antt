@@ -2,25 +2,25 @@
 use Rattle.std.specs.Prelude.{ℕ, ◌+◌, Option, None, Some, List, length, map}
 use Rattle.slot_table.specs.Lanes.{Waiting}
 use Rattle.seating.specs.States as seatings
-use Rattle.outlet.specs.declared.outlets.Outlet.{Outlet}
-use Rattle.outlet.specs.Outlets as outlets
+use Rattle.outlet.specs.declared.schedulers.TerminalScheduler.{TerminalScheduler}
+use Rattle.outlet.specs.Schedulers as schedulers
 
 -- who holds which place, what waits, the outlet and the name of each leg, the media time of the last turn, and how many
 -- turns were made
 pub record State : Type 0 where
   pub seating : seatings.State
   pub slots : List Waiting
-  pub outlets : List Outlet
+  pub schedulers : List TerminalScheduler
   pub names : List (List ℕ)
   pub media : Option ℕ
   pub turns : ℕ
 
 abbrev pub legs_of : State → ℕ
-legs_of m = length m.outlets
+legs_of m = length m.schedulers
 
 -- how many sources the terminal of each leg is sent
 abbrev pub sources_of : State → List ℕ
-sources_of m = map outlets.sources_of m.outlets
+sources_of m = map schedulers.sources_of m.schedulers
 
 -- the least media time of the turn after one at this media time
 abbrev pub least_media : Option ℕ → ℕ

@@ -7,24 +7,24 @@ use Rattle.slot_table.specs.Lanes.{Waiting}
 use Rattle.slot_table.specs.Standing as slots
 use Rattle.seating.specs.States as seating
 use Rattle.seating.specs.Standing as seatings
-use Rattle.outlet.specs.declared.outlets.Outlet.{Outlet}
+use Rattle.outlet.specs.declared.schedulers.TerminalScheduler.{TerminalScheduler}
 use Rattle.outlet.specs.Turns.{SendsNext, new_entry, number_of, with_terminal}
-use Rattle.outlet.specs.Outlets as outlets
-use Rattle.outlet.specs.Outlets.{own_of, legs_of, next_turn, IsTurned}
+use Rattle.outlet.specs.Schedulers as schedulers
+use Rattle.outlet.specs.Schedulers.{own_of, legs_of, next_turn, IsTurned}
 use Rattle.mixer_turn.specs.declared.batches.Post.{Post}
 use Rattle.mixer_turn.specs.States.{State}
 use Rattle.mixer_turn.specs.Standing as mixers
-use Rattle.mixer_turn.specs.Standing.{AreOutlets}
+use Rattle.mixer_turn.specs.Standing.{AreSchedulers}
 
 -- ---- outlets
 -- the outlet of the leg j, of so many legs, whose next turn may have this media time
-pub record IsOutletOf (legs media j : ℕ) (o : Outlet) : Type 0 where
+pub record IsSchedulerOf (legs media j : ℕ) (o : TerminalScheduler) : Type 0 where
   pub own : own_of o ≡ j
   pub all : legs_of o ≡ legs
   pub next : next_turn o ≤ media
 
-abbrev pub AreOutletsOf : ℕ → ℕ → List Outlet → Type 0
-AreOutletsOf legs media all = (j : ℕ) (o : Outlet) → slice_get all j ≡ Some o → IsOutletOf legs media j o
+abbrev pub AreSchedulersOf : ℕ → ℕ → List TerminalScheduler → Type 0
+AreSchedulersOf legs media all = (j : ℕ) (o : TerminalScheduler) → slice_get all j ≡ Some o → IsSchedulerOf legs media j o
 
 -- ---- what a turn rests on
 -- each place that is held is one of the mixer's, and one of its legs holds it
@@ -68,7 +68,7 @@ batch_with (Some source) n t text batch = batch ++ record { terminal = n; source
 
 -- ---- one terminal
 -- A turn of the terminal j is over, and what it sends is put into the batch as the leg's.
-pub record IsPut (s : Setup) (j leg : ℕ) (table : Table) (now t : ℕ) (o : Outlet) (after : List Waiting) (old new : List Post) : Type 0 where
+pub record IsPut (s : Setup) (j leg : ℕ) (table : Table) (now t : ℕ) (o : TerminalScheduler) (after : List Waiting) (old new : List Post) : Type 0 where
   pub source : Option ℕ
   pub text : List ℕ
   pub turned : IsTurned s j table now t o after source text
@@ -76,45 +76,45 @@ pub record IsPut (s : Setup) (j leg : ℕ) (table : Table) (now t : ℕ) (o : Ou
 
 -- the first n terminals had their turn: the slots stand for the table then, and the batch has what was sent
 pub record Reaches (s : Setup) (table : Table) (now t n : ℕ) (waiting : List Waiting) (batch : List Post) : Type 0 where
-  pub waits : slots.StandsFor s waiting (turned_below s now t table n)
+  pub waits : slots.SlotsStandFor s waiting (turned_below s now t table n)
   pub posts : batch ≡ posts_between s table (turned_to s now t table) n
 
 abbrev pub AreNames : Setup → List (List ℕ) → Type 0
 AreNames s called = (i : ℕ) → i < s.legs → slice_index_or called i [] ≡ s.name i
 
 -- the terminal of the leg may have its turn: its outlet, these seats and these names stand for those of the table
-pub record LegMayTurn (s : Setup) (table : Table) (now t leg : ℕ) (o : Outlet) (places : seating.State) (called : List (List ℕ)) : Type 0 where
+pub record LegMayTurn (s : Setup) (table : Table) (now t leg : ℕ) (o : TerminalScheduler) (places : seating.State) (called : List (List ℕ)) : Type 0 where
   pub all : MayTurnAll s table now t
-  pub stands : outlets.StandsFor s leg o (table.terminals leg)
-  pub seats : seatings.StandsFor s places table.seats
+  pub stands : schedulers.SchedulerStandsFor s leg o (table.terminals leg)
+  pub seats : seatings.SeatingStandsFor s places table.seats
   pub names : AreNames s called
 
 -- it had its turn
-pub record LegTurned (s : Setup) (table : Table) (now t leg : ℕ) (o : Outlet) (waiting : List Waiting) (batch : List Post) : Type 0 where
-  pub stands : outlets.StandsFor s leg o (turn_at s table.seats leg now t (table.terminals leg))
+pub record LegTurned (s : Setup) (table : Table) (now t leg : ℕ) (o : TerminalScheduler) (waiting : List Waiting) (batch : List Post) : Type 0 where
+  pub stands : schedulers.SchedulerStandsFor s leg o (turn_at s table.seats leg now t (table.terminals leg))
   pub reaches : Reaches s table now t (suc leg) waiting batch
 
 -- ---- all terminals
 -- the parts of a mixer stand for those of the table, and all terminals may have a turn
-pub record AllMayTurn (s : Setup) (table : Table) (now t : ℕ) (all : List Outlet) (places : seating.State) (waiting : List Waiting) (called : List (List ℕ)) : Type 0 where
+pub record AllMayTurn (s : Setup) (table : Table) (now t : ℕ) (all : List TerminalScheduler) (places : seating.State) (waiting : List Waiting) (called : List (List ℕ)) : Type 0 where
   pub may : MayTurnAll s table now t
   pub legs : length all ≡ s.legs
-  pub outlets : AreOutlets s all table.terminals
-  pub seats : seatings.StandsFor s places table.seats
-  pub waits : slots.StandsFor s waiting table
+  pub schedulers : AreSchedulers s all table.terminals
+  pub seats : seatings.SeatingStandsFor s places table.seats
+  pub waits : slots.SlotsStandFor s waiting table
   pub names : AreNames s called
 
 -- they had it, and this is sent
-pub record AllTurned (s : Setup) (table : Table) (now t : ℕ) (all : List Outlet) (waiting : List Waiting) (batch : List Post) : Type 0 where
-  pub outlets : AreOutlets s all (turned_to s now t table).terminals
-  pub waits : slots.StandsFor s waiting (turned_to s now t table)
+pub record AllTurned (s : Setup) (table : Table) (now t : ℕ) (all : List TerminalScheduler) (waiting : List Waiting) (batch : List Post) : Type 0 where
+  pub schedulers : AreSchedulers s all (turned_to s now t table).terminals
+  pub waits : slots.SlotsStandFor s waiting (turned_to s now t table)
   pub posts : batch ≡ posts_between s table (turned_to s now t table) s.legs
 
 -- of all mixers that have these parts
-abbrev pub OfMixers : List Outlet → seating.State → List Waiting → List (List ℕ) → ℕ → (Setup → Table → ℕ → Type 0) → Type 0
+abbrev pub OfMixers : List TerminalScheduler → seating.State → List Waiting → List (List ℕ) → ℕ → (Setup → Table → ℕ → Type 0) → Type 0
 OfMixers all places waiting called t P =
     (s : Setup) (table : Table) (now : ℕ) → AllMayTurn s table now t all places waiting called → P s table now
 
 -- of all calls for which the mixer stands
 abbrev pub OfCalls : State → (Setup → Table → Type 0) → Type 0
-OfCalls m P = (s : Setup) (calls : List Call) → mixers.StandsFor s m calls → P s (after_calls s calls)
+OfCalls m P = (s : Setup) (calls : List Call) → mixers.MixerStandsFor s m calls → P s (after_calls s calls)

@@ -1,10 +1,10 @@
 -- What outlets stand for where text may have come to their terminals.
 use Rattle.std.specs.Prelude.{◌≡◌, ℕ, ◌<◌, ◌≤◌, Some, List, length, slice_get}
-use Rattle.outlet.specs.declared.outlets.Outlet.{Outlet}
-use Rattle.outlet.specs.Outlets.{StandsWoken, own_of, legs_of, next_turn, sources_of}
+use Rattle.outlet.specs.declared.schedulers.TerminalScheduler.{TerminalScheduler}
+use Rattle.outlet.specs.Schedulers.{StandsWoken, own_of, legs_of, next_turn, sources_of}
 
 -- it stands for the same terminal, whatever waits there
-pub record IsWoken (old new : Outlet) : Type 0 where
+pub record IsWoken (old new : TerminalScheduler) : Type 0 where
   pub stands : StandsWoken old new
   pub own : own_of new ≡ own_of old
   pub legs : legs_of new ≡ legs_of old
@@ -12,10 +12,10 @@ pub record IsWoken (old new : Outlet) : Type 0 where
   pub next : next_turn new ≡ next_turn old
 
 -- each of the first n, and the others are as they were
-pub record AreWokenBelow (n : ℕ) (old new : List Outlet) : Type 0 where
+pub record AreWokenBelow (n : ℕ) (old new : List TerminalScheduler) : Type 0 where
   pub count : length new ≡ length old
-  pub first : (j : ℕ) (o : Outlet) → j < n → slice_get new j ≡ Some o → (p : Outlet) × (slice_get old j ≡ Some p) × IsWoken p o
-  pub rest : (j : ℕ) (o : Outlet) → n ≤ j → slice_get new j ≡ Some o → slice_get old j ≡ Some o
+  pub first : (j : ℕ) (o : TerminalScheduler) → j < n → slice_get new j ≡ Some o → (p : TerminalScheduler) × (slice_get old j ≡ Some p) × IsWoken p o
+  pub rest : (j : ℕ) (o : TerminalScheduler) → n ≤ j → slice_get new j ≡ Some o → slice_get old j ≡ Some o
 
-abbrev pub AreWoken : List Outlet → List Outlet → Type 0
+abbrev pub AreWoken : List TerminalScheduler → List TerminalScheduler → Type 0
 AreWoken old new = AreWokenBelow (length old) old new

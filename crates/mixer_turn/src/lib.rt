@@ -5,10 +5,10 @@ mod batches;
 mod calm;
 mod laws;
 mod looks;
-mod making;
+mod builders;
 mod mixers;
 mod turns;
-mod waking;
+mod wakes;
 
 pub use batches::{Batch, Post};
 pub use laws::{

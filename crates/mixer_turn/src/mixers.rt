@@ -3,7 +3,7 @@ ghost use Rattle.std.specs.Prelude.{◌≡◌, ◌+◌, ◌^◌, ◌<◌, ◌↔
 ghost use Rattle.stream_spec.specs.Ready.{chunk_of};
 ghost use Rattle.mixer_spec.specs.Setups.{setup};
 ghost use Rattle.mixer_spec.specs.Table.{Admit, Hush, Leave, Offer, Turn, free_place, has_room, is_idle, may_leave};
-ghost use Rattle.conference.specs.Conferences.{conf_of};
+ghost use Rattle.conference.specs.Conferences.{meaning_of};
 ghost use Rattle.mixer_turn.specs.Making.{source_counts};
 ghost use Rattle.mixer_turn.specs.States.{State};
 ghost use Rattle.mixer_turn.specs.Insides.{state_of, IsMixer};
@@ -11,13 +11,13 @@ ghost use Rattle.mixer_turn.specs.Insides.{state_of, IsMixer};
 use crate::batches::Batch;
 use crate::calm::turn_from;
 use crate::looks::{are_quiet, is_done};
-use crate::making::{names_of, outlets_of, silent_slots};
+use crate::builders::{names_of, schedulers_of, silent_slots};
 use crate::turns::next_media;
-use crate::waking::wake;
-use conference::Conf;
-use outlet::Outlet;
+use crate::wakes::wake;
+use conference::Conference;
+use outlet::TerminalScheduler;
 use rtt_base::{Chunk, Full, Name, NoMemory};
-use seating::Seating;
+use seating::SeatingPlan;
 use slot_table::Slots;
 use std::alloc::Global;
 use std::marker::Model;
@@ -25,10 +25,10 @@ use std::marker::Model;
 /// The mixer of a conference: it takes text of each leg, and sends it to the terminals of the others, turn by turn.
 #[derive(Drop)]
 pub struct Mixer {
-    seating: Seating,
+    seating: SeatingPlan,
     slots: Slots,
     /// The outlet of each leg's terminal.
-    outlets: Vec<Outlet>,
+    schedulers: Vec<TerminalScheduler>,
     /// The name of each leg.
     names: Vec<Name>,
     /// The media time of the last turn, in milliseconds.
@@ -49,26 +49,26 @@ impl Model for Mixer {
 
 impl Mixer {
     ghost use Rattle.mixer_turn.specs.States.{legs_of, sources_of};
-    ghost use Rattle.mixer_turn.specs.Standing.{StandsFor, Tells, Leads};
+    ghost use Rattle.mixer_turn.specs.Standing.{MixerStandsFor, MixerTells, LeadsByCall};
     ghost use Rattle.mixer_turn.specs.Turns.{HasBatch, OfCalls};
     ghost use Rattle.mixer_turn.specs.Posts.{ArePosts};
 
     /// The mixer of this conference, of which no leg came. It takes all memory that it ever needs.
-    pub fn new(alloc: Global, conf: &Conf) -> Result<Mixer, NoMemory>
-        ensures legs { IfOk result (λ mixer. legs_of mixer ≡ length conf.now.legs) }
+    pub fn new(alloc: Global, conference: &Conference) -> Result<Mixer, NoMemory>
+        ensures legs { IfOk result (λ mixer. legs_of mixer ≡ length conference.now.legs) }
         ensures turns { IfOk result (λ mixer. mixer.turns ≡ 0) }
-        ensures sources { IfOk result (λ mixer. sources_of mixer ≡ source_counts (conf_of conf.now)) }
-        ensures stands { IfOk result (λ mixer. StandsFor (setup (conf_of conf.now)) mixer []) }
+        ensures sources { IfOk result (λ mixer. sources_of mixer ≡ source_counts (meaning_of conference.now)) }
+        ensures stands { IfOk result (λ mixer. MixerStandsFor (setup (meaning_of conference.now)) mixer []) }
     {
-        let legs = conf.legs.as_slice();
+        let legs = conference.legs.as_slice();
         let names = names_of(alloc, legs)?;
-        let seating = Seating::new(alloc, legs.len())?;
+        let seating = SeatingPlan::new(alloc, legs.len())?;
         let slots = silent_slots(alloc, legs.len())?;
-        let outlets = outlets_of(alloc, conf)?;
+        let schedulers = schedulers_of(alloc, conference)?;
         Ok(Mixer {
             seating,
             slots,
-            outlets,
+            schedulers,
             names,
             media: None,
             turns: 0,
@@ -80,7 +80,7 @@ impl Mixer {
     pub fn legs(&self) -> usize
         ensures { result ≡ legs_of self.now }
     {
-        self.outlets.len()
+        self.schedulers.len()
     }
 
     /// How many turns were made.
@@ -97,8 +97,8 @@ impl Mixer {
         ensures legs { legs_of self.new ≡ legs_of self.old }
         ensures sources { sources_of self.new ≡ sources_of self.old }
         ensures turns { self.new.turns ≡ self.old.turns }
-        ensures free { Tells self.old (λ s table. result ≡ is_some (free_place s table.seats)) }
-        ensures stands { Leads self.old self.new (Admit leg listens) }
+        ensures free { MixerTells self.old (λ s table. result ≡ is_some (free_place s table.seats)) }
+        ensures stands { LeadsByCall self.old self.new (Admit leg listens) }
     {
         self.calm = 0;
         if !self.seating.admit(leg, listens) {
@@ -114,7 +114,7 @@ impl Mixer {
         ensures legs { legs_of self.new ≡ legs_of self.old }
         ensures sources { sources_of self.new ≡ sources_of self.old }
         ensures turns { self.new.turns ≡ self.old.turns }
-        ensures stands { Leads self.old self.new (Hush leg) }
+        ensures stands { LeadsByCall self.old self.new (Hush leg) }
     {
         self.calm = 0;
         self.seating.hush(leg);
@@ -128,8 +128,8 @@ impl Mixer {
         ensures legs { legs_of self.new ≡ legs_of self.old }
         ensures sources { sources_of self.new ≡ sources_of self.old }
         ensures turns { self.new.turns ≡ self.old.turns }
-        ensures may { Tells self.old (λ s table. result ≡ may_leave s leg table) }
-        ensures stands { Leads self.old self.new (Leave leg) }
+        ensures may { MixerTells self.old (λ s table. result ≡ may_leave s leg table) }
+        ensures stands { LeadsByCall self.old self.new (Leave leg) }
     {
         if !self.may_leave(leg) {
             return false;
@@ -141,9 +141,9 @@ impl Mixer {
 
     fn may_leave(&self, leg: usize) -> bool
         requires { leg < legs_of self.now }
-        ensures { Tells self.now (λ s table. result ≡ may_leave s leg table) }
+        ensures { MixerTells self.now (λ s table. result ≡ may_leave s leg table) }
     {
-        !self.seating.listens(leg) && is_done(leg, &self.outlets, &self.slots)
+        !self.seating.is_listening(leg) && is_done(leg, &self.schedulers, &self.slots)
     }
 
     /// Takes a chunk of text of its leg for all other legs that listen. `Full`: the leg holds no place, or more than 16384
@@ -154,9 +154,9 @@ impl Mixer {
         ensures legs { legs_of self.new ≡ legs_of self.old }
         ensures sources { sources_of self.new ≡ sources_of self.old }
         ensures turns { self.new.turns ≡ self.old.turns }
-        ensures room { Tells self.old (λ s table. IsOk result
+        ensures room { MixerTells self.old (λ s table. IsOk result
             ↔ (has_room s chunk.now.source (chunk_of chunk.now) table ≡ true)) }
-        ensures stands { Leads self.old self.new (Offer (chunk_of chunk.now)) }
+        ensures stands { LeadsByCall self.old self.new (Offer (chunk_of chunk.now)) }
     {
         if !self.seating.is_seated(chunk.source as usize) {
             return Err(Full);
@@ -165,15 +165,15 @@ impl Mixer {
             return Err(Full);
         };
         self.calm = 0;
-        wake(&mut self.outlets);
+        wake(&mut self.schedulers);
         Ok(())
     }
 
     /// Whether nothing waits, and no text is still to be repeated.
     pub fn idle(&self) -> bool
-        ensures { Tells self.now (λ s table. result ≡ is_idle s table) }
+        ensures { MixerTells self.now (λ s table. result ≡ is_idle s table) }
     {
-        are_quiet(&self.outlets, &self.slots)
+        are_quiet(&self.schedulers, &self.slots)
     }
 
     /// A turn at this moment, in milliseconds: each terminal whose leg holds a place is sent at most one text, new or to be
@@ -186,12 +186,12 @@ impl Mixer {
         ensures turns { self.new.turns ≡ self.old.turns + 1 }
         ensures batch { OfCalls self.old (λ s table. HasBatch s now table batch.new) }
         ensures posts { ArePosts (sources_of self.old) batch.new }
-        ensures stands { Leads self.old self.new (Turn now) }
+        ensures stands { LeadsByCall self.old self.new (Turn now) }
     {
         let media = next_media(self.media, now);
         let calm = turn_from(
             self.calm,
-            &mut self.outlets,
+            &mut self.schedulers,
             media,
             &self.names,
             &self.seating,

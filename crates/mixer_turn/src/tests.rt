@@ -48,8 +48,8 @@ fn takes(rt: &impl Abort, mixer: &mut Mixer, source: u8, octet: u8, octets: usiz
 
 /// How many of so many such texts of the first of two legs are taken.
 fn count_taken(rt: &impl Abort, alloc: Global, octets: usize, offers: u32) -> Result<u32, Fail> {
-    let conf = read_conf(alloc, TWO, Form::Files)?;
-    let mut mixer = Mixer::new(alloc, &conf)?;
+    let conference = read_conf(alloc, TWO, Form::Files)?;
+    let mut mixer = Mixer::new(alloc, &conference)?;
     come(rt, &mut mixer, 2);
     let mut count = 0;
     for _ in 0..offers {
@@ -85,8 +85,8 @@ fn type_all(rt: &impl Abort, mixer: &mut Mixer, octet: u8) {
 
 #[test]
 fn three_that_type_are_sent_in_turn(rt: HostRuntime) -> Result<(), Fail> {
-    let conf = read_conf(rt.alloc(), FOUR, Form::Files)?;
-    let mut mixer = Mixer::new(rt.alloc(), &conf)?;
+    let conference = read_conf(rt.alloc(), FOUR, Form::Files)?;
+    let mut mixer = Mixer::new(rt.alloc(), &conference)?;
     let mut batch = Batch::new(rt.alloc())?;
     come(&rt, &mut mixer, 4);
     for round in 0..18u32 {
@@ -116,8 +116,8 @@ fn texts_of_one_octet_are_taken_to_512(rt: HostRuntime) -> Result<(), Fail> {
 
 #[test]
 fn a_place_that_was_left_is_given_again(rt: HostRuntime) -> Result<(), Fail> {
-    let conf = read_conf(rt.alloc(), SEVENTEEN, Form::Files)?;
-    let mut mixer = Mixer::new(rt.alloc(), &conf)?;
+    let conference = read_conf(rt.alloc(), SEVENTEEN, Form::Files)?;
+    let mut mixer = Mixer::new(rt.alloc(), &conference)?;
     come(&rt, &mut mixer, 16);
     assert!(rt; mixer.legs() == 17);
     assert!(rt; !mixer.admit(16, true));

@@ -4,16 +4,16 @@ ghost use Rattle.mixer_spec.specs.Rounds.{count_below};
 ghost use Rattle.mixer_spec.specs.Setups.{Setup};
 ghost use Rattle.mixer_spec.specs.Table.{Table, next_media};
 ghost use Rattle.seating.specs.Places.{has_place};
-ghost use Rattle.outlet.specs.Outlets.{IsTurned, OfTurns, SameLeg, legs_of, next_turn, sources_of};
+ghost use Rattle.outlet.specs.Schedulers.{IsTurned, OfTurns, SameLeg, legs_of, next_turn, sources_of};
 ghost use Rattle.mixer_turn.specs.Posts.{ArePosts, KeepsPosts};
-ghost use Rattle.mixer_turn.specs.Turns.{AreOutletsOf, IsPut, LegMayTurn, LegTurned, OfMixers, Reaches, AllTurned};
+ghost use Rattle.mixer_turn.specs.Turns.{AreSchedulersOf, IsPut, LegMayTurn, LegTurned, OfMixers, Reaches, AllTurned};
 ghost use Rattle.rtt_base.specs.declared.limits.TheConstants.{END_OF_MOMENTS};
 
 use crate::batches::{Batch, Post};
 use mixer_spec::limits::PLACES;
-use outlet::Outlet;
+use outlet::TerminalScheduler;
 use rtt_base::Name;
-use seating::Seating;
+use seating::SeatingPlan;
 use slot_table::Slots;
 
 /// The most that media time rises by in a turn, in milliseconds (profile).
@@ -25,28 +25,28 @@ fn turn_into(
     post: &mut Post,
     leg: usize,
     media: u64,
-    outlet: &mut Outlet,
+    scheduler: &mut TerminalScheduler,
     names: &[Name],
-    seating: &Seating,
+    seating: &SeatingPlan,
     slots: &mut Slots,
 ) -> Option<usize>
-    requires slots { length slots.old ≡ legs_of outlet.old }
-    requires names { length names.now ≡ legs_of outlet.old }
-    requires seating { length seating.now.legs ≡ legs_of outlet.old }
-    requires rises { next_turn outlet.old ≤ media }
+    requires slots { length slots.old ≡ legs_of scheduler.old }
+    requires names { length names.now ≡ legs_of scheduler.old }
+    requires seating { length seating.now.legs ≡ legs_of scheduler.old }
+    requires rises { next_turn scheduler.old ≤ media }
     requires media { media < END_OF_MOMENTS }
     ensures terminal { post.new.terminal ≡ leg }
     ensures media { post.new.media ≡ media }
-    ensures turned { OfTurns outlet.old seating.now slots.old names.now media (λ s j table now.
-        IsTurned s j table now media outlet.new slots.new result post.new.text) }
-    ensures within { IfSome result (λ source. source < sources_of outlet.old) }
+    ensures turned { OfTurns scheduler.old seating.now slots.old names.now media (λ s j table now.
+        IsTurned s j table now media scheduler.new slots.new result post.new.text) }
+    ensures within { IfSome result (λ source. source < sources_of scheduler.old) }
     ensures slots { length slots.new ≡ length slots.old }
-    ensures same { SameLeg outlet.old outlet.new }
-    ensures next { next_turn outlet.new ≤ media + 1 }
+    ensures same { SameLeg scheduler.old scheduler.new }
+    ensures next { next_turn scheduler.new ≤ media + 1 }
 {
     post.terminal = leg;
     post.media = media;
-    outlet.turn(media, names, seating, slots, &mut post.text)
+    scheduler.turn(media, names, seating, slots, &mut post.text)
 }
 
 impl Batch {
@@ -55,31 +55,31 @@ impl Batch {
         &mut self,
         leg: usize,
         media: u64,
-        outlet: &mut Outlet,
+        scheduler: &mut TerminalScheduler,
         names: &[Name],
-        seating: &Seating,
+        seating: &SeatingPlan,
         slots: &mut Slots,
     )
         requires room { length self.old < PLACES }
-        requires slots { length slots.old ≡ legs_of outlet.old }
-        requires names { length names.now ≡ legs_of outlet.old }
-        requires seating { length seating.now.legs ≡ legs_of outlet.old }
-        requires rises { next_turn outlet.old ≤ media }
+        requires slots { length slots.old ≡ legs_of scheduler.old }
+        requires names { length names.now ≡ legs_of scheduler.old }
+        requires seating { length seating.now.legs ≡ legs_of scheduler.old }
+        requires rises { next_turn scheduler.old ≤ media }
         requires media { media < END_OF_MOMENTS }
-        ensures put { OfTurns outlet.old seating.now slots.old names.now media (λ s j table now.
-            IsPut s j leg table now media outlet.new slots.new self.old self.new) }
-        ensures posts { KeepsPosts leg (sources_of outlet.old) self.old self.new }
+        ensures put { OfTurns scheduler.old seating.now slots.old names.now media (λ s j table now.
+            IsPut s j leg table now media scheduler.new slots.new self.old self.new) }
+        ensures posts { KeepsPosts leg (sources_of scheduler.old) self.old self.new }
         ensures few { length self.new ≤ length self.old + 1 }
         ensures slots { length slots.new ≡ length slots.old }
-        ensures same { SameLeg outlet.old outlet.new }
-        ensures next { next_turn outlet.new ≤ media + 1 }
+        ensures same { SameLeg scheduler.old scheduler.new }
+        ensures next { next_turn scheduler.new ≤ media + 1 }
     {
         let len = self.len;
         let sent = turn_into(
             &mut self.places[len],
             leg,
             media,
-            outlet,
+            scheduler,
             names,
             seating,
             slots,
@@ -95,30 +95,30 @@ impl Batch {
         &mut self,
         leg: usize,
         media: u64,
-        outlet: &mut Outlet,
+        scheduler: &mut TerminalScheduler,
         names: &[Name],
-        seating: &Seating,
+        seating: &SeatingPlan,
         slots: &mut Slots,
     )
         requires leg { leg < length seating.now.legs }
         requires room { length self.old ≤ count_below (has_place seating.now) leg }
-        requires slots { length slots.old ≡ legs_of outlet.old }
-        requires names { length names.now ≡ legs_of outlet.old }
-        requires seating { length seating.now.legs ≡ legs_of outlet.old }
-        requires rises { next_turn outlet.old ≤ media }
+        requires slots { length slots.old ≡ legs_of scheduler.old }
+        requires names { length names.now ≡ legs_of scheduler.old }
+        requires seating { length seating.now.legs ≡ legs_of scheduler.old }
+        requires rises { next_turn scheduler.old ≤ media }
         requires media { media < END_OF_MOMENTS }
         ensures turned { (s : Setup) (table : Table) (now : ℕ)
-            → LegMayTurn s table now media leg outlet.old seating.now names.now
+            → LegMayTurn s table now media leg scheduler.old seating.now names.now
             → Reaches s table now media leg slots.old self.old
-            → LegTurned s table now media leg outlet.new slots.new self.new }
-        ensures posts { KeepsPosts leg (sources_of outlet.old) self.old self.new }
+            → LegTurned s table now media leg scheduler.new slots.new self.new }
+        ensures posts { KeepsPosts leg (sources_of scheduler.old) self.old self.new }
         ensures few { length self.new ≤ count_below (has_place seating.now) (leg + 1) }
         ensures slots { length slots.new ≡ length slots.old }
-        ensures same { SameLeg outlet.old outlet.new }
-        ensures next { next_turn outlet.new ≤ media + 1 }
+        ensures same { SameLeg scheduler.old scheduler.new }
+        ensures next { next_turn scheduler.new ≤ media + 1 }
     {
         if seating.is_seated(leg) {
-            self.turn_seated(leg, media, outlet, names, seating, slots);
+            self.turn_seated(leg, media, scheduler, names, seating, slots);
         }
     }
 }
@@ -126,29 +126,29 @@ impl Batch {
 /// A turn of all terminals at this media time, in milliseconds, in leg order. What is sent is put into the batch, which is
 /// cleared first.
 pub(crate) fn turn_legs(
-    outlets: &mut [Outlet],
+    schedulers: &mut [TerminalScheduler],
     media: u64,
     names: &[Name],
-    seating: &Seating,
+    seating: &SeatingPlan,
     slots: &mut Slots,
     batch: &mut Batch,
 )
-    requires outlets { AreOutletsOf (length outlets.old) media outlets.old }
-    requires slots { length slots.old ≡ length outlets.old }
-    requires names { length names.now ≡ length outlets.old }
-    requires seating { length seating.now.legs ≡ length outlets.old }
+    requires schedulers { AreSchedulersOf (length schedulers.old) media schedulers.old }
+    requires slots { length slots.old ≡ length schedulers.old }
+    requires names { length names.now ≡ length schedulers.old }
+    requires seating { length seating.now.legs ≡ length schedulers.old }
     requires media { media < END_OF_MOMENTS }
-    ensures turned { OfMixers outlets.old seating.now slots.old names.now media (λ s table now.
-        AllTurned s table now media outlets.new slots.new batch.new) }
-    ensures posts { ArePosts (map sources_of outlets.old) batch.new }
-    ensures sources { map sources_of outlets.new ≡ map sources_of outlets.old }
-    ensures outlets { AreOutletsOf (length outlets.old) (media + 1) outlets.new }
-    ensures legs { length outlets.new ≡ length outlets.old }
+    ensures turned { OfMixers schedulers.old seating.now slots.old names.now media (λ s table now.
+        AllTurned s table now media schedulers.new slots.new batch.new) }
+    ensures posts { ArePosts (map sources_of schedulers.old) batch.new }
+    ensures sources { map sources_of schedulers.new ≡ map sources_of schedulers.old }
+    ensures schedulers { AreSchedulersOf (length schedulers.old) (media + 1) schedulers.new }
+    ensures legs { length schedulers.new ≡ length schedulers.old }
     ensures slots { length slots.new ≡ length slots.old }
 {
     batch.clear();
-    for leg in 0..outlets.len() {
-        batch.turn_leg(leg, media, &mut outlets[leg], names, seating, slots);
+    for leg in 0..schedulers.len() {
+        batch.turn_leg(leg, media, &mut schedulers[leg], names, seating, slots);
     }
 }
 

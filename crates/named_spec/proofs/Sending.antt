@@ -73,7 +73,7 @@ texts_of_entries before (e ∷ es) = ap (λ zs. e.text ∷ zs) (texts_of_entries
 
 texts_of_packets : (base m : ℕ) (ps : List Packet) → map (λ (e : Entry). e.text) (entries_of base m ps) ≡ map (λ (p : Packet). p.primary) ps
 texts_of_packets base m [] = refl
-texts_of_packets base m (p ∷ ps) = ap (λ zs. p.primary ∷ zs) (texts_of_packets base (media_of base m p.stamp) ps)
+texts_of_packets base m (p ∷ ps) = ap (λ zs. p.primary ∷ zs) (texts_of_packets base (media_of base m p.timestamp) ps)
 
 primaries : (c : Stream) (past : List TurnEntry) → map (λ (p : Packet). p.primary) (map (λ (a : Arrival). a.packet) (packets c past)) ≡ back (texts_sent past)
 primaries c [] = refl
@@ -321,7 +321,7 @@ entry_source before (e ∷ es) x (inr i) = let r = entry_source (e ∷ before) e
 packet_source : (base m : ℕ) (ps : List Packet) (e : Entry) → In e (entries_of base m ps) → (p : Packet) × In p ps × (e.source ≡ p.source)
 packet_source base m [] e i = absurd i
 packet_source base m (p ∷ ps) e (inl q) = (p, inl refl, ap (λ (z : Entry). z.source) q)
-packet_source base m (p ∷ ps) e (inr i) = let r = packet_source base (media_of base m p.stamp) ps e i in (r.0, inr r.1, r.2)
+packet_source base m (p ∷ ps) e (inr i) = let r = packet_source base (media_of base m p.timestamp) ps e i in (r.0, inr r.1, r.2)
 
 turn_source : (c : Stream) (m : ℕ) (past : List TurnEntry) → ((e : TurnEntry) → In e past → e.sent.source ≡ m) → (p : Packet) → In p (map (λ (a : Arrival). a.packet) (packets c past)) → p.source ≡ m
 turn_source c m [] own p i = absurd i

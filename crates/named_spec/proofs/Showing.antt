@@ -11,7 +11,7 @@ use Rattle.text_spec.proofs.Signs.{signs-append}
 use Rattle.stream_spec.specs.Lists.{In}
 use Rattle.stream_spec.specs.History.{Come, Placed, placed}
 use Rattle.stream_spec.specs.Hearing.{marker}
-use Rattle.stream_spec.specs.Kept.{Item, Mark, texts}
+use Rattle.stream_spec.specs.Kept.{Item, Marker, texts}
 use Rattle.stream_spec.specs.Ready.{Chunk}
 use Rattle.mixer_spec.specs.Setups.{Setup}
 use Rattle.mixer_spec.specs.Composed.{Asked}
@@ -28,7 +28,7 @@ use Rattle.named_spec.proofs.Blocks.{Before, Cut, Walk, cut_words, walk_closed, 
 use Rattle.named_spec.proofs.Screens.{RunIs, run_is}
 use Rattle.named_spec.proofs.Sending.{HearsApart, any_apart, apart_law, end_apart}
 
--- ---- cut at the marks
+-- ---- cut at the markers
 texts_before : (run : List Placed) (items : List Item) → concat (texts (blocks_before run items)) ≡ run_text run ++ concat (texts items)
 texts_before [] items = refl
 texts_before (x ∷ run) items = ap (λ l. x.text ++ l) (texts_before run items) ∙ sym (append_assoc x.text (run_text run) (concat (texts items)))
@@ -41,7 +41,7 @@ marked_shown : (rs : List (List Placed)) → ((run : List Placed) → In run rs 
 marked_shown [] u = refl
 marked_shown (r ∷ []) u = ap shown (texts_before r [] ∙ append-nil (run_text r))
 marked_shown (r ∷ q ∷ rs) u =
-    ap shown (texts_before r (Mark ∷ marked (q ∷ rs)) ∙ ap (λ m. run_text r ++ (m ++ concat (texts (marked (q ∷ rs))))) (sym marker_is))
+    ap shown (texts_before r (Marker ∷ marked (q ∷ rs)) ∙ ap (λ m. run_text r ++ (m ++ concat (texts (marked (q ∷ rs))))) (sym marker_is))
     ∙ (shown_parts (run_text r) (concat (texts (marked (q ∷ rs)))) (u r (inl refl))
     ∙ ap (with_marker_between (shown (run_text r))) (marked_shown (q ∷ rs) (λ run i. u run (inr i))))
 

@@ -18,7 +18,7 @@ use Rattle.named_spec.specs.Stretches.{runs}
 use Rattle.named_spec.specs.Named.{Piece, named, named_after, prints}
 use Rattle.named_spec.specs.Heard.{HearsNamed}
 
--- ---- cut at the marks
+-- ---- cut at the markers
 -- what is shown of each, one behind the other, with a marker between each two
 abbrev pub parted : List Display → Display
 parted [] = shown []

@@ -4,7 +4,7 @@ ghost use Rattle.named_spec.specs.Named.{BeforeLabelIsOnes, BehindLabelIsTyped, 
 ghost use Rattle.named_spec.specs.Heard.{AnyIsNamed, EndIsNamed, SentIsNamed};
 ghost use Rattle.named_spec.specs.Seen.{AnyIsShown, EndIsShown, PartsAreEnds, SentIsShown};
 
-/// What is told of a source, cut at its marks, are stretches of its entries with text.
+/// What is told of a source, cut at its markers, are stretches of its entries with text.
 pub fn runs_are_stretches()
     ensures history { RunsAreStretches }
     ensures hop { HopsAreStretches }

@@ -4,8 +4,8 @@ ghost use Rattle.std.specs.Prelude.{◌≡◌, IfOk};
 use crate::OperatorPort;
 use crate::lines::{append_leg, append_turns};
 use crate::requests::{Request, request_of};
-use crate::seats::{Counts, Seat};
-use conference::Conf;
+use crate::seats::{Counts, LegSwitch};
+use conference::Conference;
 use rtt_base::{Full, NoMemory, Packet};
 use std::alloc::Global;
 use std::sync::Arc;
@@ -18,7 +18,7 @@ const MOST_HEARD: u32 = 256;
 const ROOM: usize = 71;
 
 /// What came at the port of an operator.
-enum Heard {
+enum OperatorInput {
     /// Nothing, by now.
     Nothing,
     /// What nobody is answered for.
@@ -29,7 +29,7 @@ enum Heard {
 /// Where an operator is heard and answered, who knows the word.
 #[derive(Drop)]
 pub struct Desk<P> {
-    conf: Conf,
+    conference: Conference,
     pub(crate) port: P,
     /// Of each leg what is told of it.
     legs: Vec<Arc<Counts, Global>>,
@@ -45,17 +45,17 @@ pub struct Desk<P> {
 impl<P: OperatorPort> Desk<P> {
     /// The desk of a call of this conference, at this port. It takes all memory that it needs. Where the conference has no operator
     /// nobody is answered.
-    pub fn new(alloc: Global, conf: Conf, port: P) -> Result<Desk<P>, NoMemory>
-        ensures conf { IfOk result (λ desk. desk.conf ≡ conf) }
+    pub fn new(alloc: Global, conference: Conference, port: P) -> Result<Desk<P>, NoMemory>
+        ensures conference { IfOk result (λ desk. desk.conference ≡ conference) }
         ensures port { IfOk result (λ desk. desk.port ≡ port) }
         ensures begins { IfOk result (λ desk. (desk.seated ≡ 0) × (desk.made ≡ 0)) }
     {
         let mut legs = Vec::new(alloc);
-        for _ in 0..conf.legs.len() {
+        for _ in 0..conference.legs.len() {
             legs.push(Arc::new(alloc, Counts::new())?)?;
         }
         Ok(Desk {
-            conf,
+            conference,
             port,
             legs,
             seated: 0,
@@ -66,15 +66,15 @@ impl<P: OperatorPort> Desk<P> {
     }
 
     /// The seat of the next leg, where there is one.
-    pub(crate) fn next_seat(&mut self) -> Option<Seat> {
+    pub(crate) fn next_seat(&mut self) -> Option<LegSwitch> {
         let counts = self.legs.get(self.seated)?;
-        let leg = self.conf.legs.as_slice().get(self.seated)?;
-        let seat = Seat {
+        let leg = self.conference.legs.as_slice().get(self.seated)?;
+        let seat = LegSwitch {
             counts: Arc::try_clone(counts).ok()?,
             stop: Arc::try_clone(&self.stop).ok()?,
             ssrc: leg.ssrc,
             follow: leg.follow,
-            pts: leg.pts,
+            payload_types: leg.payload_types,
         };
         self.seated = self.seated.saturating_add(1);
         Some(seat)
@@ -85,26 +85,26 @@ impl<P: OperatorPort> Desk<P> {
         self.made = self.made.saturating_add(1);
         for _ in 0..MOST_HEARD {
             match self.hear() {
-                Heard::Nothing => return,
-                Heard::Other => {}
-                Heard::Asked(Request::State) => self.tell(now),
-                Heard::Asked(Request::Stop) => self.stop.store(true, Ordering::SeqCst),
+                OperatorInput::Nothing => return,
+                OperatorInput::Other => {}
+                OperatorInput::Asked(Request::State) => self.tell(now),
+                OperatorInput::Asked(Request::Stop) => self.stop.store(true, Ordering::SeqCst),
             }
         }
     }
 
     // What came at the port next.
-    fn hear(&mut self) -> Heard {
+    fn hear(&mut self) -> OperatorInput {
         let mut room = [0u8; ROOM];
         let Some(count) = self.port.receive(&mut room) else {
-            return Heard::Nothing;
+            return OperatorInput::Nothing;
         };
-        let Some(operator) = &self.conf.service.operator else {
-            return Heard::Other;
+        let Some(operator) = &self.conference.service.operator else {
+            return OperatorInput::Other;
         };
         match request_of(operator.word.as_str().as_bytes(), &room[..count.min(ROOM)]) {
-            Some(request) => Heard::Asked(request),
-            None => Heard::Other,
+            Some(request) => OperatorInput::Asked(request),
+            None => OperatorInput::Other,
         }
     }
 
@@ -118,10 +118,10 @@ impl<P: OperatorPort> Desk<P> {
 
     // Appends all lines. They fit: a name has 32 octets at most, and there are 16 legs at most.
     fn append_lines(&mut self, now: u64) -> Result<(), Full> {
-        let conf = &self.conf;
+        let conference = &self.conference;
         let lines = &mut self.lines;
-        append_turns(self.made, u64::from(conf.turns), lines)?;
-        for (leg, counts) in conf.legs.as_slice().iter().zip(&self.legs) {
+        append_turns(self.made, u64::from(conference.turns), lines)?;
+        for (leg, counts) in conference.legs.as_slice().iter().zip(&self.legs) {
             append_leg(&leg.name, counts, now, lines)?;
         }
         Ok(())

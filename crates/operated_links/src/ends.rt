@@ -2,8 +2,8 @@
 ghost use Rattle.std.specs.Prelude.{◌≡◌, false};
 
 use crate::courses::Course;
-use crate::seats::Seat;
-use link_io::{LinkIn, Taken};
+use crate::seats::LegSwitch;
+use link_io::{LinkIn, LinkTake};
 use rtt_base::{Failed, Packet};
 
 /// The inbound end of a link that is closed for good once the call is stopped and what lies there was given, 256 datagrams at most. What
@@ -12,13 +12,13 @@ use rtt_base::{Failed, Packet};
 #[derive(Drop)]
 pub struct OperatedIn<I: LinkIn> {
     pub(crate) link: I,
-    seat: Option<Seat>,
+    seat: Option<LegSwitch>,
     course: Course,
 }
 
 impl<I: LinkIn> OperatedIn<I> {
     /// The end over this one, of a call that goes on.
-    pub(crate) fn new(link: I, seat: Option<Seat>) -> OperatedIn<I>
+    pub(crate) fn new(link: I, seat: Option<LegSwitch>) -> OperatedIn<I>
         ensures over { result.link ≡ link }
         ensures goes_on { result.course.ended ≡ false }
     {
@@ -50,7 +50,7 @@ impl<I: LinkIn> OperatedIn<I> {
     }
 
     // Counts what was told.
-    fn count(&self, told: Taken, octets: &[u8]) {
+    fn count(&self, told: LinkTake, octets: &[u8]) {
         if let Some(seat) = &self.seat {
             seat.count(told, octets);
         }
@@ -72,14 +72,14 @@ impl<I: LinkIn> LinkIn for OperatedIn<I> {
 
     ghost port = { λ end. I.port end.link };
 
-    fn take(&mut self, out: &mut Packet, until: u64) -> Result<Taken, Failed> {
+    fn take(&mut self, out: &mut Packet, until: u64) -> Result<LinkTake, Failed> {
         let stopping = self.is_stopping();
         let until = if stopping { 0 } else { until };
         let Ok(taken) = self.link.take(out, until) else {
             return Err(Failed);
         };
         self.course = self.course.after(stopping, taken.came);
-        let told = Taken {
+        let told = LinkTake {
             at: taken.at,
             came: self.course.told(taken.came),
         };

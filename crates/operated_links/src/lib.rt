@@ -13,7 +13,7 @@ mod seats;
 
 pub use desks::Desk;
 pub use ends::OperatedIn;
-pub use links::Operated;
+pub use links::OperatedLinks;
 pub use operators::{Operator, OperatorPort};
 pub use real_ports::RealPort;
 

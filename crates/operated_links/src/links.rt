@@ -10,21 +10,22 @@ use rtt_base::Failed;
 /// first. Where an operator is to be heard and can't be, no link is opened, which is a fault of each port. All else is as below. They
 /// tell nothing of what is stored.
 #[derive(Drop)]
-pub struct Operated<L: Links, P> {
+pub struct OperatedLinks<L: Links, P> {
     links: L,
     pub(crate) operator: Operator<P>,
     /// How often a link was not opened, since no operator can be heard.
     refused: u64,
 }
 
-impl<L: Links, P: OperatorPort> Operated<L, P> {
+impl<L: Links, P: OperatorPort> OperatedLinks<L, P> {
     /// The links over these, whose call this operator may ask.
-    pub fn new(links: L, operator: Operator<P>) -> Operated<L, P>
-        ensures own { (p : ℕ) → ⟦<Operated<L, P> as Links>⟧.own_faults result p ≡ counted (L.own_faults links p) 0 }
-        ensures objects { (p : ℕ) → ⟦<Operated<L, P> as Links>⟧.object_faults result p ≡ L.object_faults links p }
-        ensures pauses { ⟦<Operated<L, P> as Links>⟧.pauses result ≡ L.pauses links }
+    pub fn new(links: L, operator: Operator<P>) -> OperatedLinks<L, P>
+        ensures own { (p : ℕ) → ⟦<OperatedLinks<L, P> as Links>⟧.own_faults result p
+            ≡ counted (L.own_faults links p) 0 }
+        ensures objects { (p : ℕ) → ⟦<OperatedLinks<L, P> as Links>⟧.object_faults result p ≡ L.object_faults links p }
+        ensures pauses { ⟦<OperatedLinks<L, P> as Links>⟧.pauses result ≡ L.pauses links }
     {
-        Operated {
+        OperatedLinks {
             links,
             operator,
             refused: 0,
@@ -33,10 +34,10 @@ impl<L: Links, P: OperatorPort> Operated<L, P> {
 
     /// The links below.
     pub fn into_links(self) -> L
-        ensures objects { (p : ℕ) → ⟦<Operated<L, P> as Links>⟧.object_faults self p ≡ L.object_faults result p }
-        ensures pauses { ⟦<Operated<L, P> as Links>⟧.pauses self ≡ L.pauses result }
+        ensures objects { (p : ℕ) → ⟦<OperatedLinks<L, P> as Links>⟧.object_faults self p ≡ L.object_faults result p }
+        ensures pauses { ⟦<OperatedLinks<L, P> as Links>⟧.pauses self ≡ L.pauses result }
     {
-        let Operated {
+        let OperatedLinks {
             links,
             operator: _,
             refused: _,
@@ -45,7 +46,7 @@ impl<L: Links, P: OperatorPort> Operated<L, P> {
     }
 }
 
-impl<L: Links, P: OperatorPort> Links for Operated<L, P> {
+impl<L: Links, P: OperatorPort> Links for OperatedLinks<L, P> {
     ghost use Rattle.std.specs.Prelude.{false, []};
     ghost use Rattle.rtt_io.specs.Counts.{counted};
 

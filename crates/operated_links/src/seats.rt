@@ -1,7 +1,7 @@
 //! What is told of a leg while its call runs.
-use link_io::{Came, Taken};
+use link_io::{Came, LinkTake};
 use rtp_header::read_rtp;
-use rtt_base::Pts;
+use rtt_base::PayloadTypes;
 use std::alloc::Global;
 use std::sync::Arc;
 use std::sync::atomic::{AtomicBool, AtomicU64, Ordering};
@@ -33,23 +33,23 @@ impl Counts {
 
 /// Where the inbound end of a leg is told to stop, and tells what came.
 #[derive(Drop)]
-pub(crate) struct Seat {
+pub(crate) struct LegSwitch {
     pub(crate) counts: Arc<Counts, Global>,
     pub(crate) stop: Arc<AtomicBool, Global>,
     pub(crate) ssrc: u32,
     /// Whether the leg is heard whatever SSRC its terminal sends with.
     pub(crate) follow: bool,
-    pub(crate) pts: Pts,
+    pub(crate) payload_types: PayloadTypes,
 }
 
-impl Seat {
+impl LegSwitch {
     /// Whether the call is to end.
     pub(crate) fn is_stopping(&self) -> bool {
         self.stop.load(Ordering::SeqCst)
     }
 
     /// Counts what was told; these are the octets of a datagram.
-    pub(crate) fn count(&self, told: Taken, octets: &[u8]) {
+    pub(crate) fn count(&self, told: LinkTake, octets: &[u8]) {
         match told.came {
             Came::Datagram => self.count_datagram(told.at, self.is_text(octets)),
             Came::Large => self.count_datagram(told.at, false),
@@ -71,7 +71,7 @@ impl Seat {
         match read_rtp(octets) {
             Ok(packet) => {
                 (self.follow || packet.ssrc == self.ssrc)
-                    && (packet.pt == self.pts.t140 || packet.pt == self.pts.red)
+                    && (packet.pt == self.payload_types.t140 || packet.pt == self.payload_types.red)
             }
             Err(_) => false,
         }

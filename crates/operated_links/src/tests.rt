@@ -1,13 +1,13 @@
 use crate::requests::{Request, request_of};
-use crate::{Desk, Operated, Operator, OperatorPort};
+use crate::{Desk, OperatedLinks, Operator, OperatorPort};
 use conf_text::{Form, read_conf};
-use link_io::{Came, LinkIn, Links, MemLinks, Planned};
+use link_io::{Came, LinkIn, Links, MemLinks, PlannedTake};
 use rtt_base::{Bytes, NoMemory, Packet};
 use std::alloc::Global;
 use std::test::Fail;
 
 /// Ann and Bob, and an operator.
-const CONF: &[u8] =
+const CONFERENCE: &[u8] =
     b"mixer 9000 0 0\nleg Ann aware 1001 5001 127.0.0.1:6001\nleg Bob aware 1002 5002 127.0.0.1:6002\nturns 600\noperator 7001 Sesame42\n";
 
 /// The same, where Bob's leg is followed.
@@ -22,20 +22,20 @@ const REPORT: &[u8] = b"\x80\xC9\0\x01\0\0\x03\xE9";
 
 /// What comes at a port before the first turn, and before the second.
 #[derive(Clone, Copy)]
-struct Asked(&'static [&'static [u8]], &'static [&'static [u8]]);
+struct AskedOctets(&'static [&'static [u8]], &'static [&'static [u8]]);
 
 /// A port in memory.
 #[derive(Drop)]
 struct MemPort {
     alloc: Global,
-    asked: Asked,
+    asked: AskedOctets,
     used: usize,
     turned: bool,
     answers: Vec<Bytes>,
 }
 
 impl MemPort {
-    fn new(alloc: Global, asked: Asked) -> MemPort {
+    fn new(alloc: Global, asked: AskedOctets) -> MemPort {
         MemPort {
             alloc,
             asked,
@@ -82,11 +82,11 @@ impl OperatorPort for MemPort {
 }
 
 /// The operator of a conference.
-fn operator(alloc: Global, conference: &[u8], asked: Asked) -> Result<Operator<MemPort>, NoMemory> {
-    let Ok(conf) = read_conf(alloc, conference, Form::Links) else {
+fn operator(alloc: Global, conference: &[u8], asked: AskedOctets) -> Result<Operator<MemPort>, NoMemory> {
+    let Ok(conference) = read_conf(alloc, conference, Form::Links) else {
         return Err(NoMemory);
     };
-    let desk = Desk::new(alloc, conf, MemPort::new(alloc, asked))?;
+    let desk = Desk::new(alloc, conference, MemPort::new(alloc, asked))?;
     Ok(Operator::At(desk))
 }
 
@@ -94,14 +94,14 @@ fn operator(alloc: Global, conference: &[u8], asked: Asked) -> Result<Operator<M
 fn links(
     alloc: Global,
     conference: &[u8],
-    asked: Asked,
-) -> Result<Operated<MemLinks, MemPort>, NoMemory> {
+    asked: AskedOctets,
+) -> Result<OperatedLinks<MemLinks, MemPort>, NoMemory> {
     let mut below = MemLinks::new(alloc);
-    below.plan(5001, Planned::new(alloc, 100, Came::Datagram, TEXT)?)?;
-    below.plan(5001, Planned::new(alloc, 250, Came::Datagram, REPORT)?)?;
-    below.plan(5002, Planned::new(alloc, 200, Came::Datagram, TEXT)?)?;
-    below.plan(5002, Planned::new(alloc, 300, Came::Large, b"")?)?;
-    Ok(Operated::new(below, operator(alloc, conference, asked)?))
+    below.plan(5001, PlannedTake::new(alloc, 100, Came::Datagram, TEXT)?)?;
+    below.plan(5001, PlannedTake::new(alloc, 250, Came::Datagram, REPORT)?)?;
+    below.plan(5002, PlannedTake::new(alloc, 200, Came::Datagram, TEXT)?)?;
+    below.plan(5002, PlannedTake::new(alloc, 300, Came::Large, b"")?)?;
+    Ok(OperatedLinks::new(below, operator(alloc, conference, asked)?))
 }
 
 /// Whether so many takes tell this.
@@ -117,7 +117,7 @@ fn tells<L: LinkIn>(link: &mut L, count: usize, came: Came) -> bool {
 }
 
 /// Whether this alone was answered.
-fn answered<L: Links>(links: &Operated<L, MemPort>, answer: &[u8]) -> bool {
+fn answered<L: Links>(links: &OperatedLinks<L, MemPort>, answer: &[u8]) -> bool {
     match &links.operator {
         Operator::At(desk) => match desk.port.answers.as_slice() {
             [only] => only.as_slice() == answer,
@@ -144,7 +144,7 @@ fn only_the_word_and_what_is_asked_are_a_request(rt: HostRuntime) -> Result<(), 
 
 /// What an operator of this conference is told at the second turn.
 fn told(alloc: Global, conference: &[u8], answer: &[u8]) -> Result<bool, NoMemory> {
-    let asked = Asked(&[b"Sesame43 state", b"state"], &[b"Sesame42 state"]);
+    let asked = AskedOctets(&[b"Sesame43 state", b"state"], &[b"Sesame42 state"]);
     let mut links = links(alloc, conference, asked)?;
     let Ok((mut ann, ann_out)) = links.link(5001, "127.0.0.1:6001") else {
         return Ok(false);
@@ -171,7 +171,7 @@ fn told(alloc: Global, conference: &[u8], answer: &[u8]) -> Result<bool, NoMemor
 fn an_operator_is_told_how_the_call_stands(rt: HostRuntime) -> Result<(), Fail> {
     let answer: &[u8] =
         b"turn 2 of 600\nAnn datagrams 2 text 1 last 750 here\nBob datagrams 2 text 0 last 700 here\n";
-    assert!(rt; told(rt.alloc(), CONF, answer)?);
+    assert!(rt; told(rt.alloc(), CONFERENCE, answer)?);
     Ok(())
 }
 
@@ -185,8 +185,8 @@ fn of_a_leg_that_is_followed_each_text_counts(rt: HostRuntime) -> Result<(), Fai
 
 #[test]
 fn a_call_that_is_stopped_is_heard_to_its_end(rt: HostRuntime) -> Result<(), Fail> {
-    let asked = Asked(&[b"Sesame42 stop"], &[b"Sesame42 state"]);
-    let mut links = links(rt.alloc(), CONF, asked)?;
+    let asked = AskedOctets(&[b"Sesame42 stop"], &[b"Sesame42 state"]);
+    let mut links = links(rt.alloc(), CONFERENCE, asked)?;
     let (mut ann, ann_out) = links.link(5001, "127.0.0.1:6001")?;
     let (mut bob, bob_out) = links.link(5002, "127.0.0.1:6002")?;
     assert!(rt; tells(&mut ann, 1, Came::Datagram));
@@ -209,10 +209,10 @@ fn a_call_that_is_stopped_is_heard_to_its_end(rt: HostRuntime) -> Result<(), Fai
 fn heard_behind(alloc: Global, count: usize) -> Result<usize, NoMemory> {
     let mut below = MemLinks::new(alloc);
     for _ in 0..count {
-        below.plan(5001, Planned::new(alloc, 100, Came::Datagram, TEXT)?)?;
+        below.plan(5001, PlannedTake::new(alloc, 100, Came::Datagram, TEXT)?)?;
     }
-    let asked = Asked(&[b"Sesame42 stop"], &[]);
-    let mut links = Operated::new(below, operator(alloc, CONF, asked)?);
+    let asked = AskedOctets(&[b"Sesame42 stop"], &[]);
+    let mut links = OperatedLinks::new(below, operator(alloc, CONFERENCE, asked)?);
     let Ok((mut inbound, outbound)) = links.link(5001, "127.0.0.1:6001") else {
         return Ok(0);
     };
@@ -239,10 +239,10 @@ fn who_sends_without_end_is_stopped_too(rt: HostRuntime) -> Result<(), Fail> {
 #[test]
 fn where_no_operator_can_be_heard_no_link_is_opened(rt: HostRuntime) -> Result<(), Fail> {
     let unheard: Operator<MemPort> = Operator::Unheard;
-    let mut links = Operated::new(MemLinks::new(rt.alloc()), unheard);
+    let mut links = OperatedLinks::new(MemLinks::new(rt.alloc()), unheard);
     assert!(rt; links.link(5001, "127.0.0.1:6001").is_err());
     let nobody: Operator<MemPort> = Operator::Nobody;
-    let mut links = Operated::new(MemLinks::new(rt.alloc()), nobody);
+    let mut links = OperatedLinks::new(MemLinks::new(rt.alloc()), nobody);
     let (mut inbound, outbound) = links.link(5001, "127.0.0.1:6001")?;
     assert!(rt; tells(&mut inbound, 1, Came::Quiet));
     links.done_in(inbound);

@@ -6,12 +6,12 @@ use Rattle.stream_spec.specs.Own.{has_text_in}
 use Rattle.mixer_spec.specs.Setups.{Setup}
 use Rattle.mixer_spec.specs.Table.{Terminal, has_work, is_due, is_spaced, last_media, sent_from}
 use Rattle.outlet.specs.AwareStates.{AwareState}
-use Rattle.outlet.specs.AwareStanding.{StandsFor}
+use Rattle.outlet.specs.AwareStanding.{AwareStandsFor}
 use Rattle.outlet.proofs.Repeating.{still_left}
 
 -- text of the leg is still to be repeated
-pub repeats_here : (s : Setup) (j i : ℕ) (o : AwareState) (d : Terminal) → StandsFor s j o d → i < s.legs → nat_lt 0 (slice_index o.left i) ≡ has_text_in (s.gens j) (sent_from (s.ssrc i) d)
-repeats_here s j i o d h l = ap (λ (n : ℕ). nat_lt 0 n) (h.left i l) ∙ sym (still_left (s.gens j) (sent_from (s.ssrc i) d))
+pub repeats_here : (s : Setup) (j i : ℕ) (o : AwareState) (d : Terminal) → AwareStandsFor s j o d → i < s.legs → nat_lt 0 (slice_index o.left i) ≡ has_text_in (s.generations j) (sent_from (s.ssrc i) d)
+repeats_here s j i o d h l = ap (λ (n : ℕ). nat_lt 0 n) (h.left i l) ∙ sym (still_left (s.generations j) (sent_from (s.ssrc i) d))
 
 pub or_first : (b a x : Bool) → b ≡ true → b ≡ a → b ≡ (a || x)
 or_first b a x t e = t ∙ ap (λ (y : Bool). y || x) (sym t ∙ e)

@@ -11,7 +11,7 @@ use Rattle.mixer_spec.proofs.Rounds.{round_some}
 use Rattle.mixer_spec.proofs.Seats.{leg_in_some}
 use Rattle.outlet.proofs.Below.{no_text}
 use Rattle.outlet.specs.AwareStates.{AwareState}
-use Rattle.outlet.specs.AwareStanding.{NoneDue, StandsFor}
+use Rattle.outlet.specs.AwareStanding.{NoneDue, AwareStandsFor}
 use Rattle.outlet.specs.Turns.{free_after}
 
 -- no text of the leg i waits, or is still to be repeated; the terminal's own has none there
@@ -19,9 +19,9 @@ abbrev pub is_done_with : Setup → ℕ → Terminal → ℕ → Bool
 is_done_with s j d i = (i == j) || not (has_work s j d i)
 
 -- of the mixer's own source nothing was sent
-pub quiet_is : (s : Setup) (j : ℕ) (o : AwareState) (d : Terminal) → StandsFor s j o d → all_below (is_done_with s j d) s.legs ≡ is_quiet s j d
+pub quiet_is : (s : Setup) (j : ℕ) (o : AwareState) (d : Terminal) → AwareStandsFor s j o d → all_below (is_done_with s j d) s.legs ≡ is_quiet s j d
 quiet_is s j o d h =
-    ap (λ (b : Bool). not b && all_below (is_done_with s j d) s.legs) (sym (ap (λ (xs : List Sent). has_text_in (s.gens j) xs) h.none_mixed ∙ no_text (s.gens j)))
+    ap (λ (b : Bool). not b && all_below (is_done_with s j d) s.legs) (sym (ap (λ (xs : List Sent). has_text_in (s.generations j) xs) h.none_mixed ∙ no_text (s.generations j)))
 
 -- ---- nobody is due
 pub not_due : (s : Setup) (j t i : ℕ) (d : Terminal) → is_done_with s j d i ≡ true → is_due s j t d i ≡ false
@@ -43,7 +43,7 @@ none_serves s seats j t d none l = go (served s seats j t d) refl
     go None e = refl
     go (Some p) e = absurd (leg (leg_in seats s.legs p) p refl (round_some (is_due_at s seats j t d) (round_start d.past) s.places p l e).passes)
 
-pub none_due : (s : Setup) (seats : Seats) (o : AwareState) (t : ℕ) (d : Terminal) → StandsFor s o.own o d → t < o.calm → o.next ≤ 16 → None ≡ served s seats o.own t d
+pub none_due : (s : Setup) (seats : Seats) (o : AwareState) (t : ℕ) (d : Terminal) → AwareStandsFor s o.own o d → t < o.calm → o.next ≤ 16 → None ≡ served s seats o.own t d
 none_due s seats o t d h c l = none_serves s seats o.own t d (h.calm t c) (omega (arith, l, h.next, h.places))
 
 -- its last packet is not so long ago
@@ -52,16 +52,16 @@ not_spaced spacing t None l = absurd (omega (arith, l))
 not_spaced spacing t (Some m) l = sym (lt-leb (m + spacing) t l)
 
 -- ---- what changes only what is known of who is due
-pub stands_calm : (s : Setup) (j : ℕ) (o : AwareState) (d : Terminal) (calm : ℕ) (waits : ℕ → List Chunk) → StandsFor s j o d
+pub stands_calm : (s : Setup) (j : ℕ) (o : AwareState) (d : Terminal) (calm : ℕ) (waits : ℕ → List Chunk) → AwareStandsFor s j o d
     → ((t : ℕ) → t < calm → NoneDue s j t (record { past = d.past; asks = d.asks; waits = waits }))
-    → StandsFor s j (record o { calm = calm }) (record { past = d.past; asks = d.asks; waits = waits })
+    → AwareStandsFor s j (record o { calm = calm }) (record { past = d.past; asks = d.asks; waits = waits })
 stands_calm s j o d calm waits h r = record {
   setup = h.setup;
   places = h.places;
   own = h.own;
   leg = h.leg;
   spacing = h.spacing;
-  gens = h.gens;
+  generations = h.generations;
   sent = h.sent;
   legs = h.legs;
   left = h.left;

@@ -11,7 +11,7 @@ use Rattle.slot_table.proofs.Sources.{stands_same}
 use Rattle.outlet.specs.Turns.{with_terminal}
 use Rattle.outlet.proofs.Putting.{puts_none}
 use Rattle.outlet.specs.AwareStates.{AwareState}
-use Rattle.outlet.specs.AwareStanding.{StandsFor}
+use Rattle.outlet.specs.AwareStanding.{AwareStandsFor}
 use Rattle.outlet.specs.AwareTurns.{IsIn, IsTurned}
 
 -- ---- the round
@@ -43,10 +43,10 @@ same_terminal table j k e = elim (cases_eq k j) [
   | inr n ↦ absurd (cc (e, ne_eqb k j n))
 ]
 
-pub none_served : (s : Setup) (o new : AwareState) (now : List Waiting) (table : Table) (t : ℕ) (text : List ℕ) → IsIn s o now table → StandsFor s o.own new (table.terminals o.own)
+pub none_served : (s : Setup) (o new : AwareState) (now : List Waiting) (table : Table) (t : ℕ) (text : List ℕ) → IsIn s o now table → AwareStandsFor s o.own new (table.terminals o.own)
     → IsTurned s table o.own (table.terminals o.own) t new now None text
 none_served s o new now table t text h stands = record {
-  outlet = stands;
+  scheduler = stands;
   slots_stand = stands_same s now table (with_terminal o.own (table.terminals o.own) table) h.slots_stand (λ i. refl) (λ k. refl)
       (λ k i. same_there (k == o.own) (table.terminals o.own) (table.terminals k) i (same_terminal table o.own k));
   puts = puts_none true t (table.terminals o.own).past text;

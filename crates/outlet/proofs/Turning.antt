@@ -5,7 +5,7 @@ use Rattle.mixer_spec.specs.Table.{Seats, Terminal, Table, is_seated, serve, ser
 use Rattle.slot_table.specs.Lanes.{Waiting}
 use Rattle.slot_table.specs.Standing as slots
 use Rattle.seating.specs.States.{State}
-use Rattle.outlet.specs.declared.outlets.Outlet.TheVariants.{Aware, Unaware}
+use Rattle.outlet.specs.declared.schedulers.TerminalScheduler.TheVariants.{Aware, Unaware}
 use Rattle.outlet.specs.Turns.{Puts, SendsNext, new_entry, with_terminal}
 use Rattle.outlet.specs.AwareStates.{AwareState}
 use Rattle.outlet.specs.AwareStanding as aware
@@ -14,16 +14,16 @@ use Rattle.outlet.specs.AwareTurns.{AtTable, AtTerminal, IsIn}
 use Rattle.outlet.specs.AwareRounds.{AtSeats, IsSeatedIn, SendsNextAt, turned}
 use Rattle.outlet.specs.UnawareStates.{UnawareState}
 use Rattle.outlet.specs.UnawareStanding as unaware
-use Rattle.outlet.specs.Outlets.{IsTurn, IsTurned, turned_here}
+use Rattle.outlet.specs.Schedulers.{IsTurn, IsTurned, turned_here}
 
 -- ---- an aware one, whose clauses speak of its own leg
-own_stands : (s : Setup) (j : ℕ) (table : Table) (o : AwareState) → aware.StandsFor s j o (table.terminals j) → aware.StandsFor s o.own o (table.terminals o.own)
-own_stands s j table o h = subst (λ (k : ℕ). aware.StandsFor s k o (table.terminals k)) (sym h.own) h
+own_stands : (s : Setup) (j : ℕ) (table : Table) (o : AwareState) → aware.AwareStandsFor s j o (table.terminals j) → aware.AwareStandsFor s o.own o (table.terminals o.own)
+own_stands s j table o h = subst (λ (k : ℕ). aware.AwareStandsFor s k o (table.terminals k)) (sym h.own) h
 
-pub of_table : (s : Setup) (j : ℕ) (table : Table) (o : AwareState) (waiting : List Waiting) (P : Setup → ℕ → Terminal → Type 0) → aware.StandsFor s j o (table.terminals j)
-    → slots.StandsFor s waiting table → AtTable o waiting (λ s table d. P s o.own d) → P s j (table.terminals j)
+pub of_table : (s : Setup) (j : ℕ) (table : Table) (o : AwareState) (waiting : List Waiting) (P : Setup → ℕ → Terminal → Type 0) → aware.AwareStandsFor s j o (table.terminals j)
+    → slots.SlotsStandFor s waiting table → AtTable o waiting (λ s table d. P s o.own d) → P s j (table.terminals j)
 of_table s j table o waiting P h w f =
-    subst (λ (k : ℕ). P s k (table.terminals k)) h.own (f s table (record { outlet = own_stands s j table o h; slots_stand = w }))
+    subst (λ (k : ℕ). P s k (table.terminals k)) h.own (f s table (record { scheduler = own_stands s j table o h; slots_stand = w }))
 
 aware_at : (s : Setup) (j : ℕ) (table : Table) (o : AwareState) (places : State) (waiting : List Waiting) (called : List (List ℕ)) (now t : ℕ) → IsTurn s j table (Aware o) places waiting called now t
     → turned_here s j now t table ≡ turned s table j now t
@@ -37,18 +37,18 @@ aware_turned s j table o new places waiting after called now t source text h f =
     let own = h.stands.1.own in
     let at = aware_at s j table o places waiting called now t h in
     let next : SendsNextAt s table j now t = subst (λ (x : Terminal). SendsNext (stream s j) (table.terminals j).past x.past) at h.next in
-    let there : IsSeatedIn s o places waiting table = record { there = record { outlet = own_stands s j table o h.stands.1; slots_stand = h.slots_stand }; seats_stand = h.seats_stand } in
+    let there : IsSeatedIn s o places waiting table = record { there = record { scheduler = own_stands s j table o h.stands.1; slots_stand = h.slots_stand }; seats_stand = h.seats_stand } in
     let r = f s table there now (subst (λ (k : ℕ). SendsNextAt s table k now t) (sym own) next) in
     let q = subst (λ (x : Terminal). aware_turns.IsTurned s table j x t new after source text) (sym at)
     (subst (λ (k : ℕ). aware_turns.IsTurned s table k (turned s table k now t) t new after source text) own r) in
-    record { stands = (h.stands.0, q.outlet); slots_stand = q.slots_stand; puts = subst (λ (b : Bool). Puts b t (new_entry (table.terminals j).past (turned_here s j now t table).past) source text) (sym h.stands.0) q.puts }
+    record { stands = (h.stands.0, q.scheduler); slots_stand = q.slots_stand; puts = subst (λ (b : Bool). Puts b t (new_entry (table.terminals j).past (turned_here s j now t table).past) source text) (sym h.stands.0) q.puts }
 
 -- nothing changes where nobody is served
-pub aware_calm : (s : Setup) (j : ℕ) (d : Terminal) (o : AwareState) (calm : ℕ) → s.aware j ≡ true → aware.StandsFor s j o d → aware_turns.IsCalmBefore calm o → (seats : Seats) (now t : ℕ) → t < calm → turn_at s seats j now t d ≡ d
+pub aware_calm : (s : Setup) (j : ℕ) (d : Terminal) (o : AwareState) (calm : ℕ) → s.aware j ≡ true → aware.AwareStandsFor s j o d → aware_turns.IsCalmBefore calm o → (seats : Seats) (now t : ℕ) → t < calm → turn_at s seats j now t d ≡ d
 aware_calm s j d o calm is h r seats now t l = go (is_seated seats j)
   where
     none : served s seats j t d ≡ None
-    none = sym (subst (λ (k : ℕ). None ≡ served s seats k t d) h.own (r s d (subst (λ (k : ℕ). aware.StandsFor s k o d) (sym h.own) h) seats t l))
+    none = sym (subst (λ (k : ℕ). None ≡ served s seats k t d) h.own (r s d (subst (λ (k : ℕ). aware.AwareStandsFor s k o d) (sym h.own) h) seats t l))
 
     go : (b : Bool) → cond b (cond (s.aware j) (turn_aware s seats j now t d) (turn_unaware s j now t d)) d ≡ d
     go true = ap (λ b. cond b (turn_aware s seats j now t d) (turn_unaware s j now t d)) is ∙ ap (serve s seats now t d) none
@@ -71,15 +71,15 @@ unaware_turn s j table o places waiting called now t h = record {
 
 pub unaware_turned : (s : Setup) (j : ℕ) (table : Table) (o new : UnawareState) (places : State) (waiting after : List Waiting) (called : List (List ℕ)) (now t : ℕ) (source : Option ℕ) (text : List ℕ)
     → IsTurn s j table (Unaware o) places waiting called now t
-    → unaware.StandsFor s j new (unaware.turned_here s j now t table)
-    → slots.StandsFor s after (with_terminal j (unaware.turned_here s j now t table) table)
+    → unaware.UnawareStandsFor s j new (unaware.turned_here s j now t table)
+    → slots.SlotsStandFor s after (with_terminal j (unaware.turned_here s j now t table) table)
     → Puts false t (unaware.entry_here s j now t table) source text
     → IsTurned s j table now t (Unaware new) after source text
 unaware_turned s j table o new places waiting after called now t source text h a b c =
     let at = sym (unaware_at s j table o places waiting called now t h) in
     record {
-      stands = (h.stands.0, subst (λ (x : Terminal). unaware.StandsFor s j new x) at a);
-      slots_stand = subst (λ (x : Terminal). slots.StandsFor s after (with_terminal j x table)) at b;
+      stands = (h.stands.0, subst (λ (x : Terminal). unaware.UnawareStandsFor s j new x) at a);
+      slots_stand = subst (λ (x : Terminal). slots.SlotsStandFor s after (with_terminal j x table)) at b;
       puts = subst (λ (b : Bool). Puts b t (new_entry (table.terminals j).past (turned_here s j now t table).past) source text) (sym h.stands.0)
           (subst (λ (x : Terminal). Puts false t (new_entry (table.terminals j).past x.past) source text) at c);
     }

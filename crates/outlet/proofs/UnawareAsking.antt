@@ -17,15 +17,15 @@ use Rattle.outlet.specs.UnawareStanding.{Composes, none_here}
 use Rattle.outlet.proofs.UnawareWaiting.{none_false}
 
 -- nothing waited
-pub passes : (s : Setup) (table : Table) (c : ComposerState) (t : ℕ) (due : Bool) (asks : List Asked) (text : List ℕ) (new : UnawareState) (after : List Waiting) → composers.StandsFor s c asks
-    → slots.StandsFor s after table → NoneWaits s table c → text ≡ [] → composers.StandsFor s new.composer (asked_now s table c t due asks) → Composes s table c t due asks false text new after
+pub passes : (s : Setup) (table : Table) (c : ComposerState) (t : ℕ) (due : Bool) (asks : List Asked) (text : List ℕ) (new : UnawareState) (after : List Waiting) → composers.ComposerStandsFor s c asks
+    → slots.SlotsStandFor s after table → NoneWaits s table c → text ≡ [] → composers.ComposerStandsFor s new.composer (asked_now s table c t due asks) → Composes s table c t due asks false text new after
 passes s table c t due asks text new after h w n e p =
     let none = none_given s table c t due asks h n in
     record {
       given = sym (ap is_some none);
       text_is = e ∙ sym (ap text_given none);
       composer = p;
-      slots_stand = subst (λ (o : Option Answer). slots.StandsFor s after (answered c.own o table)) (sym none) w;
+      slots_stand = subst (λ (o : Option Answer). slots.SlotsStandFor s after (answered c.own o table)) (sym none) w;
       rests = λ q. subst (λ (o : Option Answer). NoneWaits s (answered c.own o table) c) (sym none) n;
     }
 

@@ -19,7 +19,7 @@ use Rattle.unaware_view.specs.Standing as composers
 use Rattle.unaware_view.specs.Standing.{NoneWaits, IsAsked, left_after, answered, asked_now, given_now}
 use Rattle.outlet.specs.Turns.{Puts, SendsNext, free_after, new_entry, repeats_left, with_terminal}
 use Rattle.outlet.specs.UnawareStates.{SameLeg, UnawareState}
-use Rattle.outlet.specs.UnawareStanding.{AreBy, Composes, IsTurn, StandsFor, entry_here, kept_sent, turned_here}
+use Rattle.outlet.specs.UnawareStanding.{AreBy, Composes, IsTurn, UnawareStandsFor, entry_here, kept_sent, turned_here}
 use Rattle.outlet.proofs.Putting.{puts_none, puts_one}
 use Rattle.outlet.proofs.Repeating.{still_left}
 
@@ -34,8 +34,8 @@ Added s t before after text true = (e : TurnEntry) × (after ≡ e ∷ before) �
 Added s t before after text false = after ≡ before
 
 added : (s : Setup) (j now t : ℕ) (d : Terminal) (o : Option Answer)
-    → Added s t d.past (compose s j now t d o).past (text_given o) (is_some o || (is_asked s t d && has_text_in (s.gens j) (sent_from s.mixer d)))
-added s j now t d None = go (is_asked s t d && has_text_in (s.gens j) (sent_from s.mixer d))
+    → Added s t d.past (compose s j now t d o).past (text_given o) (is_some o || (is_asked s t d && has_text_in (s.generations j) (sent_from s.mixer d)))
+added s j now t d None = go (is_asked s t d && has_text_in (s.generations j) (sent_from s.mixer d))
   where
     go : (b : Bool) → Added s t d.past (repeated s j now t b d.past) [] b
     go true = (record { at = now; place = 0; leg = j; chunks = []; sent = sent_now s.mixer t [] }, refl, refl)
@@ -75,7 +75,7 @@ pub record Steps (s : Setup) (j t : ℕ) (table : Table) (o mid : UnawareState) 
   pub due_is : due ≡ nat_lt 0 mid.left
   pub sends_is : sends ≡ (gave || (asked && due))
   pub same : SameLeg o mid
-  pub repeats : (mid.gens ≡ o.gens) × (mid.left ≡ o.left)
+  pub repeats : (mid.generations ≡ o.generations) × (mid.left ≡ o.left)
   pub times : (mid.spacing ≡ o.spacing) × (mid.free_at ≡ o.free_at)
 
 -- The composer was asked, gave the text or none, and is that of the outlet o then; these are the slots then. `sends` says
@@ -84,10 +84,10 @@ pub record Told (s : Setup) (j t : ℕ) (table : Table) (asked gave due sends : 
   pub asked_is : asked ≡ is_asked s t (table.terminals j)
   pub given : gave ≡ is_some (answer_at s j t (table.terminals j))
   pub text_is : text ≡ text_given (answer_at s j t (table.terminals j))
-  pub composer : composers.StandsFor s o.composer (asked_at t (table.terminals j) (answer_at s j t (table.terminals j)))
-  pub slots_stand : slots.StandsFor s after (answered j (answer_at s j t (table.terminals j)) table)
+  pub composer : composers.ComposerStandsFor s o.composer (asked_at t (table.terminals j) (answer_at s j t (table.terminals j)))
+  pub slots_stand : slots.SlotsStandFor s after (answered j (answer_at s j t (table.terminals j)) table)
   pub rests : o.none_waits ≡ true → (i : ℕ) → i < s.legs → waits_here j ((answered j (answer_at s j t (table.terminals j)) table).terminals j).waits i ≡ false
-  pub due_is : due ≡ has_text_in (s.gens j) (sent_from s.mixer (table.terminals j))
+  pub due_is : due ≡ has_text_in (s.generations j) (sent_from s.mixer (table.terminals j))
   pub sends_is : sends ≡ (gave || (asked && due))
 
 -- where a packet may be sent again
@@ -95,12 +95,12 @@ spaced_is : (spacing t : ℕ) (o : Option ℕ) → nat_le (free_after spacing o)
 spaced_is spacing t None = le-leb 0 t (omega arith)
 spaced_is spacing t (Some m) = refl
 
-asked_of : (s : Setup) (j t : ℕ) (o : UnawareState) (d : Terminal) → StandsFor s j o d → nat_le o.free_at t ≡ is_asked s t d
+asked_of : (s : Setup) (j t : ℕ) (o : UnawareState) (d : Terminal) → UnawareStandsFor s j o d → nat_le o.free_at t ≡ is_asked s t d
 asked_of s j t o d h = ap (λ (n : ℕ). nat_le n t) h.free ∙ spaced_is s.spacing t (last_media (sent_from s.mixer d))
 
 -- a text of the mixer is still to be repeated
-pub due_here : (s : Setup) (j : ℕ) (o : UnawareState) (d : Terminal) → StandsFor s j o d → nat_lt 0 o.left ≡ has_text_in (s.gens j) (sent_from s.mixer d)
-due_here s j o d h = ap (λ (n : ℕ). nat_lt 0 n) h.left ∙ sym (still_left (s.gens j) (sent_from s.mixer d))
+pub due_here : (s : Setup) (j : ℕ) (o : UnawareState) (d : Terminal) → UnawareStandsFor s j o d → nat_lt 0 o.left ≡ has_text_in (s.generations j) (sent_from s.mixer d)
+due_here s j o d h = ap (λ (n : ℕ). nat_lt 0 n) h.left ∙ sym (still_left (s.generations j) (sent_from s.mixer d))
 
 -- the premises of an ask of the composer
 pub is_asked_so : (s : Setup) (j : ℕ) (table : Table) (now t : ℕ) (o : UnawareState) (waiting : List Waiting) (called : List (List ℕ)) → IsTurn s j table o waiting called now t
@@ -112,17 +112,17 @@ is_asked_so s j table now t o waiting called h = record {
   names = h.names;
 }
 
-pub rests_so : (s : Setup) (j : ℕ) (table : Table) (o : UnawareState) → StandsFor s j o (table.terminals j) → o.none_waits ≡ true → NoneWaits s table o.composer
+pub rests_so : (s : Setup) (j : ℕ) (table : Table) (o : UnawareState) → UnawareStandsFor s j o (table.terminals j) → o.none_waits ≡ true → NoneWaits s table o.composer
 rests_so s j table o h e = λ i l. subst (λ (x : ℕ). waits_here x (table.terminals x).waits i ≡ false) (sym h.own) (h.rests e i l)
 
 -- the answer is that of the definition
-given_is : (s : Setup) (j : ℕ) (table : Table) (t : ℕ) (o : UnawareState) (asked : Bool) → StandsFor s j o (table.terminals j) → asked ≡ is_asked s t (table.terminals j)
+given_is : (s : Setup) (j : ℕ) (table : Table) (t : ℕ) (o : UnawareState) (asked : Bool) → UnawareStandsFor s j o (table.terminals j) → asked ≡ is_asked s t (table.terminals j)
     → given_now s table o.composer t asked (table.terminals j).asks ≡ answer_at s j t (table.terminals j)
 given_is s j table t o asked h e =
     ap (λ (k : ℕ). answer s.legs s.name s.relabel k t asked (table.terminals k).waits (table.terminals j).asks) h.own
     ∙ ap (λ (b : Bool). answer s.legs s.name s.relabel j t b (table.terminals j).waits (table.terminals j).asks) e
 
-told : (s : Setup) (j t : ℕ) (table : Table) (o mid : UnawareState) (asked gave due sends : Bool) (text : List ℕ) (after : List Waiting) → StandsFor s j o (table.terminals j)
+told : (s : Setup) (j t : ℕ) (table : Table) (o mid : UnawareState) (asked gave due sends : Bool) (text : List ℕ) (after : List Waiting) → UnawareStandsFor s j o (table.terminals j)
     → Steps s j t table o mid asked gave due sends text after → Told s j t table asked gave due sends text mid after
 told s j t table o mid asked gave due sends text after h w =
     let p = w.composes in
@@ -133,10 +133,10 @@ told s j t table o mid asked gave due sends text after h w =
       asked_is = asked_is;
       given = p.given ∙ ap is_some same;
       text_is = p.text_is ∙ ap text_given same;
-      composer = subst (λ (k : ℕ). composers.StandsFor s mid.composer (record { media = t; waiting = λ i. has_chunk ((table.terminals k).waits i); given = answer } ∷ (table.terminals j).asks)) h.own
-          (subst (λ (y : Option Answer). composers.StandsFor s mid.composer (record { media = t; waiting = λ i. has_chunk ((table.terminals o.composer.own).waits i); given = y } ∷ (table.terminals j).asks)) same p.composer);
-      slots_stand = subst (λ (k : ℕ). slots.StandsFor s after (answered k answer table)) h.own
-          (subst (λ (y : Option Answer). slots.StandsFor s after (answered o.composer.own y table)) same p.slots_stand);
+      composer = subst (λ (k : ℕ). composers.ComposerStandsFor s mid.composer (record { media = t; waiting = λ i. has_chunk ((table.terminals k).waits i); given = answer } ∷ (table.terminals j).asks)) h.own
+          (subst (λ (y : Option Answer). composers.ComposerStandsFor s mid.composer (record { media = t; waiting = λ i. has_chunk ((table.terminals o.composer.own).waits i); given = y } ∷ (table.terminals j).asks)) same p.composer);
+      slots_stand = subst (λ (k : ℕ). slots.SlotsStandFor s after (answered k answer table)) h.own
+          (subst (λ (y : Option Answer). slots.SlotsStandFor s after (answered o.composer.own y table)) same p.slots_stand);
       rests = λ e i l. subst (λ (k : ℕ). waits_here k ((answered k answer table).terminals k).waits i ≡ false) h.own
           (subst (λ (y : Option Answer). waits_here o.composer.own ((answered o.composer.own y table).terminals o.composer.own).waits i ≡ false) same (p.rests e i l));
       due_is = w.due_is ∙ (ap (λ (n : ℕ). nat_lt 0 n) w.repeats.1 ∙ due_here s j o (table.terminals j) h);
@@ -149,12 +149,12 @@ added_here : (s : Setup) (j now t : ℕ) (table : Table) (asked gave due sends :
 added_here s j now t table asked gave due sends text new after h =
     let d = table.terminals j in
     let o = answer_at s j t d in
-    let is : sends ≡ (is_some o || (is_asked s t d && has_text_in (s.gens j) (sent_from s.mixer d))) = h.sends_is ∙ (λ r. h.given r || (h.asked_is r && h.due_is r)) in
+    let is : sends ≡ (is_some o || (is_asked s t d && has_text_in (s.generations j) (sent_from s.mixer d))) = h.sends_is ∙ (λ r. h.given r || (h.asked_is r && h.due_is r)) in
     subst (λ (b : Bool). Added s t d.past (turned_here s j now t table).past text b) (sym is)
-    (subst (λ (x : List ℕ). Added s t d.past (turned_here s j now t table).past x (is_some o || (is_asked s t d && has_text_in (s.gens j) (sent_from s.mixer d)))) (sym h.text_is) (added s j now t d o))
+    (subst (λ (x : List ℕ). Added s t d.past (turned_here s j now t table).past x (is_some o || (is_asked s t d && has_text_in (s.generations j) (sent_from s.mixer d)))) (sym h.text_is) (added s j now t d o))
 
 waits_stand : (s : Setup) (j now t : ℕ) (table : Table) (asked gave due sends : Bool) (text : List ℕ) (new : UnawareState) (after : List Waiting) → Told s j t table asked gave due sends text new after
-    → slots.StandsFor s after (with_terminal j (turned_here s j now t table) table)
+    → slots.SlotsStandFor s after (with_terminal j (turned_here s j now t table) table)
 waits_stand s j now t table asked gave due sends text new after h =
     let o = answer_at s j t (table.terminals j) in
     stands_same s after (answered j o table) (with_terminal j (turned_here s j now t table) table) h.slots_stand (taken_same o) (seats_same o) (waits_are s j now t table o)
@@ -175,22 +175,22 @@ none_left s j now t table asked gave due sends text new after h e i l =
 
 -- ---- the turn is over
 pub record IsOver (s : Setup) (j now t : ℕ) (table : Table) (o : UnawareState) (after : List Waiting) (source : Option ℕ) (text : List ℕ) : Type 0 where
-  pub stands : StandsFor s j o (turned_here s j now t table)
-  pub waits : slots.StandsFor s after (with_terminal j (turned_here s j now t table) table)
+  pub stands : UnawareStandsFor s j o (turned_here s j now t table)
+  pub waits : slots.SlotsStandFor s after (with_terminal j (turned_here s j now t table) table)
   pub puts : Puts false t (entry_here s j now t table) source text
 
 -- it stands for the terminal that was turned, where it does so of what was sent there
-stands_turned : (s : Setup) (j now t : ℕ) (table : Table) (o mid : UnawareState) (left free_at : ℕ) (asked gave due sends : Bool) (text : List ℕ) (after : List Waiting) → StandsFor s j o (table.terminals j)
+stands_turned : (s : Setup) (j now t : ℕ) (table : Table) (o mid : UnawareState) (left free_at : ℕ) (asked gave due sends : Bool) (text : List ℕ) (after : List Waiting) → UnawareStandsFor s j o (table.terminals j)
     → Steps s j t table o mid asked gave due sends text after → Told s j t table asked gave due sends text mid after → EachIsNext (stream s j) (sents (turned_here s j now t table).past)
-    → left ≡ repeats_left (s.gens j) (sent_from s.mixer (turned_here s j now t table)) → free_at ≡ free_after s.spacing (last_media (sent_from s.mixer (turned_here s j now t table)))
-    → AreBy s.mixer (sents (turned_here s j now t table).past) → StandsFor s j (record mid { left = left; free_at = free_at }) (turned_here s j now t table)
+    → left ≡ repeats_left (s.generations j) (sent_from s.mixer (turned_here s j now t table)) → free_at ≡ free_after s.spacing (last_media (sent_from s.mixer (turned_here s j now t table)))
+    → AreBy s.mixer (sents (turned_here s j now t table).past) → UnawareStandsFor s j (record mid { left = left; free_at = free_at }) (turned_here s j now t table)
 stands_turned s j now t table o mid left free_at asked gave due sends text after h w p each left_is free_is by = record {
   setup = h.setup;
   own = w.same.0 ∙ h.own;
   leg = h.leg;
   spacing = w.times.0 ∙ h.spacing;
-  composer = subst (λ (xs : List Asked). composers.StandsFor s mid.composer xs) (sym (asks_are s j now t (table.terminals j) (answer_at s j t (table.terminals j)))) p.composer;
-  gens = w.repeats.0 ∙ h.gens;
+  composer = subst (λ (xs : List Asked). composers.ComposerStandsFor s mid.composer xs) (sym (asks_are s j now t (table.terminals j) (answer_at s j t (table.terminals j)))) p.composer;
+  generations = w.repeats.0 ∙ h.generations;
   sent = each;
   left = left_is;
   free = free_is;
@@ -199,9 +199,9 @@ stands_turned s j now t table o mid left free_at asked gave due sends text after
 }
 
 -- a packet was sent
-stands_sent : (s : Setup) (j now t : ℕ) (table : Table) (o mid : UnawareState) (asked gave due sends : Bool) (text : List ℕ) (after : List Waiting) → StandsFor s j o (table.terminals j)
+stands_sent : (s : Setup) (j now t : ℕ) (table : Table) (o mid : UnawareState) (asked gave due sends : Bool) (text : List ℕ) (after : List Waiting) → UnawareStandsFor s j o (table.terminals j)
     → Steps s j t table o mid asked gave due sends text after → Told s j t table asked gave due sends text mid after → SendsNext (stream s j) (table.terminals j).past (turned_here s j now t table).past
-    → Added s t (table.terminals j).past (turned_here s j now t table).past text true → StandsFor s j (kept_sent t text mid) (turned_here s j now t table)
+    → Added s t (table.terminals j).past (turned_here s j now t table).past text true → UnawareStandsFor s j (kept_sent t text mid) (turned_here s j now t table)
 stands_sent s j now t table o mid asked gave due sends text after h w p next a =
     let d = table.terminals j in
     let e = sent_now s.mixer t text in
@@ -211,7 +211,7 @@ stands_sent s j now t table o mid asked gave due sends text after h w p next a =
     let mixed : e ∷ sent_from s.mixer d ≡ sent_from s.mixer (turned_here s j now t table) = sym own ∙ ap (λ (xs : List Sent). sent_of s.mixer xs) es in
     stands_turned s j now t table o mid (kept_sent t text mid).left (kept_sent t text mid).free_at asked gave due sends text after h w p
     (subst (λ (xs : List Sent). EachIsNext (stream s j) xs) es (subst (λ (x : Sent). IsNext (stream s j) (sents d.past) x) a.2 (next a.0 a.1), h.sent))
-    ((λ r. cond (has_text text) ((w.repeats.0 ∙ h.gens) r) ((w.repeats.1 ∙ h.left) r - 1)) ∙ ap (λ (xs : List Sent). repeats_left (s.gens j) xs) mixed)
+    ((λ r. cond (has_text text) ((w.repeats.0 ∙ h.generations) r) ((w.repeats.1 ∙ h.left) r - 1)) ∙ ap (λ (xs : List Sent). repeats_left (s.generations j) xs) mixed)
     (ap (λ (n : ℕ). t + n) (w.times.0 ∙ h.spacing) ∙ ap (λ (xs : List Sent). free_after s.spacing (last_media xs)) mixed)
     (subst (λ (xs : List Sent). AreBy s.mixer xs) es (refl, h.by_mixer))
 
@@ -222,22 +222,22 @@ sent_so s j now t table o mid new waiting called asked gave due sends text after
     let p = told s j t table o mid asked gave due sends text after h.stands w in
     let a = subst (λ (y : Bool). Added s t before (turned_here s j now t table).past text y) b (added_here s j now t table asked gave due sends text mid after p) in
     record {
-      stands = subst (λ (x : UnawareState). StandsFor s j x (turned_here s j now t table)) (sym n) (stands_sent s j now t table o mid asked gave due sends text after h.stands w p h.next a);
+      stands = subst (λ (x : UnawareState). UnawareStandsFor s j x (turned_here s j now t table)) (sym n) (stands_sent s j now t table o mid asked gave due sends text after h.stands w p h.next a);
       waits = waits_stand s j now t table asked gave due sends text mid after p;
       puts = subst (λ (xs : List TurnEntry). Puts false t (new_entry before xs) (Some 0) text) (sym a.1)
           (puts_one false t a.0 before text (ap (λ (x : Sent). x.text) (sym a.2)) (ap (λ (x : Sent). x.media) a.2));
     }
 
 -- none was
-stands_silent : (s : Setup) (j now t : ℕ) (table : Table) (o mid : UnawareState) (asked gave due sends : Bool) (text : List ℕ) (after : List Waiting) → StandsFor s j o (table.terminals j)
+stands_silent : (s : Setup) (j now t : ℕ) (table : Table) (o mid : UnawareState) (asked gave due sends : Bool) (text : List ℕ) (after : List Waiting) → UnawareStandsFor s j o (table.terminals j)
     → Steps s j t table o mid asked gave due sends text after → Told s j t table asked gave due sends text mid after
-    → Added s t (table.terminals j).past (turned_here s j now t table).past text false → StandsFor s j mid (turned_here s j now t table)
+    → Added s t (table.terminals j).past (turned_here s j now t table).past text false → UnawareStandsFor s j mid (turned_here s j now t table)
 stands_silent s j now t table o mid asked gave due sends text after h w p a =
     let d = table.terminals j in
     let es : sents d.past ≡ sents (turned_here s j now t table).past = sym (ap (λ (xs : List TurnEntry). sents xs) a) in
     let mixed : sent_from s.mixer d ≡ sent_from s.mixer (turned_here s j now t table) = ap (λ (xs : List Sent). sent_of s.mixer xs) es in
     stands_turned s j now t table o mid mid.left mid.free_at asked gave due sends text after h w p (subst (λ (xs : List Sent). EachIsNext (stream s j) xs) es h.sent)
-    (w.repeats.1 ∙ (h.left ∙ ap (λ (xs : List Sent). repeats_left (s.gens j) xs) mixed))
+    (w.repeats.1 ∙ (h.left ∙ ap (λ (xs : List Sent). repeats_left (s.generations j) xs) mixed))
     (w.times.1 ∙ (h.free ∙ ap (λ (xs : List Sent). free_after s.spacing (last_media xs)) mixed)) (subst (λ (xs : List Sent). AreBy s.mixer xs) es h.by_mixer)
 
 pub silent_so : (s : Setup) (j now t : ℕ) (table : Table) (o mid : UnawareState) (waiting : List Waiting) (called : List (List ℕ)) (asked gave due sends : Bool) (text : List ℕ) (after : List Waiting)

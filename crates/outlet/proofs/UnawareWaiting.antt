@@ -9,7 +9,7 @@ use Rattle.mixer_spec.specs.Composed.{waits_here}
 use Rattle.mixer_spec.specs.Setups.{Setup}
 use Rattle.mixer_spec.specs.Table.{Terminal, sents, sent_from, has_work, is_quiet}
 pub use Rattle.outlet.proofs.Below.{fails_at, all_more, no_text}
-use Rattle.outlet.specs.UnawareStanding.{AreBy, StandsFor, none_here}
+use Rattle.outlet.specs.UnawareStanding.{AreBy, UnawareStandsFor, none_here}
 use Rattle.outlet.specs.UnawareStates.{UnawareState}
 
 -- nothing was sent of another source
@@ -22,19 +22,19 @@ or_none true = refl
 or_none false = refl
 
 -- work of another leg is what waits of it
-pub work_is : (s : Setup) (j : ℕ) (o : UnawareState) (d : Terminal) (i : ℕ) → StandsFor s j o d → i < s.legs → has_work s j d i ≡ has_chunk (d.waits i)
+pub work_is : (s : Setup) (j : ℕ) (o : UnawareState) (d : Terminal) (i : ℕ) → UnawareStandsFor s j o d → i < s.legs → has_work s j d i ≡ has_chunk (d.waits i)
 work_is s j o d i h l =
-    ap (λ (es : List Sent). has_chunk (d.waits i) || has_text_in (s.gens j) es) (none_of s.mixer (s.ssrc i) (sents d.past) h.by_mixer (h.setup.mixer_differs i l))
-    ∙ (ap (λ (b : Bool). has_chunk (d.waits i) || b) (no_text (s.gens j)) ∙ or_none (has_chunk (d.waits i)))
+    ap (λ (es : List Sent). has_chunk (d.waits i) || has_text_in (s.generations j) es) (none_of s.mixer (s.ssrc i) (sents d.past) h.by_mixer (h.setup.mixer_differs i l))
+    ∙ (ap (λ (b : Bool). has_chunk (d.waits i) || b) (no_text (s.generations j)) ∙ or_none (has_chunk (d.waits i)))
 
 pub all_same : (p q : ℕ → Bool) (n : ℕ) → ((i : ℕ) → i < n → p i ≡ q i) → all_below p n ≡ all_below q n
 all_same p q zero f = refl
 all_same p q (suc n) f = rw (f n (omega arith), all_same p q n (λ i l. f i (omega arith))) refl
 
-pub quiet_is : (s : Setup) (j : ℕ) (o : UnawareState) (d : Terminal) → StandsFor s j o d
-    → is_quiet s j d ≡ (not (has_text_in (s.gens j) (sent_from s.mixer d)) && all_below (none_here j d) s.legs)
+pub quiet_is : (s : Setup) (j : ℕ) (o : UnawareState) (d : Terminal) → UnawareStandsFor s j o d
+    → is_quiet s j d ≡ (not (has_text_in (s.generations j) (sent_from s.mixer d)) && all_below (none_here j d) s.legs)
 quiet_is s j o d h =
-    ap (λ (b : Bool). not (has_text_in (s.gens j) (sent_from s.mixer d)) && b)
+    ap (λ (b : Bool). not (has_text_in (s.generations j) (sent_from s.mixer d)) && b)
     (all_same (λ i. (i == j) || not (has_work s j d i)) (none_here j d) s.legs (λ i l. ap (λ (b : Bool). (i == j) || not b) (work_is s j o d i h l)))
 
 -- nothing waits of a leg of which nothing is here

@@ -12,7 +12,7 @@ use Rattle.outlet.specs.AwareTurns.{IsIn, IsTurned}
 -- The outlet stands for the terminal of its leg in this table, the slots for the table, and the seating for its seats.
 pub record IsSeatedIn (s : Setup) (o : AwareState) (places : State) (now : List Waiting) (table : Table) : Type 0 where
   pub there : IsIn s o now table
-  pub seats_stand : seatings.StandsFor s places table.seats
+  pub seats_stand : seatings.SeatingStandsFor s places table.seats
 
 -- of each such table, with the terminal
 abbrev pub AtSeats : AwareState → State → List Waiting → (Setup → Table → Terminal → Type 0) → Type 0

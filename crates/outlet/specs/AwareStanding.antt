@@ -12,25 +12,25 @@ abbrev pub NoneDue : Setup → ℕ → ℕ → Terminal → Type 0
 NoneDue s j t d = (i : ℕ) → i < s.legs → is_due s j t d i ≡ false
 
 -- This was sent to the aware terminal j.
-pub record StandsFor (s : Setup) (j : ℕ) (o : AwareState) (d : Terminal) : Type 0 where
+pub record AwareStandsFor (s : Setup) (j : ℕ) (o : AwareState) (d : Terminal) : Type 0 where
   pub setup : IsSetup s
   pub places : s.places ≡ PLACES
   pub own : o.own ≡ j
   pub leg : j < s.legs
   pub spacing : o.spacing ≡ s.spacing
-  pub gens : o.gens ≡ s.gens j
+  pub generations : o.generations ≡ s.generations j
   pub sent : EachIsNext (stream s j) (sents d.past)
   pub legs : length o.free_at ≡ s.legs
-  pub left : (i : ℕ) → i < s.legs → slice_index o.left i ≡ repeats_left (s.gens j) (sent_from (s.ssrc i) d)
+  pub left : (i : ℕ) → i < s.legs → slice_index o.left i ≡ repeats_left (s.generations j) (sent_from (s.ssrc i) d)
   pub free : (i : ℕ) → i < s.legs → slice_index o.free_at i ≡ free_after s.spacing (last_media (sent_from (s.ssrc i) d))
   pub next : o.next ≡ round_start d.past
   pub none_mixed : sent_from s.mixer d ≡ []
   pub calm : (t : ℕ) → t < o.calm → NoneDue s j t d
 
 -- An outlet of the terminal j of so many legs, which repeats so often and waits so long, is one of this setup.
-pub record IsMadeFor (s : Setup) (gens legs j spacing : ℕ) : Type 0 where
+pub record IsMadeFor (s : Setup) (generations legs j spacing : ℕ) : Type 0 where
   pub setup : IsSetup s
   pub places : s.places ≡ PLACES
-  pub gens_is : gens ≡ s.gens j
+  pub generations_is : generations ≡ s.generations j
   pub legs_is : legs ≡ s.legs
   pub spacing_is : spacing ≡ s.spacing

@@ -6,7 +6,7 @@ use Rattle.std.specs.Prelude.{◌≡◌, ℕ, List, length}
 pub record AwareState : Type 0 where
   pub own : ℕ
   pub spacing : ℕ
-  pub gens : ℕ
+  pub generations : ℕ
   pub left : List ℕ
   pub free_at : List ℕ
   pub next : ℕ

@@ -11,17 +11,17 @@ use Rattle.slot_table.specs.Lanes.{Waiting}
 use Rattle.slot_table.specs.Standing as slots
 use Rattle.outlet.specs.Turns.{Puts, new_entry, with_terminal}
 use Rattle.outlet.specs.AwareStates.{AwareState}
-use Rattle.outlet.specs.AwareStanding.{StandsFor}
+use Rattle.outlet.specs.AwareStanding.{AwareStandsFor}
 use Rattle.rtt_base.specs.declared.limits.TheConstants.{MOST_TEXT_OCTETS}
 
 -- of each terminal for which the outlet stands
 abbrev pub AtTerminal : AwareState → (Setup → Terminal → Type 0) → Type 0
-AtTerminal o P = (s : Setup) (d : Terminal) → StandsFor s o.own o d → P s d
+AtTerminal o P = (s : Setup) (d : Terminal) → AwareStandsFor s o.own o d → P s d
 
 -- The outlet stands for the terminal of its leg in this table, and the slots for the table.
 pub record IsIn (s : Setup) (o : AwareState) (now : List Waiting) (table : Table) : Type 0 where
-  pub outlet : StandsFor s o.own o (table.terminals o.own)
-  pub slots_stand : slots.StandsFor s now table
+  pub scheduler : AwareStandsFor s o.own o (table.terminals o.own)
+  pub slots_stand : slots.SlotsStandFor s now table
 
 -- of each such table, with the terminal
 abbrev pub AtTable : AwareState → List Waiting → (Setup → Table → Terminal → Type 0) → Type 0
@@ -42,8 +42,8 @@ sent_of_leg s media d leg = record { source = s.ssrc leg; media = media; text = 
 -- A turn of the terminal j with the media time t is over, which came to d: these are its outlet and the slots then, and of
 -- which source what text is sent, if anything is.
 pub record IsTurned (s : Setup) (table : Table) (j : ℕ) (d : Terminal) (t : ℕ) (o : AwareState) (now : List Waiting) (source : Option ℕ) (text : List ℕ) : Type 0 where
-  pub outlet : StandsFor s j o d
-  pub slots_stand : slots.StandsFor s now (with_terminal j d table)
+  pub scheduler : AwareStandsFor s j o d
+  pub slots_stand : slots.SlotsStandFor s now (with_terminal j d table)
   pub puts : Puts true t (new_entry (table.terminals j).past d.past) source text
 
 -- text of the leg that holds the place is sent at this media time
@@ -55,7 +55,7 @@ ServesLeg o waiting place leg media o' waiting' text = AtTable o waiting (λ s t
 -- it stands for the same terminal, whatever waits there
 abbrev pub StandsWoken : AwareState → AwareState → Type 0
 StandsWoken old new = AtTerminal old (λ s d. (waits : ℕ → List Chunk)
-    → StandsFor s old.own new (record { past = d.past; asks = d.asks; waits = waits }))
+    → AwareStandsFor s old.own new (record { past = d.past; asks = d.asks; waits = waits }))
 
 -- whoever holds which place, no turn before this media time serves anybody
 abbrev pub IsCalmBefore : ℕ → AwareState → Type 0
@@ -63,7 +63,7 @@ IsCalmBefore calm o = AtTerminal o (λ s d. (seats : Seats) (t : ℕ) → t < ca
 
 -- how many packets of the leg are still to repeat its last text, behind one with this text
 abbrev pub left_behind : ℕ → List ℕ → AwareState → ℕ
-left_behind leg text o = if has_text text then o.gens else slice_index o.left leg - 1
+left_behind leg text o = if has_text text then o.generations else slice_index o.left leg - 1
 
 -- the outlet behind a packet of the leg that holds the place, with this text
 abbrev pub kept_served : ℕ → ℕ → ℕ → List ℕ → AwareState → AwareState

@@ -7,4 +7,4 @@ pub mod AwareRounds
 pub mod UnawareStates
 pub mod UnawareInsides
 pub mod UnawareStanding
-pub mod Outlets
+pub mod Schedulers

@@ -35,5 +35,5 @@ free_after spacing (Some m) = m + spacing
 
 -- how many packets of a source are still to repeat its last text, where this was sent of it, newest first
 abbrev pub repeats_left : ℕ → List Sent → ℕ
-repeats_left gens [] = 0
-repeats_left gens (e ∷ sent) = if has_text e.text then gens else repeats_left gens sent - 1
+repeats_left generations [] = 0
+repeats_left generations (e ∷ sent) = if has_text e.text then generations else repeats_left generations sent - 1

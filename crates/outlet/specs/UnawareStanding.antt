@@ -24,30 +24,30 @@ AreBy source [] = Unit {0}
 AreBy source (e ∷ es) = (e.source ≡ source) × AreBy source es
 
 -- This was sent to the terminal j, and its composer was asked so.
-pub record StandsFor (s : Setup) (j : ℕ) (o : UnawareState) (d : Terminal) : Type 0 where
+pub record UnawareStandsFor (s : Setup) (j : ℕ) (o : UnawareState) (d : Terminal) : Type 0 where
   pub setup : IsSetup s
   pub own : own_of o ≡ j
   pub leg : j < s.legs
   pub spacing : o.spacing ≡ s.spacing
-  pub composer : composers.StandsFor s o.composer d.asks
-  pub gens : o.gens ≡ s.gens j
+  pub composer : composers.ComposerStandsFor s o.composer d.asks
+  pub generations : o.generations ≡ s.generations j
   pub sent : EachIsNext (stream s j) (sents d.past)
-  pub left : o.left ≡ repeats_left (s.gens j) (sent_from s.mixer d)
+  pub left : o.left ≡ repeats_left (s.generations j) (sent_from s.mixer d)
   pub free : o.free_at ≡ free_after s.spacing (last_media (sent_from s.mixer d))
   pub by_mixer : AreBy s.mixer (sents d.past)
   pub rests : o.none_waits ≡ true → (i : ℕ) → i < s.legs → waits_here j d.waits i ≡ false
 
 -- Made so, it stands for a terminal of this leg to which nothing was sent.
-abbrev pub StandsNew : (gens legs own spacing : ℕ) → Option ℕ → UnawareState → Type 0
-StandsNew gens legs own spacing relabel o =
-    (s : Setup) → IsSetup s → s.legs ≡ legs → s.spacing ≡ spacing → s.gens own ≡ gens → s.relabel ≡ relabel
-    → StandsFor s own o (empty.terminals own)
+abbrev pub StandsNew : (generations legs own spacing : ℕ) → Option ℕ → UnawareState → Type 0
+StandsNew generations legs own spacing relabel o =
+    (s : Setup) → IsSetup s → s.legs ≡ legs → s.spacing ≡ spacing → s.generations own ≡ generations → s.relabel ≡ relabel
+    → UnawareStandsFor s own o (empty.terminals own)
 
 -- it stands for the same terminal, whatever waits there
 abbrev pub StandsWoken : UnawareState → UnawareState → Type 0
 StandsWoken old new =
     (s : Setup) (j : ℕ) (d : Terminal) (waits : ℕ → List Chunk)
-    → StandsFor s j old d → StandsFor s j new (record d { waits = waits })
+    → UnawareStandsFor s j old d → UnawareStandsFor s j new (record d { waits = waits })
 
 -- ---- a turn
 -- the terminal j after a turn at the moment `now`, with the media time t
@@ -61,8 +61,8 @@ entry_here s j now t table = new_entry (table.terminals j).past (turned_here s j
 -- Such a turn at the terminal j, for which the outlet stands: the slots have what waits there, which are texts, these
 -- are the names, and what is sent may be sent.
 pub record IsTurn (s : Setup) (j : ℕ) (table : Table) (o : UnawareState) (waiting : List Waiting) (called : List (List ℕ)) (now t : ℕ) : Type 0 where
-  pub stands : StandsFor s j o (table.terminals j)
-  pub slots_stand : slots.StandsFor s waiting table
+  pub stands : UnawareStandsFor s j o (table.terminals j)
+  pub slots_stand : slots.SlotsStandFor s waiting table
   pub texts : (i : ℕ) → AreTexts ((table.terminals j).waits i)
   pub names : (i : ℕ) → i < s.legs → name_at called i ≡ s.name i
   pub next : SendsNext (stream s j) (table.terminals j).past (turned_here s j now t table).past
@@ -73,7 +73,7 @@ OfTurns o waiting called t P = (s : Setup) (j : ℕ) (table : Table) (now : ℕ)
 
 -- of each terminal for which it stands, where the slots have what waits
 abbrev pub OfTerminals : UnawareState → List Waiting → (Setup → ℕ → Terminal → Type 0) → Type 0
-OfTerminals o waiting P = (s : Setup) (j : ℕ) (table : Table) → StandsFor s j o (table.terminals j) → slots.StandsFor s waiting table → P s j (table.terminals j)
+OfTerminals o waiting P = (s : Setup) (j : ℕ) (table : Table) → UnawareStandsFor s j o (table.terminals j) → slots.SlotsStandFor s waiting table → P s j (table.terminals j)
 
 -- ---- what waits
 -- nothing of the leg waits at the terminal, or it is its own
@@ -86,8 +86,8 @@ none_here own d i = (i == own) || not (has_chunk (d.waits i))
 pub record Composes (s : Setup) (table : Table) (c : ComposerState) (t : ℕ) (due : Bool) (asks : List Asked) (gave : Bool) (text : List ℕ) (new : UnawareState) (after : List Waiting) : Type 0 where
   pub given : gave ≡ is_some (given_now s table c t due asks)
   pub text_is : text ≡ text_given (given_now s table c t due asks)
-  pub composer : composers.StandsFor s new.composer (asked_now s table c t due asks)
-  pub slots_stand : slots.StandsFor s after (answered (own_of_composer c) (given_now s table c t due asks) table)
+  pub composer : composers.ComposerStandsFor s new.composer (asked_now s table c t due asks)
+  pub slots_stand : slots.SlotsStandFor s after (answered (own_of_composer c) (given_now s table c t due asks) table)
   pub rests : new.none_waits ≡ true → NoneWaits s (answered (own_of_composer c) (given_now s table c t due asks) table) c
 
 -- of all that it may have been asked, where nothing waits if that is known
@@ -98,7 +98,7 @@ OfAsks o waiting called P = (s : Setup) (table : Table) (asks : List Asked) → 
 -- ---- a text that is sent
 -- how many packets are still to repeat the last text, behind one with this text
 abbrev pub left_behind : UnawareState → List ℕ → ℕ
-left_behind o text = if has_text text then o.gens else o.left - 1
+left_behind o text = if has_text text then o.generations else o.left - 1
 
 -- the outlet behind a packet with this text at this media time
 abbrev pub kept_sent : ℕ → List ℕ → UnawareState → UnawareState

@@ -7,7 +7,7 @@ use Rattle.unaware_view.specs.Standing as composers
 -- packet may be sent again, and whether it is known that nothing of another leg waits
 pub record UnawareState : Type 0 where
   pub composer : ComposerState
-  pub gens : ℕ
+  pub generations : ℕ
   pub left : ℕ
   pub spacing : ℕ
   pub free_at : ℕ

@@ -3,32 +3,32 @@ ghost use Rattle.std.specs.Prelude.{◌≡◌, ◌-◌, ◌<◌, ◌≤◌, ◌|
 ghost use Rattle.mixer_spec.specs.Rounds.{first_from};
 ghost use Rattle.mixer_spec.specs.Setups.{Setup};
 ghost use Rattle.mixer_spec.specs.Table.{empty, has_work, is_due, is_due_at, is_quiet, last_media, sent_from, served};
-ghost use Rattle.slot_table.specs.Standing.{Tells, Leads};
+ghost use Rattle.slot_table.specs.Standing.{SlotsTell, LeadsSlots};
 ghost use Rattle.slot_table.specs.Words.{fetched};
 ghost use Rattle.outlet.specs.AwareTurns.{AtTerminal, AtTable, IsCalmBefore, ServesLeg, StandsWoken, is_free, kept_served, left_behind, text_of_leg};
 ghost use Rattle.outlet.specs.Turns.{free_after};
 ghost use Rattle.outlet.specs.AwareStanding.{NoneDue};
 ghost use Rattle.outlet.specs.AwareStates.{AwareState, SameLeg};
-ghost use Rattle.outlet.specs.AwareInsides.{state_of, IsSound};
+ghost use Rattle.outlet.specs.AwareInsides.{state_of, AwareIsSound};
 ghost use Rattle.rtt_base.specs.declared.limits.TheConstants.{END_OF_MOMENTS};
 
 use mixer_spec::limits::PLACES;
 use rtt_base::limits::MOST_TEXT_OCTETS;
 use rtt_base::{NoMemory, Text};
-use seating::Seating;
+use seating::SeatingPlan;
 use slot_table::Slots;
 use std::alloc::Global;
 use std::marker::Model;
 
 /// What a mixer keeps of a terminal that tells sources apart (RFC 9071), to which each packet is of one source.
 #[derive(Drop)]
-pub struct AwareOutlet {
+pub struct AwareScheduler {
     /// The number of the terminal's own leg.
     own: usize,
     /// The least media time, in milliseconds, between two packets of a source.
     spacing: u32,
     /// In how many packets a text is repeated.
-    gens: u8,
+    generations: u8,
     /// For each leg how many packets are still to repeat its last text.
     left: Vec<u8>,
     /// For each leg the media time from which it may be served again.
@@ -39,50 +39,50 @@ pub struct AwareOutlet {
     calm: u64,
 }
 
-impl Model for AwareOutlet {
+impl Model for AwareScheduler {
     ghost Value = { AwareState };
 
     ghost view = { state_of };
 
-    ghost invariant = { IsSound };
+    ghost invariant = { AwareIsSound };
 }
 
 /// Takes what fits into one packet of the text of the leg that waits at the terminal, in place of what `text` had.
 fn fetch(terminal: usize, leg: usize, slots: &mut Slots, text: &mut Text)
     requires { (terminal < length slots.old) × (leg < length slots.old) }
     ensures legs { length slots.new ≡ length slots.old }
-    ensures text { Tells slots.old (λ s table. text.new ≡ text_of_leg (table.terminals terminal) leg) }
-    ensures stands { Leads slots.old slots.new (fetched terminal leg MOST_TEXT_OCTETS) }
+    ensures text { SlotsTell slots.old (λ s table. text.new ≡ text_of_leg (table.terminals terminal) leg) }
+    ensures stands { LeadsSlots slots.old slots.new (fetched terminal leg MOST_TEXT_OCTETS) }
 {
     text.clear();
     slots.take(terminal, leg, MOST_TEXT_OCTETS, text);
 }
 
-impl AwareOutlet {
-    ghost use Rattle.outlet.specs.AwareStanding.{StandsFor, IsMadeFor};
+impl AwareScheduler {
+    ghost use Rattle.outlet.specs.AwareStanding.{AwareStandsFor, IsMadeFor};
     ghost use Rattle.outlet.specs.AwareRounds.{AtSeats, Serves, Turns};
 
     /// The outlet of the terminal of this leg, to which nothing was sent, where there are so many legs. A text is repeated in
     /// so many packets. It takes all memory that it ever needs.
     pub fn new(
         alloc: Global,
-        gens: u8,
+        generations: u8,
         legs: usize,
         own: usize,
         spacing: u32,
-    ) -> Result<AwareOutlet, NoMemory>
+    ) -> Result<AwareScheduler, NoMemory>
         requires own { own < legs }
-        ensures stands { IfOk result (λ o. (s : Setup) → IsMadeFor s gens legs own spacing
-            → StandsFor s own o (empty.terminals own)) }
+        ensures stands { IfOk result (λ o. (s : Setup) → IsMadeFor s generations legs own spacing
+            → AwareStandsFor s own o (empty.terminals own)) }
         ensures own { IfOk result (λ o. o.own ≡ own) }
         ensures legs { IfOk result (λ o. length o.free_at ≡ legs) }
     {
         let left = vec![in alloc; 0; legs]?;
         let free_at = vec![in alloc; 0; legs]?;
-        Ok(AwareOutlet {
+        Ok(AwareScheduler {
             own,
             spacing,
-            gens,
+            generations,
             left,
             free_at,
             next: 0,
@@ -169,7 +169,7 @@ impl AwareOutlet {
     fn rest(&mut self, slots: &Slots)
         requires { length slots.now ≡ length self.old.free_at }
         ensures same { SameLeg self.old self.new }
-        ensures stands { AtTable self.old slots.now (λ s table d. StandsFor s self.old.own self.new d) }
+        ensures stands { AtTable self.old slots.now (λ s table d. AwareStandsFor s self.old.own self.new d) }
     {
         let calm = self.any_due_from(slots);
         self.calm = calm;
@@ -185,7 +185,7 @@ impl AwareOutlet {
     }
 
     /// Whether the leg at the place is due.
-    fn is_due_at(&self, place: usize, media: u64, seating: &Seating, slots: &Slots) -> bool
+    fn is_due_at(&self, place: usize, media: u64, seating: &SeatingPlan, slots: &Slots) -> bool
         requires place { place < PLACES }
         requires slots { length slots.now ≡ length self.now.free_at }
         requires seating { length seating.now.legs ≡ length self.now.free_at }
@@ -204,7 +204,7 @@ impl AwareOutlet {
         low: usize,
         high: usize,
         media: u64,
-        seating: &Seating,
+        seating: &SeatingPlan,
         slots: &Slots,
     ) -> Option<usize>
         requires order { low ≤ high }
@@ -226,7 +226,7 @@ impl AwareOutlet {
 
     /// The place that a turn at this media time serves: counted round from the one after the place served last. Where all
     /// type that is mostly the first.
-    fn served(&self, media: u64, seating: &Seating, slots: &Slots) -> Option<usize>
+    fn served(&self, media: u64, seating: &SeatingPlan, slots: &Slots) -> Option<usize>
         requires slots { length slots.now ≡ length self.now.free_at }
         requires seating { length seating.now.legs ≡ length self.now.free_at }
         ensures served { AtSeats self.now seating.now slots.now (λ s table d.
@@ -243,7 +243,7 @@ impl AwareOutlet {
 
     /// `served`, wherever that place is.
     #[inline(never)]
-    fn served_round(&self, media: u64, seating: &Seating, slots: &Slots) -> Option<usize>
+    fn served_round(&self, media: u64, seating: &SeatingPlan, slots: &Slots) -> Option<usize>
         requires slots { length slots.now ≡ length self.now.free_at }
         requires seating { length seating.now.legs ≡ length self.now.free_at }
         ensures served { AtSeats self.now seating.now slots.now (λ s table d.
@@ -285,7 +285,7 @@ impl AwareOutlet {
         if text.is_empty() {
             self.left[leg].saturating_sub(1)
         } else {
-            self.gens
+            self.generations
         }
     }
 
@@ -308,7 +308,7 @@ impl AwareOutlet {
         &mut self,
         place: usize,
         media: u64,
-        seating: &Seating,
+        seating: &SeatingPlan,
         slots: &mut Slots,
         text: &mut Text,
     ) -> Option<usize>
@@ -332,7 +332,7 @@ impl AwareOutlet {
     pub fn turn(
         &mut self,
         media: u64,
-        seating: &Seating,
+        seating: &SeatingPlan,
         slots: &mut Slots,
         text: &mut Text,
     ) -> Option<usize>

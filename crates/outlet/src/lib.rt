@@ -2,9 +2,9 @@
 #![tactic(auto)]
 
 mod aware;
-mod outlets;
+mod schedulers;
 mod unaware;
 
-pub use aware::AwareOutlet;
-pub use outlets::Outlet;
-pub use unaware::UnawareOutlet;
+pub use aware::AwareScheduler;
+pub use schedulers::TerminalScheduler;
+pub use unaware::UnawareScheduler;

@@ -2,11 +2,11 @@
 ghost use Rattle.std.specs.Prelude.{◌≡◌, ◌+◌, ◌<◌, ◌≤◌, ◌&&◌, ◌||◌, [], false, length, IfOk, IfSome, nat_le};
 ghost use Rattle.mixer_spec.specs.Rounds.{all_below};
 ghost use Rattle.mixer_spec.specs.Table.{has_work, is_quiet};
-ghost use Rattle.slot_table.specs.Standing.{StandsFor as SlotsStandFor, Tells};
+ghost use Rattle.slot_table.specs.Standing.{SlotsStandFor, SlotsTell};
 ghost use Rattle.outlet.specs.Turns.{Puts, with_terminal};
 ghost use Rattle.outlet.specs.UnawareStates.{SameLeg, UnawareState, legs_of, next_turn, own_of};
-ghost use Rattle.outlet.specs.UnawareInsides.{IsSound, state_of};
-ghost use Rattle.outlet.specs.UnawareStanding.{Composes, OfAsks, OfTerminals, OfTurns, StandsFor, StandsNew, StandsWoken, entry_here, kept_sent, left_behind, none_here, turned_here};
+ghost use Rattle.outlet.specs.UnawareInsides.{UnawareIsSound, state_of};
+ghost use Rattle.outlet.specs.UnawareStanding.{Composes, OfAsks, OfTerminals, OfTurns, UnawareStandsFor, StandsNew, StandsWoken, entry_here, kept_sent, left_behind, none_here, turned_here};
 ghost use Rattle.rtt_base.specs.declared.limits.TheConstants.{END_OF_MOMENTS};
 
 use rtt_base::{Name, NoMemory, Text};
@@ -17,7 +17,7 @@ use unaware_view::Composer;
 
 /// What is kept of a terminal that is sent one text of all other legs under the mixer's SSRC.
 #[derive(Drop)]
-pub struct UnawareOutlet {
+pub struct UnawareScheduler {
     /// The terminal's leg.
     own: usize,
     legs: usize,
@@ -25,7 +25,7 @@ pub struct UnawareOutlet {
     spacing: u32,
     composer: Composer,
     /// In how many packets a text is repeated.
-    gens: u8,
+    generations: u8,
     /// How many packets are still to repeat the last text.
     left: u8,
     /// From when a packet may be sent again, in milliseconds of media time.
@@ -34,39 +34,39 @@ pub struct UnawareOutlet {
     none_waits: bool,
 }
 
-impl Model for UnawareOutlet {
+impl Model for UnawareScheduler {
     ghost Value = { UnawareState };
 
     ghost view = { state_of };
 
-    ghost invariant = { IsSound };
+    ghost invariant = { UnawareIsSound };
 }
 
-impl UnawareOutlet {
+impl UnawareScheduler {
     /// The outlet of the terminal of the leg `own`, where there are so many legs, to which nothing was sent yet. A text is
     /// repeated in so many packets, and a run that goes on is labelled again after `relabel` milliseconds without text, if at
     /// all. It takes all memory that it ever needs.
     pub fn new(
         alloc: Global,
-        gens: u8,
+        generations: u8,
         legs: usize,
         own: usize,
         spacing: u32,
         relabel: Option<u32>,
-    ) -> Result<UnawareOutlet, NoMemory>
+    ) -> Result<UnawareScheduler, NoMemory>
         requires own { own < legs }
-        ensures stands { IfOk result (λ outlet. StandsNew gens legs own spacing relabel outlet) }
-        ensures own { IfOk result (λ outlet. own_of outlet ≡ own) }
-        ensures legs { IfOk result (λ outlet. legs_of outlet ≡ legs) }
-        ensures next { IfOk result (λ outlet. next_turn outlet ≡ 0) }
+        ensures stands { IfOk result (λ scheduler. StandsNew generations legs own spacing relabel scheduler) }
+        ensures own { IfOk result (λ scheduler. own_of scheduler ≡ own) }
+        ensures legs { IfOk result (λ scheduler. legs_of scheduler ≡ legs) }
+        ensures next { IfOk result (λ scheduler. next_turn scheduler ≡ 0) }
     {
         let composer = Composer::new(alloc, legs, own, relabel)?;
-        Ok(UnawareOutlet {
+        Ok(UnawareScheduler {
             own,
             legs,
             spacing,
             composer,
-            gens,
+            generations,
             left: 0,
             free_at: 0,
             none_waits: true,
@@ -108,7 +108,7 @@ impl UnawareOutlet {
         requires rises { next_turn self.old ≤ media }
         requires media { media < END_OF_MOMENTS }
         ensures stands { OfTurns self.old slots.old names.now media (λ s j table now.
-            StandsFor s j self.new (turned_here s j now media table)) }
+            UnawareStandsFor s j self.new (turned_here s j now media table)) }
         ensures waits { OfTurns self.old slots.old names.now media (λ s j table now.
             SlotsStandFor s slots.new (with_terminal j (turned_here s j now media table) table)) }
         ensures puts { OfTurns self.old slots.old names.now media (λ s j table now.
@@ -146,7 +146,7 @@ impl UnawareOutlet {
         ensures slots { length slots.new ≡ length slots.old }
         ensures same { SameLeg self.old self.new }
         ensures next { next_turn self.new ≡ media + 1 }
-        ensures repeats { (self.new.gens ≡ self.old.gens) × (self.new.left ≡ self.old.left) }
+        ensures repeats { (self.new.generations ≡ self.old.generations) × (self.new.left ≡ self.old.left) }
         ensures times { (self.new.spacing ≡ self.old.spacing) × (self.new.free_at ≡ self.old.free_at) }
     {
         if self.none_waits {
@@ -176,7 +176,7 @@ impl UnawareOutlet {
         if text.is_empty() {
             self.left.saturating_sub(1)
         } else {
-            self.gens
+            self.generations
         }
     }
 
@@ -201,7 +201,7 @@ fn has_come(moment: u64, media: u64) -> bool
 /// Whether nothing of the leg waits at the terminal, or it is its own.
 fn none_here(own: usize, source: usize, slots: &Slots) -> bool
     requires { (own < length slots.now) × (source < length slots.now) }
-    ensures { Tells slots.now (λ s table. result ≡ none_here own (table.terminals own) source) }
+    ensures { SlotsTell slots.now (λ s table. result ≡ none_here own (table.terminals own) source) }
 {
     if source == own {
         return true;
@@ -213,7 +213,7 @@ fn none_here(own: usize, source: usize, slots: &Slots) -> bool
 fn is_empty(own: usize, slots: &Slots, legs: usize) -> bool
     requires own { own < length slots.now }
     requires legs { length slots.now ≡ legs }
-    ensures { Tells slots.now (λ s table. result ≡ all_below (none_here own (table.terminals own)) legs) }
+    ensures { SlotsTell slots.now (λ s table. result ≡ all_below (none_here own (table.terminals own)) legs) }
 {
     for source in 0..legs {
         if !none_here(own, source, slots) {

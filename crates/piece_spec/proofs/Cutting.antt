@@ -86,7 +86,7 @@ pub whole_law : (n : ℕ) → 4 ≤ n → IsCutting (pieces n)
 whole_law n p = record {
   whole = λ text. within_whole (length text) n text;
   some = λ text. within_some (length text) n text (omega arith);
-  mark = marker_stays n (omega arith);
+  marker_whole = marker_stays n (omega arith);
 }
 
 -- ---- none is too long

@@ -4,7 +4,7 @@ use Rattle.std.specs.Prelude.{◌^◌}
 use Rattle.std.proofs.Math.Nat.{mul-le-mul_left}
 use Rattle.stream_spec.specs.Hearing.{marker}
 use Rattle.stream_spec.specs.Carries.{Carries}
-use Rattle.stream_spec.specs.Kept.{Item, Mark, Block, texts}
+use Rattle.stream_spec.specs.Kept.{Item, Marker, Block, texts}
 use Rattle.stream_spec.specs.Ready.{Chunk, ReadyRises, chunks as heard_chunks}
 use Rattle.stream_spec.proofs.ChunkTexts.{chunk_texts}
 use Rattle.stream_spec.proofs.Walks.{l1}
@@ -49,7 +49,7 @@ chunks_say cutting (c ∷ cs) =
 
 items_say : (cutting : List ℕ → List (List ℕ)) → IsCutting cutting → (items : List Item) → texts (in_pieces cutting items) ≡ texts_cut cutting (texts items)
 items_say cutting c [] = refl
-items_say cutting c (Mark ∷ items) = ap (λ ts. marker ∷ ts) (items_say cutting c items) ∙ ap (λ ts. ts ++ texts_cut cutting (texts items)) (sym c.mark)
+items_say cutting c (Marker ∷ items) = ap (λ ts. marker ∷ ts) (items_say cutting c items) ∙ ap (λ ts. ts ++ texts_cut cutting (texts items)) (sym c.marker_whole)
 items_say cutting c (Block x ∷ items) =
     items_append (pieces_of cutting x) (in_pieces cutting items)
     ∙ (ap (λ ts. ts ++ texts (in_pieces cutting items)) (said_from x 0 (cutting x.text)) ∙ ap (λ ts. cutting x.text ++ ts) (items_say cutting c items))

@@ -89,7 +89,7 @@ sent media n = record { source = 1001; media = media; text = times n (codes "A")
 
 -- what is sent to Bob, who is sent two generations, with 1200 octets a packet
 abbrev to_bob : History
-to_bob = sent_history (record { ssrc = 9000; first = 100; base = 5000; gens = 2 })
+to_bob = sent_history (record { ssrc = 9000; first = 100; base = 5000; generations = 2 })
     (sent 1500 0 ∷ sent 1200 0 ∷ sent 900 348 ∷ sent 600 384 ∷ sent 300 384 ∷ sent 0 384 ∷ [])
 
 within : map (octets to_bob) (placed to_bob) ≡ 409 ∷ 793 ∷ 1177 ∷ 1141 ∷ 757 ∷ 373 ∷ []
@@ -97,7 +97,7 @@ within = refl
 
 -- with 548 octets a packet and three generations: one piece in each
 abbrev to_cy : History
-to_cy = sent_history (record { ssrc = 9000; first = 0; base = 0; gens = 3 })
+to_cy = sent_history (record { ssrc = 9000; first = 0; base = 0; generations = 3 })
     (sent 4200 0 ∷ sent 3900 0 ∷ sent 3600 0 ∷ sent 3300 92 ∷ sent 3000 128 ∷ sent 2700 128 ∷ sent 2400 128 ∷ sent 2100 128 ∷ sent 1800 128 ∷ sent 1500 128
     ∷ sent 1200 128 ∷ sent 900 128 ∷ sent 600 128 ∷ sent 300 128 ∷ sent 0 128 ∷ [])
 
@@ -105,7 +105,7 @@ within_small : map (octets to_cy) (placed to_cy) ≡ 157 ∷ 285 ∷ 413 ∷ 541
 within_small = refl
 
 abbrev block : List ℕ → Placed
-block text = record { place = 0; index = 0; source = 1001; media = 0; text = text; gens = 2; reach = 0 }
+block text = record { place = 0; index = 0; source = 1001; media = 0; text = text; generations = 2; reach = 0 }
 
 -- Bob's second, third and fourth packets are lost, and with them a part of the one block: it is marked
 abbrev told : List Item
@@ -130,11 +130,11 @@ empty c = cc (c.some []).0
 
 -- a marker that is cut
 marker_cut : IsCutting (λ text. map (λ x. x ∷ []) text) → ⊥
-marker_cut c = let n = ap length c.mark in absurd (omega (arith, n))
+marker_cut c = let n = ap length c.marker_whole in absurd (omega (arith, n))
 
 -- a room that is one octet too great: 392 in place of 391
 abbrev full : History
-full = sent_history (record { ssrc = 9000; first = 0; base = 0; gens = 2 }) (sent 600 392 ∷ sent 300 392 ∷ sent 0 392 ∷ [])
+full = sent_history (record { ssrc = 9000; first = 0; base = 0; generations = 2 }) (sent 600 392 ∷ sent 300 392 ∷ sent 0 392 ∷ [])
 
 too_great : map (octets full) (placed full) ≡ 417 ∷ 809 ∷ 1201 ∷ []
 too_great = refl

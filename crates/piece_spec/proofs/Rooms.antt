@@ -29,9 +29,9 @@ window_short : (g : ℕ) (h : History) → Lawful h → Own g h → (x : Placed)
 window_short g h law own x i =
     let p = own_is_packet g h x law own i in
     let few = length-map (slots h x) (block_of x) in
-    let all = length-append (nones (x.gens - x.index)) (map Some (window h x)) in
+    let all = length-append (nones (x.generations - x.index)) (map Some (window h x)) in
     let some = length-map (window h x) Some in
-    let gens = own.gens x i in
+    let generations = own.generations x i in
     omega (arith, p.count)
 
 -- with up to three generations
@@ -46,11 +46,11 @@ pub fit_law : (most g : ℕ) (h : History) → g ≤ 3 → 17 + 4 * g ≤ most �
 fit_law most g h l m law own f x i =
     let w = all_short (room most g) g (window h x) (λ y j. f y (in_window h x y j).0) (window_short g h law own x i) in
     let a = fits most g (length (concat (texts_of (window h x)))) (length x.text) l m w (f x i) in
-    let gens = own.gens x i in
+    let generations = own.generations x i in
     head (x.source == h.ssrc) (omega (arith, length-append (concat (texts_of (window h x))) x.text))
   where
-    head : (b : Bool) → 16 + (4 * x.gens + 1) + length (concat (texts_of (window h x)) ++ x.text) ≤ most
-        → cond b 12 16 + (4 * x.gens + 1) + length (concat (texts_of (window h x)) ++ x.text) ≤ most
+    head : (b : Bool) → 16 + (4 * x.generations + 1) + length (concat (texts_of (window h x)) ++ x.text) ≤ most
+        → cond b 12 16 + (4 * x.generations + 1) + length (concat (texts_of (window h x)) ++ x.text) ≤ most
     head true z = omega arith
     head false z = z
 

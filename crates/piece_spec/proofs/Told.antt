@@ -5,7 +5,7 @@ use Rattle.std.proofs.lemmas.List.Folds.{concat-append}
 use Rattle.wire_spec.specs.Packets.{has_text}
 use Rattle.stream_spec.specs.Lists.{In}
 use Rattle.stream_spec.specs.History.{Placed}
-use Rattle.stream_spec.specs.Kept.{Item, Mark, Block, text_of, texts, blocks_in, Rising}
+use Rattle.stream_spec.specs.Kept.{Item, Marker, Block, text_of, texts, blocks_in, Rising}
 use Rattle.stream_spec.proofs.Lists.{in_left, in_right, in_append}
 use Rattle.stream_spec.proofs.Blocks.{blocks_in_append, in_blocks_in}
 use Rattle.mixer_spec.specs.Laws.{PartsAt}
@@ -41,10 +41,10 @@ lies_in x n (t ∷ ts) k h (inr i) =
     let r = lies_in x (n + length t) ts k h.1 i in
     record { from = r.from; text = r.text; is = r.is; some = r.some; begins = omega (arith, r.begins); ends = omega (arith, r.ends, length-append t (concat ts)) }
 
-no_mark_from : (x : Placed) (n : ℕ) (ts : List (List ℕ)) → In Mark (pieces_from x n ts) → ⊥
-no_mark_from x n [] i = i
-no_mark_from x n (t ∷ ts) (inl e) = cc e
-no_mark_from x n (t ∷ ts) (inr i) = no_mark_from x (n + length t) ts i
+no_marker_from : (x : Placed) (n : ℕ) (ts : List (List ℕ)) → In Marker (pieces_from x n ts) → ⊥
+no_marker_from x n [] i = i
+no_marker_from x n (t ∷ ts) (inl e) = cc e
+no_marker_from x n (t ∷ ts) (inr i) = no_marker_from x (n + length t) ts i
 
 -- the place of a piece is its address
 at_place : (x : Placed) (low high : ℕ) (k : Placed) (r : Lies x low high k) → k.place ≡ 8192 * x.place + r.from
@@ -74,14 +74,14 @@ said_from x n (t ∷ ts) = ap (λ zs. t ∷ zs) (said_from x (n + length t) ts)
 -- ---- all pieces
 pub pieces_append : (cutting : List ℕ → List (List ℕ)) (xs ys : List Item) → in_pieces cutting (xs ++ ys) ≡ in_pieces cutting xs ++ in_pieces cutting ys
 pieces_append cutting [] ys = refl
-pieces_append cutting (Mark ∷ xs) ys = ap (λ zs. Mark ∷ zs) (pieces_append cutting xs ys)
+pieces_append cutting (Marker ∷ xs) ys = ap (λ zs. Marker ∷ zs) (pieces_append cutting xs ys)
 pieces_append cutting (Block x ∷ xs) ys =
     ap (λ zs. pieces_of cutting x ++ zs) (pieces_append cutting xs ys) ∙ sym (append_assoc (pieces_of cutting x) (in_pieces cutting xs) (in_pieces cutting ys))
 
 pub piece_from : (cutting : List ℕ → List (List ℕ)) (items : List Item) (k : Placed) → In (Block k) (in_pieces cutting items) → (x : Placed) × In (Block x) items × IsPieceOf cutting x k
 piece_from cutting [] k i = absurd i
-piece_from cutting (Mark ∷ items) k (inl e) = absurd (cc e)
-piece_from cutting (Mark ∷ items) k (inr i) = let r = piece_from cutting items k i in (r.0, inr r.1, r.2)
+piece_from cutting (Marker ∷ items) k (inl e) = absurd (cc e)
+piece_from cutting (Marker ∷ items) k (inr i) = let r = piece_from cutting items k i in (r.0, inr r.1, r.2)
 piece_from cutting (Block x ∷ items) k i = elim (in_append (Block k) (pieces_of cutting x) (in_pieces cutting items) i) [
   | inl j ↦ (x, inl refl, j)
   | inr j ↦ let r = piece_from cutting items k j in (r.0, inr r.1, r.2)
@@ -89,32 +89,32 @@ piece_from cutting (Block x ∷ items) k i = elim (in_append (Block k) (pieces_o
 
 pub from_piece : (cutting : List ℕ → List (List ℕ)) (items : List Item) (x k : Placed) → In (Block x) items → IsPieceOf cutting x k → In (Block k) (in_pieces cutting items)
 from_piece cutting [] x k i j = absurd i
-from_piece cutting (Mark ∷ items) x k (inl e) j = absurd (cc e)
-from_piece cutting (Mark ∷ items) x k (inr i) j = inr (from_piece cutting items x k i j)
+from_piece cutting (Marker ∷ items) x k (inl e) j = absurd (cc e)
+from_piece cutting (Marker ∷ items) x k (inr i) j = inr (from_piece cutting items x k i j)
 from_piece cutting (Block y ∷ items) x k (inl e) j =
     in_left (Block k) (pieces_of cutting y) (in_pieces cutting items) (subst (λ (z : Placed). IsPieceOf cutting z k) (block_same x y e) j)
 from_piece cutting (Block y ∷ items) x k (inr i) j = in_right (Block k) (pieces_of cutting y) (in_pieces cutting items) (from_piece cutting items x k i j)
 
-pub mark_of : (cutting : List ℕ → List (List ℕ)) (items : List Item) → In Mark (in_pieces cutting items) → In Mark items
-mark_of cutting [] i = i
-mark_of cutting (Mark ∷ items) (inl e) = inl refl
-mark_of cutting (Mark ∷ items) (inr i) = inr (mark_of cutting items i)
-mark_of cutting (Block x ∷ items) i = elim (in_append Mark (pieces_of cutting x) (in_pieces cutting items) i) [
-  | inl j ↦ absurd (no_mark_from x 0 (cutting x.text) j)
-  | inr j ↦ inr (mark_of cutting items j)
+pub marker_of : (cutting : List ℕ → List (List ℕ)) (items : List Item) → In Marker (in_pieces cutting items) → In Marker items
+marker_of cutting [] i = i
+marker_of cutting (Marker ∷ items) (inl e) = inl refl
+marker_of cutting (Marker ∷ items) (inr i) = inr (marker_of cutting items i)
+marker_of cutting (Block x ∷ items) i = elim (in_append Marker (pieces_of cutting x) (in_pieces cutting items) i) [
+  | inl j ↦ absurd (no_marker_from x 0 (cutting x.text) j)
+  | inr j ↦ inr (marker_of cutting items j)
 ]
 
-from_mark : (cutting : List ℕ → List (List ℕ)) (items : List Item) → In Mark items → In Mark (in_pieces cutting items)
-from_mark cutting [] i = i
-from_mark cutting (Mark ∷ items) (inl e) = inl refl
-from_mark cutting (Mark ∷ items) (inr i) = inr (from_mark cutting items i)
-from_mark cutting (Block x ∷ items) (inl e) = absurd (cc e)
-from_mark cutting (Block x ∷ items) (inr i) = in_right Mark (pieces_of cutting x) (in_pieces cutting items) (from_mark cutting items i)
+from_marker : (cutting : List ℕ → List (List ℕ)) (items : List Item) → In Marker items → In Marker (in_pieces cutting items)
+from_marker cutting [] i = i
+from_marker cutting (Marker ∷ items) (inl e) = inl refl
+from_marker cutting (Marker ∷ items) (inr i) = inr (from_marker cutting items i)
+from_marker cutting (Block x ∷ items) (inl e) = absurd (cc e)
+from_marker cutting (Block x ∷ items) (inr i) = in_right Marker (pieces_of cutting x) (in_pieces cutting items) (from_marker cutting items i)
 
 pub told_law : (cutting : List ℕ → List (List ℕ)) (items : List Item) → TellsPieces cutting items
 told_law cutting items = record {
   pieces = λ k. (piece_from cutting items k, λ r. from_piece cutting items r.0 k r.1 r.2);
-  marks = (mark_of cutting items, from_mark cutting items);
+  markers = (marker_of cutting items, from_marker cutting items);
 }
 
 pub items_append : (xs ys : List Item) → texts (xs ++ ys) ≡ texts xs ++ texts ys
@@ -123,7 +123,7 @@ items_append (x ∷ xs) ys = ap (λ zs. text_of x ∷ zs) (items_append xs ys)
 
 pub said_law : (cutting : List ℕ → List (List ℕ)) → IsCutting cutting → (items : List Item) → concat (texts (in_pieces cutting items)) ≡ concat (texts items)
 said_law cutting c [] = refl
-said_law cutting c (Mark ∷ items) = ap (λ zs. 239 ∷ 191 ∷ 189 ∷ zs) (said_law cutting c items)
+said_law cutting c (Marker ∷ items) = ap (λ zs. 239 ∷ 191 ∷ 189 ∷ zs) (said_law cutting c items)
 said_law cutting c (Block x ∷ items) =
     ap concat (items_append (pieces_of cutting x) (in_pieces cutting items))
     ∙ (concat-append (texts (pieces_of cutting x)) (texts (in_pieces cutting items))
@@ -132,7 +132,7 @@ said_law cutting c (Block x ∷ items) =
 
 pub pieces_none_empty : (cutting : List ℕ → List (List ℕ)) → IsCutting cutting → (items : List Item) → NoneEmpty (in_pieces cutting items)
 pieces_none_empty cutting c [] = tt
-pieces_none_empty cutting c (Mark ∷ items) = (omega arith, pieces_none_empty cutting c items)
+pieces_none_empty cutting c (Marker ∷ items) = (omega arith, pieces_none_empty cutting c items)
 pieces_none_empty cutting c (Block x ∷ items) = none_empty_from x 0 (cutting x.text) (c.some x.text) (in_pieces cutting items) (pieces_none_empty cutting c items)
 
 -- ---- addresses
@@ -164,7 +164,7 @@ apart_append (x ∷ xs) ys p q f = (
 
 pub pieces_apart : (cutting : List ℕ → List (List ℕ)) → IsCutting cutting → (items : List Item) → Rising (blocks_in items) → FitAddresses items → Apart (blocks_in (in_pieces cutting items))
 pieces_apart cutting c [] r f = tt
-pieces_apart cutting c (Mark ∷ items) r f = pieces_apart cutting c items r (λ x i. f x (inr i))
+pieces_apart cutting c (Marker ∷ items) r f = pieces_apart cutting c items r (λ x i. f x (inr i))
 pieces_apart cutting c (Block x ∷ items) r f =
     subst Apart (sym (blocks_in_append (pieces_of cutting x) (in_pieces cutting items)))
     (apart_append (blocks_in (pieces_of cutting x)) (blocks_in (in_pieces cutting items)) (apart_from x 0 (cutting x.text) (c.some x.text)) (pieces_apart cutting c items r.1 (λ y i. f y (inr i))) cross)
@@ -218,11 +218,11 @@ pub parts_pieces : (cutting : List ℕ → List (List ℕ)) → IsCutting cuttin
 parts_pieces cutting c items x k f lx i r = (
   in_pieces cutting r.0,
   in_pieces cutting r.1,
-  ap (in_pieces cutting) r.2 ∙ pieces_append cutting r.0 (Mark ∷ r.1),
+  ap (in_pieces cutting) r.2 ∙ pieces_append cutting r.0 (Marker ∷ r.1),
   λ m j. let q = piece_from cutting r.0 m j in
       let s = piece_lies cutting c q.0 m q.2 in
       let u = r.3 q.0 q.1 in
-      let n = f q.0 (subst (λ (zs : List Item). In (Block q.0) zs) (sym r.2) (in_left (Block q.0) r.0 (Mark ∷ r.1) q.1)) in
+      let n = f q.0 (subst (λ (zs : List Item). In (Block q.0) zs) (sym r.2) (in_left (Block q.0) r.0 (Marker ∷ r.1) q.1)) in
       let t = piece_lies cutting c x k i in
       omega (arith, s.some, s.ends, t.begins),
   λ m j. let q = piece_from cutting r.1 m j in

@@ -7,7 +7,7 @@ use Rattle.wire_spec.specs.Packets.{has_text}
 use Rattle.stream_spec.specs.Lists.{In}
 use Rattle.stream_spec.specs.Hearing.{marker}
 use Rattle.stream_spec.specs.History.{Placed, placed}
-use Rattle.stream_spec.specs.Kept.{Item, Mark, Block, texts, blocks_in, Parts, Rising, is_text_of, is_entry_of}
+use Rattle.stream_spec.specs.Kept.{Item, Marker, Block, texts, blocks_in, Parts, Rising, is_text_of, is_entry_of}
 use Rattle.stream_spec.specs.Carries.{Groups, CarriesFront}
 use Rattle.stream_spec.proofs.Lists.{in_left, in_right, in_append, in_filter, filter_in}
 use Rattle.stream_spec.proofs.Places.{same_place_after}
@@ -16,22 +16,22 @@ use Rattle.stream_spec.proofs.Walks.{l1}
 use Rattle.mixer_spec.specs.Through.{group_of, replaced, text_entries}
 use Rattle.mixer_spec.specs.Laws.{PartsAt}
 use Rattle.mixer_spec.specs.Bridged.{IsPart}
-use Rattle.mixer_spec.specs.Headline.{Hop, IsHop, used, told, IsBlock, AllLost, AllUsed, Cut, IsUnshared, IsNotSent, told_by, group, groups, in_a_row, said, IsLostBehind, IsMarkBehind}
+use Rattle.mixer_spec.specs.Headline.{Hop, IsHop, used, told, IsBlock, AllLost, AllUsed, Cut, IsUnshared, IsNotSent, told_by, group, groups, in_a_row, said, IsLostBehind, IsMarkerBehind}
 use Rattle.mixer_spec.proofs.Lists.{nil}
 use Rattle.mixer_spec.proofs.Through.{NoneEmpty, Carry, carry_of, split_items, none_left, none_right, hops_text, hops_group, groups_more, entries_are}
 use Rattle.mixer_spec.proofs.HopOrder.{Segments, block_in, parts, group_within, group_order, block_from, from_block, replaced_rises}
-use Rattle.mixer_spec.proofs.HopMarks.{TwoCuts, two_cuts, Home, home, around, rising_entries, mark_came, mark_lost, below_place, above_place, second_mark}
-use Rattle.mixer_spec.proofs.HopWhole.{all_groups, mark_from}
+use Rattle.mixer_spec.proofs.HopMarkers.{TwoCuts, two_cuts, Home, home, around, rising_entries, marker_came, marker_lost, below_place, above_place, second_marker}
+use Rattle.mixer_spec.proofs.HopWhole.{all_groups, marker_from}
 use Rattle.mixer_spec.proofs.OneHop.{places_of, block_is, absent_lost, lost_absent, parts_between, parts_at, told_whole, one_hop}
 use Rattle.mixer_spec.proofs.BothHops.{front_of}
 use Rattle.piece_spec.specs.Pieces.{IsCutting, in_pieces, IsPieceOf}
 use Rattle.piece_spec.specs.PieceHeadline.{pieces_told, pieces_heard, PieceHeadline, PieceHeadlineAt}
-use Rattle.piece_spec.proofs.Told.{FitAddresses, mark_of, piece_from, from_piece, pieces_none_empty, pieces_apart, pieces_some, pieces_rise, apart_within, one_block, parts_pieces}
+use Rattle.piece_spec.proofs.Told.{FitAddresses, marker_of, piece_from, from_piece, pieces_none_empty, pieces_apart, pieces_some, pieces_rise, apart_within, one_block, parts_pieces}
 
 -- ---- a block is among the items, or it is not
 decide : (k : Placed) (items : List Item) → ((x : Placed) → In (Block x) items → x.place ≡ k.place → x ≡ k) → In (Block k) items ⊎ (In (Block k) items → ⊥)
 decide k [] f = inr (λ i. i)
-decide k (Mark ∷ xs) f = elim (decide k xs (λ x i. f x (inr i))) [
+decide k (Marker ∷ xs) f = elim (decide k xs (λ x i. f x (inr i))) [
   | inl i ↦ inl (inr i)
   | inr n ↦ inr (λ i. elim i [ inl e ↦ absurd (cc e) | inr j ↦ n j ])
 ]
@@ -61,13 +61,13 @@ block_entry q y b = filter_in (is_text_of q.source) y (placed q.sent) b.sent (an
 
 each_said : (q : Hop) (sent xs : List Item) → Carry (text_entries q.sent q.source) sent → ((y : Placed) → In (Block y) xs → In y (text_entries q.sent q.source)) → texts xs ≡ map said (groups sent q xs)
 each_said q sent [] c f = refl
-each_said q sent (Mark ∷ xs) c f = ap (λ t. t ∷ texts xs) (sym (nil marker)) ∙ ap (λ ts. said (Mark ∷ []) ∷ ts) (each_said q sent xs c (λ y i. f y (inr i)))
+each_said q sent (Marker ∷ xs) c f = ap (λ t. t ∷ texts xs) (sym (nil marker)) ∙ ap (λ ts. said (Marker ∷ []) ∷ ts) (each_said q sent xs c (λ y i. f y (inr i)))
 each_said q sent (Block y ∷ xs) c f =
     ap (λ t. t ∷ texts xs) (sym (hops_group q.sent q.source sent y c (f y (inl refl)))) ∙ ap (λ ts. said (group sent q y) ∷ ts) (each_said q sent xs c (λ z i. f z (inr i)))
 
 row_is : (q : Hop) (sent xs : List Item) → replaced (text_entries q.sent q.source) sent xs ≡ in_a_row (groups sent q xs)
 row_is q sent [] = refl
-row_is q sent (Mark ∷ xs) = ap (λ ys. Mark ∷ ys) (row_is q sent xs)
+row_is q sent (Marker ∷ xs) = ap (λ ys. Marker ∷ ys) (row_is q sent xs)
 row_is q sent (Block y ∷ xs) = ap (λ ys. group sent q y ++ ys) (row_is q sent xs)
 
 -- a block of the first hop fits its addresses
@@ -88,13 +88,13 @@ headline_law cutting c p q ip iq cut is_cut carried = record {
   order = apart_within (blocks_in all) (blocks_in (told_by cut.sent q)) (pieces_apart cutting c (told p) (l2_rises p.sent (used p) p.source (places_of p ip)) fit) (pieces_some cutting c (told p))
       (replaced_rises (text_entries q.sent q.source) cut.sent (told q) (rising_entries q.sent q.source) rises.left rises_second) within_all;
   absent = λ x k b w. (why x k b w, gone x k b w);
-  marked_behind = λ k l w. second_mark q.sent (used q) q.source cut.sent k l.entry rises.left (places_of q iq) l.is_block.sent l.is_block.source l.carries
+  marked_behind = λ k l w. second_marker q.sent (used q) q.source cut.sent k l.entry rises.left (places_of q iq) l.is_block.sent l.is_block.source l.carries
       (parts_between q iq l.entry l.is_block (lost_absent q iq l.entry l.lost) w);
   marked_first = λ x k b w l bt. parts_pieces cutting c (told p) x k fit (short_block p ip x b) w (parts_at p ip x b.sent b.source (parts_between p ip x b (lost_absent p ip x l) bt));
-  mark_is = λ k r. placed_from k r (two_cuts r.0 Mark r.1 cut.before onward (sym r.2 ∙ is_cut));
+  marker_is = λ k r. placed_from k r (two_cuts r.0 Marker r.1 cut.before onward (sym r.2 ∙ is_cut));
   marked = λ k r. stands k r;
-  marks = λ i. elim (mark_from (text_entries q.sent q.source) cut.sent (told q) i) [ inl j ↦ inr j | inr j ↦ inl (mark_of cutting (told p) (of_told Mark j)) ];
-  no_mark = λ l m i. elim (mark_from (text_entries q.sent q.source) cut.sent (told q) i) [ inl j ↦ (one_hop q iq).no_mark m j | inr j ↦ (one_hop p ip).no_mark l (mark_of cutting (told p) (of_told Mark j)) ];
+  markers = λ i. elim (marker_from (text_entries q.sent q.source) cut.sent (told q) i) [ inl j ↦ inr j | inr j ↦ inl (marker_of cutting (told p) (of_told Marker j)) ];
+  no_marker = λ l m i. elim (marker_from (text_entries q.sent q.source) cut.sent (told q) i) [ inl j ↦ (one_hop q iq).no_marker m j | inr j ↦ (one_hop p ip).no_marker l (marker_of cutting (told p) (of_told Marker j)) ];
   passed = passed;
   whole = λ a d. ap (λ xs. cut.before ++ (xs ++ (cut.waiting ++ cut.behind))) (passed d) ∙ (sym is_cut ∙ ap (in_pieces cutting) (told_whole p ip a));
 }
@@ -214,14 +214,14 @@ headline_law cutting c p q ip iq cut is_cut carried = record {
                   | inr more ↦ order l.entry r.0 l.carries r.2 (omega (arith, more, d))
                 ]
 
-    stands : (k : Placed) (r : PartsAt k cut.sent) → IsMarkBehind q cut.sent k
-    stands k r = found (home (text_entries q.sent q.source) cut.sent r.0 Mark r.1 none_sent (rising_entries q.sent q.source) carried r.2)
+    stands : (k : Placed) (r : PartsAt k cut.sent) → IsMarkerBehind q cut.sent k
+    stands k r = found (home (text_entries q.sent q.source) cut.sent r.0 Marker r.1 none_sent (rising_entries q.sent q.source) carried r.2)
       where
-        found : Home (text_entries q.sent q.source) cut.sent r.0 Mark r.1 → IsMarkBehind q cut.sent k
+        found : Home (text_entries q.sent q.source) cut.sent r.0 Marker r.1 → IsMarkerBehind q cut.sent k
         found h = record {
           entry = h.entry;
           is_block = entry_block q h.entry h.is_in;
-          carries = subst (λ (xs : List Item). In Mark xs) (sym h.is) (in_right Mark h.before (Mark ∷ h.behind) (inl refl));
+          carries = subst (λ (xs : List Item). In Marker xs) (sym h.is) (in_right Marker h.before (Marker ∷ h.behind) (inl refl));
           stands = λ w. elim w [
             | inl i ↦ came (around (told q) (Block h.entry) i)
             | inr w ↦ elim (is_told q iq h.entry (entry_block q h.entry h.is_in)) [
@@ -235,26 +235,26 @@ headline_law cutting c p q ip iq cut is_cut carried = record {
             came s =
                 let g = parts (blocks_in s.0) (h.entry ∷ blocks_in s.1) (subst Rising (ap blocks_in s.2 ∙ blocks_in_append s.0 (Block h.entry ∷ s.1)) rises_second) in
                 subst (PartsAt k) (sym (ap (replaced (text_entries q.sent q.source) cut.sent) s.2))
-                (mark_came (text_entries q.sent q.source) cut.sent r.0 r.1 s.0 s.1 k h r.3 r.4
+                (marker_came (text_entries q.sent q.source) cut.sent r.0 r.1 s.0 s.1 k h r.3 r.4
                 (λ x i. g.cross x h.entry (block_in x s.0 i) (inl refl)) (λ x i. g.right.0 x (block_in x s.1 i)))
 
             lost : Parts h.entry (told q) → PartsAt k (told_by cut.sent q)
             lost s =
                 let b = entry_block q h.entry h.is_in in
                 subst (PartsAt k) (sym (ap (replaced (text_entries q.sent q.source) cut.sent) s.2))
-                (mark_lost (text_entries q.sent q.source) cut.sent r.0 r.1 s.0 s.1 k h r.3 r.4
-                (λ x i. below_place q.sent (used q) q.source x h.entry (places_of q iq) (subst (λ (xs : List Item). In (Block x) xs) (sym s.2) (in_left (Block x) s.0 (Mark ∷ s.1) i)) b.sent b.source (s.3 x i))
-                (λ x i. above_place q.sent (used q) q.source x h.entry (places_of q iq) (subst (λ (xs : List Item). In (Block x) xs) (sym s.2) (in_right (Block x) s.0 (Mark ∷ s.1) (inr i))) b.sent b.source (s.4 x i)))
+                (marker_lost (text_entries q.sent q.source) cut.sent r.0 r.1 s.0 s.1 k h r.3 r.4
+                (λ x i. below_place q.sent (used q) q.source x h.entry (places_of q iq) (subst (λ (xs : List Item). In (Block x) xs) (sym s.2) (in_left (Block x) s.0 (Marker ∷ s.1) i)) b.sent b.source (s.3 x i))
+                (λ x i. above_place q.sent (used q) q.source x h.entry (places_of q iq) (subst (λ (xs : List Item). In (Block x) xs) (sym s.2) (in_right (Block x) s.0 (Marker ∷ s.1) (inr i))) b.sent b.source (s.4 x i)))
 
     -- in which part the mark stands
-    placed_from : (k : Placed) (r : PartsAt k all) → TwoCuts r.0 Mark r.1 cut.before onward → PartsAt k cut.sent ⊎ IsNotSent cut (length r.0)
-    placed_from k r (inr c) = let e = ap length c.1 ∙ length-append r.0 (Mark ∷ c.0) in inr (inl (omega (arith, e)))
-    placed_from k r (inl c) = in_onward (two_cuts c.0 Mark r.1 cut.sent (cut.waiting ++ cut.behind) c.2)
+    placed_from : (k : Placed) (r : PartsAt k all) → TwoCuts r.0 Marker r.1 cut.before onward → PartsAt k cut.sent ⊎ IsNotSent cut (length r.0)
+    placed_from k r (inr c) = let e = ap length c.1 ∙ length-append r.0 (Marker ∷ c.0) in inr (inl (omega (arith, e)))
+    placed_from k r (inl c) = in_onward (two_cuts c.0 Marker r.1 cut.sent (cut.waiting ++ cut.behind) c.2)
       where
         low : (x : Placed) → In (Block x) c.0 → x.place < k.place
         low x i = r.3 x (subst (λ (xs : List Item). In (Block x) xs) (sym c.1) (in_right (Block x) cut.before c.0 i))
 
-        in_onward : TwoCuts c.0 Mark r.1 cut.sent (cut.waiting ++ cut.behind) → PartsAt k cut.sent ⊎ IsNotSent cut (length r.0)
+        in_onward : TwoCuts c.0 Marker r.1 cut.sent (cut.waiting ++ cut.behind) → PartsAt k cut.sent ⊎ IsNotSent cut (length r.0)
         in_onward (inr d) = inl (c.0, d.0, d.1, low, λ x i. r.4 x (subst (λ (xs : List Item). In (Block x) xs) (sym d.2) (in_left (Block x) d.0 (cut.waiting ++ cut.behind) i)))
         in_onward (inl d) =
             let a = ap length c.1 ∙ length-append cut.before c.0 in

@@ -4,7 +4,7 @@ use Rattle.std.specs.List.{AllByRecursion}
 use Rattle.stream_spec.specs.Lists.{In}
 use Rattle.stream_spec.specs.Hearing.{text_list}
 use Rattle.stream_spec.specs.History.{Placed}
-use Rattle.stream_spec.specs.Kept.{Item, Mark, Block}
+use Rattle.stream_spec.specs.Kept.{Item, Marker, Block}
 use Rattle.stream_spec.specs.Ready.{Chunk, ReadyRises}
 use Rattle.mixer_spec.specs.Laws.{AreTexts}
 use Rattle.mixer_spec.specs.Headline.{said}
@@ -50,7 +50,7 @@ PiecesSayTheText =
 -- A piece is told exactly where a block is told whose piece it is, and a mark where one is.
 pub record TellsPieces (cutting : List ℕ → List (List ℕ)) (items : List Item) : Type 0 where
   pub pieces : (k : Placed) → In (Block k) (in_pieces cutting items) ↔ ((x : Placed) × In (Block x) items × IsPieceOf cutting x k)
-  pub marks : In Mark (in_pieces cutting items) ↔ In Mark items
+  pub markers : In Marker (in_pieces cutting items) ↔ In Marker items
 
 abbrev pub PiecesAreTold : Type 0
 PiecesAreTold = (cutting : List ℕ → List (List ℕ)) (items : List Item) → TellsPieces cutting items

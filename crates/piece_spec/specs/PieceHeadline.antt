@@ -4,11 +4,11 @@ use Rattle.std.specs.List.{concat}
 use Rattle.stream_spec.specs.Lists.{In}
 use Rattle.stream_spec.specs.History.{Placed}
 use Rattle.stream_spec.specs.Carries.{CarriesFront}
-use Rattle.stream_spec.specs.Kept.{Item, Mark, Block, blocks_in, texts, NoGap}
+use Rattle.stream_spec.specs.Kept.{Item, Marker, Block, blocks_in, texts, NoGap}
 use Rattle.mixer_spec.specs.Laws.{PartsAt}
 use Rattle.mixer_spec.specs.Bridged.{IsPart}
 use Rattle.mixer_spec.specs.Through.{text_entries}
-use Rattle.mixer_spec.specs.Headline.{Hop, IsHop, OneHop, hears, used, told, IsBlock, AllLost, IsBetween, AllUsed, Cut, IsUnshared, IsNotSent, told_by, groups, in_a_row, said, IsLostBehind, IsMarkBehind, IsCutAt}
+use Rattle.mixer_spec.specs.Headline.{Hop, IsHop, OneHop, hears, used, told, IsBlock, AllLost, IsBetween, AllUsed, Cut, IsUnshared, IsNotSent, told_by, groups, in_a_row, said, IsLostBehind, IsMarkerBehind, IsCutAt}
 use Rattle.piece_spec.specs.Pieces.{IsCutting, in_pieces, IsPieceOf, Apart}
 
 -- what the hop tells, in pieces
@@ -45,11 +45,11 @@ pub record PieceHeadline (cutting : List ℕ → List (List ℕ)) (p q : Hop) (c
   -- or stands at the number of an item that is not; where it is sent on, one stands behind both, unless it was lost in turn at an
   -- end of the second stream.
   pub marked_first : (x k : Placed) → IsBlock p x → IsPieceOf cutting x k → AllLost p x → IsBetween p x → PartsAt k (pieces_told cutting p)
-  pub mark_is : (k : Placed) (mark : PartsAt k (pieces_told cutting p)) → PartsAt k cut.sent ⊎ IsNotSent cut (length mark.0)
-  pub marked : (k : Placed) → PartsAt k cut.sent → IsMarkBehind q cut.sent k
+  pub marker_is : (k : Placed) (is_marker : PartsAt k (pieces_told cutting p)) → PartsAt k cut.sent ⊎ IsNotSent cut (length marker.0)
+  pub marked : (k : Placed) → PartsAt k cut.sent → IsMarkerBehind q cut.sent k
   -- Each mark is one of a hop; so with no number missing on either there is none.
-  pub marks : In Mark (told_by cut.sent q) → In Mark (told p) ⊎ In Mark (told q)
-  pub no_mark : NoGap (used p) → NoGap (used q) → In Mark (told_by cut.sent q) → ⊥
+  pub markers : In Marker (told_by cut.sent q) → In Marker (told p) ⊎ In Marker (told q)
+  pub no_marker : NoGap (used p) → NoGap (used q) → In Marker (told_by cut.sent q) → ⊥
   -- With every packet of the second hop used, both tell all that was sent on.
   pub passed : AllUsed q → told_by cut.sent q ≡ cut.sent
   -- With every packet of both used that is, between the other parts, all pieces of all blocks and no mark.

@@ -8,7 +8,7 @@ use Rattle.stream_spec.specs.Lists.{In}
 use Rattle.stream_spec.specs.Hearing.{marker, text_list}
 use Rattle.stream_spec.specs.Typed.{last_end}
 use Rattle.stream_spec.specs.History.{Placed}
-use Rattle.stream_spec.specs.Kept.{Item, Mark, Block}
+use Rattle.stream_spec.specs.Kept.{Item, Marker, Block}
 use Rattle.stream_spec.specs.Ready.{Chunk}
 
 -- ---- how a text is cut
@@ -16,7 +16,7 @@ use Rattle.stream_spec.specs.Ready.{Chunk}
 pub record IsCutting (cutting : List ℕ → List (List ℕ)) : Type 0 where
   pub whole : (text : List ℕ) → concat (cutting text) ≡ text
   pub some : (text : List ℕ) → AllByRecursion (λ piece. has_text piece ≡ true) (cutting text)
-  pub mark : cutting marker ≡ marker ∷ []
+  pub marker_whole : cutting marker ≡ marker ∷ []
 
 -- where a text of more than n octets is cut: behind the last whole character of these, or behind n octets where none is whole
 abbrev pub cut_at : ℕ → List ℕ → ℕ
@@ -48,7 +48,7 @@ pieces_of cutting x = pieces_from x 0 (cutting x.text)
 -- what is told, each block in its pieces; marks stay
 abbrev pub in_pieces : (List ℕ → List (List ℕ)) → List Item → List Item
 in_pieces cutting [] = []
-in_pieces cutting (Mark ∷ items) = Mark ∷ in_pieces cutting items
+in_pieces cutting (Marker ∷ items) = Marker ∷ in_pieces cutting items
 in_pieces cutting (Block x ∷ items) = pieces_of cutting x ++ in_pieces cutting items
 
 -- k is a piece of the block x

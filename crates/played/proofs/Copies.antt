@@ -7,18 +7,18 @@ use Rattle.std.proofs.Math.Seq.{take-suc}
 use Rattle.std.proofs.lemmas.List.{map-append, length-map, length-drop, take_all}
 use Rattle.std.proofs.lemmas.Grind.{flat_map-append}
 use Rattle.std.proofs.lemmas.Bool.{eq-eqb, true≢false}
-use Rattle.file_spec.specs.declared.conf_lines.PlanLine.{PlanLine}
-use Rattle.file_spec.specs.declared.conf_lines.What.{What}
+use Rattle.file_spec.specs.declared.conference_lines.PlanLine.{PlanLine}
+use Rattle.file_spec.specs.declared.conference_lines.What.{What}
 use Rattle.wire_spec.specs.Dump.{Item, Whole, record_written, sent_item}
 use Rattle.mixer_spec.specs.Arrives.{Copy, all_copies, among, arrives, copies, doubles, in_order, is_sooner, lines_of, loses, delay, one_at}
 use Rattle.mixer_spec.specs.Arrives.{came, item_of}
-use Rattle.fault_plan.specs.declared.arriving.Arrival.{Arrival}
+use Rattle.fault_plan.specs.declared.copies.Arrival.{Arrival}
 use Rattle.fault_plan.specs.Arriving.{copy_of, copies_of}
 use Rattle.fault_plan.specs.Unplanned.{IsUnplanned}
-use Rattle.terminal.specs.declared.confs.TermConf.{TermConf}
+use Rattle.terminal.specs.declared.settings.TerminalSettings.{TerminalSettings}
 use Rattle.terminal.specs.declared.terminals.Terminal.{Terminal}
 use Rattle.terminal.specs.Terminals.{Listens}
-use Rattle.played.specs.declared.found.Found.{Found}
+use Rattle.played.specs.declared.indexes.RecordIndex.{RecordIndex}
 use Rattle.rtpdump_io.specs.InMemory.{IsRecord}
 use Rattle.played.specs.Written.{AreRecords}
 use Rattle.played.specs.Finds.{Finds}
@@ -39,14 +39,14 @@ at zero (r ∷ rs) l a = record { it = r; later = rs; stands = refl; fits = a.0;
 at (suc k) (r ∷ rs) l a = let h = at k rs (omega arith) a.1 in record { it = h.it; later = h.later; stands = h.stands; fits = h.fits; one = h.one }
 
 -- what stands at the place of a copy is its record
-pub record Standing (found : Found) (octets : List ℕ) (all : List (ℕ × List ℕ)) (copy : Copy) : Type 0 where
+pub record Standing (found : RecordIndex) (octets : List ℕ) (all : List (ℕ × List ℕ)) (copy : Copy) : Type 0 where
   pub it : ℕ × List ℕ
   pub more : List ℕ
   pub fits : IsRecord it
   pub stands : drop (slice_index found.places.items copy.index) octets ≡ record_written it ++ more
   pub item : item_of all copy ≡ sent_item (copy.at, it.1) ∷ []
 
-pub standing : (found : Found) (octets : List ℕ) (all : List (ℕ × List ℕ)) (copy : Copy) → AreRecords octets all → Finds found octets all → copy.index < length found.places.items → Standing found octets all copy
+pub standing : (found : RecordIndex) (octets : List ℕ) (all : List (ℕ × List ℕ)) (copy : Copy) → AreRecords octets all → Finds found octets all → copy.index < length found.places.items → Standing found octets all copy
 standing found octets all copy a f l =
     let below : copy.index < length all = omega (arith, f.places.each, l) in
     let h = at copy.index all below a.each in
@@ -59,16 +59,16 @@ standing found octets all copy a f l =
     }
 
 -- one copy is heard
-pub heard_copy : (t n : Terminal) (found : Found) (octets rest : List ℕ) (copy : Copy) (packet : List ℕ) (moment : ℕ) (behind : List ℕ) → rest ≡ drop (slice_index found.places.items copy.index) octets → copy.index < length found.places.items → Splits rest moment packet behind
-    → ((c : TermConf) (sources : List ℕ) (heard : List Item) → Listens t c sources heard → Listens n c sources (heard ++ sent_item (copy.at, packet) ∷ []))
-    → (c : TermConf) (sources : List ℕ) (heard : List Item) (all : List (ℕ × List ℕ)) → AreRecords octets all → Finds found octets all → Listens t c sources heard → Listens n c sources (heard ++ item_of all copy)
+pub heard_copy : (t n : Terminal) (found : RecordIndex) (octets rest : List ℕ) (copy : Copy) (packet : List ℕ) (moment : ℕ) (behind : List ℕ) → rest ≡ drop (slice_index found.places.items copy.index) octets → copy.index < length found.places.items → Splits rest moment packet behind
+    → ((c : TerminalSettings) (sources : List ℕ) (heard : List Item) → Listens t c sources heard → Listens n c sources (heard ++ sent_item (copy.at, packet) ∷ []))
+    → (c : TerminalSettings) (sources : List ℕ) (heard : List Item) (all : List (ℕ × List ℕ)) → AreRecords octets all → Finds found octets all → Listens t c sources heard → Listens n c sources (heard ++ item_of all copy)
 heard_copy t n found octets rest copy packet moment behind e l f g c sources heard all a finds li =
     let s = standing found octets all copy a finds l in
     let is = f s.it s.more s.fits (e ∙ s.stands) in
     subst (λ (x : List Item). Listens n c sources (heard ++ x)) (ap (λ (x : List ℕ). sent_item (copy.at, x) ∷ []) is.packet ∙ sym s.item) (g c sources heard li)
 
 -- there is no copy without a record
-pub no_copy : (found : Found) (octets rest : List ℕ) (copy : Copy) → rest ≡ drop (slice_index found.places.items copy.index) octets → copy.index < length found.places.items → ((r : ℕ × List ℕ) (more : List ℕ) → IsRecord r → rest ≡ record_written r ++ more → ⊥)
+pub no_copy : (found : RecordIndex) (octets rest : List ℕ) (copy : Copy) → rest ≡ drop (slice_index found.places.items copy.index) octets → copy.index < length found.places.items → ((r : ℕ × List ℕ) (more : List ℕ) → IsRecord r → rest ≡ record_written r ++ more → ⊥)
     → (all : List (ℕ × List ℕ)) → AreRecords octets all → Finds found octets all → ⊥
 no_copy found octets rest copy e l f all a finds = let s = standing found octets all copy a finds l in f s.it s.more s.fits (e ∙ s.stands)
 
@@ -124,7 +124,7 @@ unspoken (p ∷ plan) t n l (inr i) = unspoken plan t (rest (p.terminal == t) n)
     rest false e = e
 
 -- it hears the records as they stand
-pub heard_as_written : (plan : List PlanLine) (t : ℕ) (n : Terminal) (c : TermConf) (sources : List ℕ) (all : List (ℕ × List ℕ)) → list_any (λ l. l.terminal == t) plan ≡ false → IsNonDecreasing (map (λ r. r.0) all)
+pub heard_as_written : (plan : List PlanLine) (t : ℕ) (n : Terminal) (c : TerminalSettings) (sources : List ℕ) (all : List (ℕ × List ℕ)) → list_any (λ l. l.terminal == t) plan ≡ false → IsNonDecreasing (map (λ r. r.0) all)
     → Listens n c sources (map sent_item all) → Listens n c sources (came plan t all)
 heard_as_written plan t n c sources all u h li = subst (Listens n c sources) (sym (as_written plan t all (unspoken plan t u) h)) li
 

@@ -8,7 +8,7 @@ use Rattle.std.proofs.lemmas.List.{map-append, get_or_append_left}
 use Rattle.wire_spec.specs.Dump.{record_written}
 use Rattle.rtpdump_io.specs.InMemory.{AreRecords}
 use Rattle.rtpdump_io.proofs.Fronts.{IsLast, Splits, first_of, none_left}
-use Rattle.played.specs.declared.found.Found.{Found}
+use Rattle.played.specs.declared.indexes.RecordIndex.{RecordIndex}
 use Rattle.played.specs.Finds.{Stand, Finds}
 
 -- so far these records stood in front, and those are left
@@ -88,7 +88,7 @@ found_more moments places octets rest all m place packet behind f l a at r =
 pub found_pushed : (ms ps octets rest : List ℕ) (all : List (ℕ × List ℕ)) (ns qs : List ℕ) → ms ≡ ns → ps ≡ qs → FoundFront ns qs octets rest all → FoundFront ms ps octets rest all
 found_pushed ms ps octets rest all ns qs e f h = subst (λ (xs : List ℕ). FoundFront xs ps octets rest all) (sym e) (subst (λ (xs : List ℕ). FoundFront ns xs octets rest all) (sym f) h)
 
-pub found_all : (octets rest : List ℕ) (all : List (ℕ × List ℕ)) (found : Found) → IsLast rest → FoundFront found.moments.items found.places.items octets rest all → Finds found octets all
+pub found_all : (octets rest : List ℕ) (all : List (ℕ × List ℕ)) (found : RecordIndex) → IsLast rest → FoundFront found.moments.items found.places.items octets rest all → Finds found octets all
 found_all octets rest all found f h =
     let e = passed_all octets rest all h.front f h.passed in
     record {

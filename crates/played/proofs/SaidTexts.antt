@@ -5,7 +5,7 @@ use Rattle.std.specs.List.{concat}
 use Rattle.std.proofs.Math.Seq.{get_or-set_same, get_or-set_other}
 use Rattle.std.proofs.lemmas.Bool.{cases_eq, cases_order, eq-eqb, ne_eqb}
 use Rattle.std.proofs.lemmas.List.{get_or_append_left, get_or_push, length-set}
-use Rattle.rtt_base.specs.declared.text_packets.Pts.{Pts}
+use Rattle.rtt_base.specs.declared.text_packets.PayloadTypes.{PayloadTypes}
 use Rattle.wire_spec.specs.Packets.{Arrival}
 use Rattle.wire_spec.specs.Dump.{Item, arrivals_after, sent_item}
 use Rattle.stream_spec.specs.Own.{Sendable, Sent}
@@ -14,11 +14,11 @@ use Rattle.stream_spec.specs.Hearing.{heard}
 use Rattle.source_receiver.specs.declared.source_texts.SourceText.{SourceText}
 use Rattle.view_spec.specs.declared.counts.Counts.{Counts}
 use Rattle.view_spec.specs.Seen.{Fate, Text, arrivals_at, fate_at, is_foreign, is_packet, is_refused, many}
-use Rattle.view_spec.specs.Markers.{markers}
-use Rattle.terminal.specs.declared.confs.TermConf.{TermConf}
+use Rattle.view_spec.specs.Markers.{marker_count}
+use Rattle.terminal.specs.declared.settings.TerminalSettings.{TerminalSettings}
 use Rattle.terminal.specs.declared.terminals.Terminal.{Terminal}
 use Rattle.terminal.specs.Terminals.{Heard, IsEmpty, IsWhole, all_used, counts_of, reception, texts_of}
-use Rattle.aware_output.specs.Confs.{stream_of}
+use Rattle.aware_output.specs.Settings.{stream_of}
 use Rattle.aware_output.proofs.Speaking.{sendable}
 use Rattle.sent_log.specs.States.{IsStreamOf, Sending, records_of, sents}
 use Rattle.played.specs.Written.{IsPlayable}
@@ -38,7 +38,7 @@ if_ok3 (Err e) p q s f = tt
 pub none_said : (sources : List ℕ) (texts : List SourceText) → length texts ≡ length sources → All IsEmpty texts → AreSaid sources [] texts
 none_said sources texts n e = record {
   each = n;
-  are = λ k d l. let t = e k d (omega (arith, l, n)) in record { text = t.text; marks = t.marks };
+  are = λ k d l. let t = e k d (omega (arith, l, n)) in record { text = t.text; markers = t.markers };
 }
 
 -- ---- one more
@@ -57,7 +57,7 @@ other_text s e before q = rw (ne_eqb e.source s q) (append-nil before)
 
 -- of one of these sources
 pub said_more : (sources : List ℕ) (ssrc : ℕ) (text : List ℕ) (texts : List SourceText) (place : ℕ) (old new : SourceText) → AllPairs (λ a b. a ≢ b) sources → place < length sources → slice_index sources place ≡ ssrc
-    → old ≡ slice_index_or texts place old → new.text ≡ old.text ++ text → new.marks ≡ old.marks → SaysMore sources ssrc text texts (set texts place new)
+    → old ≡ slice_index_or texts place old → new.text ≡ old.text ++ text → new.markers ≡ old.markers → SaysMore sources ssrc text texts (set texts place new)
 said_more sources ssrc text texts place old new d l q at t m past media s =
     let e : Sent = record { source = ssrc; media = media; text = text } in
     record {
@@ -71,7 +71,7 @@ said_more sources ssrc text texts place old new d l q at t m past media s =
               text =
                   ap (λ (x : SourceText). x.text) here
                   ∙ (t ∙ (ap (λ (xs : List ℕ). xs ++ text) (ap (λ (x : SourceText). x.text) at ∙ (was.text ∙ ap (λ (i : ℕ). said (slice_index sources i) past) (sym same))) ∙ sym (own_text (slice_index sources k) e (said (slice_index sources k) past) name)));
-              marks = ap (λ (x : SourceText). x.marks) here ∙ (m ∙ (ap (λ (x : SourceText). x.marks) at ∙ was.marks));
+              markers = ap (λ (x : SourceText). x.markers) here ∙ (m ∙ (ap (λ (x : SourceText). x.markers) at ∙ was.markers));
             }
         | inr n ↦
             let there : slice_index_or (set texts place new) k f ≡ slice_index_or texts k f = get_or-set_other texts place k new f n in
@@ -80,7 +80,7 @@ said_more sources ssrc text texts place old new d l q at t m past media s =
               text =
                   ap (λ (x : SourceText). x.text) there
                   ∙ (was.text ∙ sym (other_text (slice_index sources k) e (said (slice_index sources k) past) (λ r. apart sources place k d l below (λ z. n (sym z)) (q ∙ r))));
-              marks = ap (λ (x : SourceText). x.marks) there ∙ was.marks;
+              markers = ap (λ (x : SourceText). x.markers) there ∙ was.markers;
             }
       ];
     }
@@ -93,7 +93,7 @@ said_other sources ssrc text texts a past media s =
       each = s.each;
       are = λ k f below.
           let was = s.are k f below in
-          record { text = was.text ∙ sym (other_text (slice_index sources k) e (said (slice_index sources k) past) (λ r. a k 0 below (sym r))); marks = was.marks };
+          record { text = was.text ∙ sym (other_text (slice_index sources k) e (said (slice_index sources k) past) (λ r. a k 0 below (sym r))); markers = was.markers };
     }
 
 -- ---- one source behind the others
@@ -113,39 +113,39 @@ one_said sources past texts new place source n e all own k d l = elim (cases_eq 
 same_counts : (a a' b b' c c' d d' : ℕ) → a ≡ a' → b ≡ b' → c ≡ c' → d ≡ d' → (let n : Counts = record { packets = a; used = b; refused = c; foreign = d } in n) ≡ record { packets = a'; used = b'; refused = c'; foreign = d' }
 same_counts a a' b b' c c' d d' p q r s = rw (p, q, r, s) refl
 
-pub heard_whole : (x : Sending) (t : Terminal) (conf : TermConf) (sources : List ℕ) (texts : List SourceText) (packets : ℕ) → IsPlayable x → IsStreamOf conf.ssrc conf.pts x → 0 < length sources → conf.ssrc < 2 ^ 32
-    → texts_of t ≡ texts → counts_of t ≡ all_used packets → IsWhole t → packets ≡ length x.sent → AreSaid sources (sents x.sent) texts → Heard t conf sources (map sent_item (records_of x.conf x.sent))
-heard_whole x t conf sources texts packets p is some b te ce whole n s = record {
+pub heard_whole : (x : Sending) (t : Terminal) (settings : TerminalSettings) (sources : List ℕ) (texts : List SourceText) (packets : ℕ) → IsPlayable x → IsStreamOf settings.ssrc settings.payload_types x → 0 < length sources → settings.ssrc < 2 ^ 32
+    → texts_of t ≡ texts → counts_of t ≡ all_used packets → IsWhole t → packets ≡ length x.sent → AreSaid sources (sents x.sent) texts → Heard t settings sources (map sent_item (records_of x.settings x.sent))
+heard_whole x t settings sources texts packets p is some b te ce whole n s = record {
   some = some;
   each = ap (λ (ts : List SourceText). length ts) te ∙ s.each;
   texts = λ k d l. record {
-    text = (text k d l) ∙ sym (ap (λ (came_in : List Arrival). concat (heard conf.wait came_in (slice_index sources k))) here ∙ heard_is x.conf x.sent conf.wait (slice_index sources k) all);
-    marks = (at k d l).marks ∙ sym (ap (λ (came_in : List Arrival). markers conf.wait came_in (slice_index sources k)) here ∙ markers_none x.conf x.sent conf.wait (slice_index sources k) all);
+    text = (text k d l) ∙ sym (ap (λ (came_in : List Arrival). concat (heard settings.wait came_in (slice_index sources k))) here ∙ heard_is x.settings x.sent settings.wait (slice_index sources k) all);
+    markers = (at k d l).markers ∙ sym (ap (λ (came_in : List Arrival). marker_count settings.wait came_in (slice_index sources k)) here ∙ markers_none x.settings x.sent settings.wait (slice_index sources k) all);
   };
-  utf8 = λ k d l. let below : k < length sources = omega (arith, l, te_each) in subst IsUtf8 (sym (text k d below)) (said_utf8 (stream_of x.conf) (slice_index sources k) zs may);
-  counts = ce ∙ same_counts packets _ packets _ 0 _ 0 _ (n ∙ sym (many_is is_packet)) (n ∙ sym (ap (λ (came_in : List Arrival). length (used conf.wait (numbered came_in))) here ∙ all_used_is x.conf x.sent conf.wait all)) (sym (many_is is_refused)) (sym (many_is is_foreign));
+  utf8 = λ k d l. let below : k < length sources = omega (arith, l, te_each) in subst IsUtf8 (sym (text k d below)) (said_utf8 (stream_of x.settings) (slice_index sources k) zs may);
+  counts = ce ∙ same_counts packets _ packets _ 0 _ 0 _ (n ∙ sym (many_is is_packet)) (n ∙ sym (ap (λ (came_in : List Arrival). length (used settings.wait (numbered came_in))) here ∙ all_used_is x.settings x.sent settings.wait all)) (sym (many_is is_refused)) (sym (many_is is_foreign));
   whole = whole;
 }
   where
     zs : List Sent
     zs = sents x.sent
 
-    may : Sendable (stream_of x.conf) zs
-    may = sendable (stream_of x.conf) zs is.conf.gens p.lawful
+    may : Sendable (stream_of x.settings) zs
+    may = sendable (stream_of x.settings) zs is.settings.generations p.lawful
 
-    all : AllCame x.conf x.sent conf.wait
-    all = all_came x.conf x.sent conf.wait is.conf may
+    all : AllCame x.settings x.sent settings.wait
+    all = all_came x.settings x.sent settings.wait is.settings may
 
-    ssrc : x.conf.ssrc < 2 ^ 32
+    ssrc : x.settings.ssrc < 2 ^ 32
     ssrc = omega (arith, b, is.ssrc_is)
 
     came : List Item
-    came = map sent_item (records_of x.conf x.sent)
+    came = map sent_item (records_of x.settings x.sent)
 
-    here : arrivals_at (reception conf) came ≡ arrived_all x.conf x.sent
+    here : arrivals_at (reception settings) came ≡ arrived_all x.settings x.sent
     here =
-        ap (λ (m : ℕ). arrivals_after m conf.pts [] came) (sym is.ssrc_is)
-        ∙ (ap (λ (q : Pts). arrivals_after x.conf.ssrc q [] came) (sym is.pts_are) ∙ arrive x.conf x.sent is.conf ssrc is.words may)
+        ap (λ (m : ℕ). arrivals_after m settings.payload_types [] came) (sym is.ssrc_is)
+        ∙ (ap (λ (q : PayloadTypes). arrivals_after x.settings.ssrc q [] came) (sym is.payload_types_are) ∙ arrive x.settings x.sent is.settings ssrc is.words may)
 
     te_each : length (texts_of t) ≡ length sources
     te_each = ap (λ (ts : List SourceText). length ts) te ∙ s.each
@@ -156,7 +156,7 @@ heard_whole x t conf sources texts packets p is some b te ce whole n s = record 
     text : (k : ℕ) (d : SourceText) → k < length sources → (slice_index_or (texts_of t) k d).text ≡ said (slice_index sources k) zs
     text k d l = (at k d l).text
 
-    many_is : (q : Fate → Bool) → many q (fate_at (reception conf)) came ≡ counted_if (q Text) (length x.sent)
+    many_is : (q : Fate → Bool) → many q (fate_at (reception settings)) came ≡ counted_if (q Text) (length x.sent)
     many_is q =
-        ap (λ (m : ℕ). many q (fate_at (record { ssrc = m; pts = conf.pts; wait = conf.wait })) came) (sym is.ssrc_is)
-        ∙ (ap (λ (ps : Pts). many q (fate_at (record { ssrc = x.conf.ssrc; pts = ps; wait = conf.wait })) came) (sym is.pts_are) ∙ fates q conf.wait x.conf x.sent is.conf ssrc is.words may)
+        ap (λ (m : ℕ). many q (fate_at (record { ssrc = m; payload_types = settings.payload_types; wait = settings.wait })) came) (sym is.ssrc_is)
+        ∙ (ap (λ (ps : PayloadTypes). many q (fate_at (record { ssrc = x.settings.ssrc; payload_types = ps; wait = settings.wait })) came) (sym is.payload_types_are) ∙ fates q settings.wait x.settings x.sent is.settings ssrc is.words may)

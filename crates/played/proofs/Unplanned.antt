@@ -3,7 +3,7 @@ use Rattle.std.proofs.Common.{◌≡◌, ℕ, zero, suc, List, [], ◌∷◌, �
 use Rattle.std.specs.Prelude.{reverse, flat_map, false}
 use Rattle.std.specs.List.Sorted.{IsNonDecreasing}
 use Rattle.std.proofs.lemmas.List.{reverse-append, reverse-reverse, map-append}
-use Rattle.file_spec.specs.declared.conf_lines.PlanLine.{PlanLine}
+use Rattle.file_spec.specs.declared.conference_lines.PlanLine.{PlanLine}
 use Rattle.wire_spec.specs.Packets.{Arrival}
 use Rattle.wire_spec.specs.Dump.{Item, Whole, sent_item}
 use Rattle.mixer_spec.specs.Arrives.{Copy, arrival, arrivals_of_copies, arrives, one_at}
@@ -13,7 +13,7 @@ use Rattle.fault_plan.proofs.Unplanned.{as_sent}
 
 -- a record as an arrival: its octets are the text of a packet
 abbrev enclosed : ℕ × List ℕ → Arrival
-enclosed r = record { time = r.0; packet = record { mark = false; seq = 0; stamp = 0; ssrc = 0; source = 0; older = []; primary = r.1 } }
+enclosed r = record { time = r.0; packet = record { marker_bit = false; seq = 0; timestamp = 0; ssrc = 0; source = 0; older = []; primary = r.1 } }
 
 -- what came, taken out again
 abbrev opened : Arrival → Item

@@ -1,7 +1,7 @@
 -- The statements of the laws.
 use Rattle.std.specs.Prelude.{◌≡◌, ℕ, List, map}
 use Rattle.std.specs.List.Sorted.{IsNonDecreasing}
-use Rattle.file_spec.specs.declared.conf_lines.PlanLine.{PlanLine}
+use Rattle.file_spec.specs.declared.conference_lines.PlanLine.{PlanLine}
 use Rattle.wire_spec.specs.Dump.{sent_item}
 use Rattle.fault_plan.specs.Unplanned.{IsUnplanned}
 use Rattle.mixer_spec.specs.Arrives.{came}

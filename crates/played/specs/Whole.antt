@@ -7,7 +7,7 @@ use Rattle.source_receiver.specs.declared.source_texts.SourceText.{SourceText}
 -- that is the text, and no marker was put
 pub record IsSaid (s : ℕ) (past : List Sent) (t : SourceText) : Type 0 where
   pub text : t.text ≡ said s past
-  pub marks : t.marks ≡ 0
+  pub markers : t.markers ≡ 0
 
 -- so it is of each source
 pub record AreSaid (sources : List ℕ) (past : List Sent) (texts : List SourceText) : Type 0 where

@@ -23,4 +23,4 @@ IsWritten octets = (records : List (ℕ × List ℕ)) × IsWrittenOf octets reco
 -- What was sent to a terminal can be heard: each text could be sent after those before it, and its packets can be written.
 pub record IsPlayable (x : Sending) : Type 0 where
   pub lawful : IsLawful x
-  pub written : IsWrittenOf (recording_of x) (records_of x.conf x.sent)
+  pub written : IsWrittenOf (recording_of x) (records_of x.settings x.sent)

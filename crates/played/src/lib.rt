@@ -1,9 +1,9 @@
 //! What comes to a terminal, by the plan of a conference, of what was sent to it: heard and counted.
 #![tactic(auto)]
 
-mod found;
-mod hearing;
+mod indexes;
+mod receptions;
 pub mod laws;
-mod saying;
+mod sent_texts;
 
-pub use hearing::played;
+pub use receptions::played;

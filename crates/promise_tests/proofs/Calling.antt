@@ -1,7 +1,7 @@
 -- What a live call tells.
 use Rattle.std.proofs.Common.{◌≡◌, ℕ, zero, suc, ◌<◌, Some, List, [], ◌∷◌, ◌++◌, length, refl, subst, sym, arith}
 use Rattle.std.proofs.lemmas.List.{append-nil}
-use Rattle.file_spec.specs.declared.conf_lines.LegLine.{LegLine}
+use Rattle.file_spec.specs.declared.conference_lines.LegLine.{LegLine}
 use Rattle.stream_spec.specs.StillLaws.{StillIsLawful, StillComes}
 use Rattle.mixer_spec.specs.Setups.{leg_at, setup}
 use Rattle.stream_spec.specs.Carries.{Carries}

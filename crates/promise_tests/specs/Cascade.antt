@@ -1,6 +1,6 @@
 -- What is concluded of a leg behind another mixer, from `IsCascaded` alone.
 use Rattle.std.specs.Prelude.{◌≡◌, ℕ, true, Some, List}
-use Rattle.file_spec.specs.declared.conf_lines.LegLine.{LegLine}
+use Rattle.file_spec.specs.declared.conference_lines.LegLine.{LegLine}
 use Rattle.stream_spec.specs.History.{History, Lawful, Come}
 use Rattle.mixer_spec.specs.Setups.{AllStay, leg_at}
 use Rattle.mixer_spec.specs.Bridged.{IsPair}

@@ -1,7 +1,7 @@
 -- What is concluded of a live call, from `HeadLive` alone.
 use Rattle.std.specs.Prelude.{◌≡◌, ℕ, List}
 use Rattle.wire_spec.specs.Packets.{Arrival}
-use Rattle.file_spec.specs.Conf.{Conf}
+use Rattle.file_spec.specs.Conference.{Conference}
 use Rattle.stream_spec.specs.History.{History, Come}
 use Rattle.mixer_spec.specs.Setups.{setup}
 use Rattle.mixer_spec.specs.Bridged.{IsPair, told_at}
@@ -21,7 +21,7 @@ pub record IsToldTyped (p q : Hop) (end : End) (waiting : List (List ℕ)) : Typ
 -- at each aware terminal j of each other leg i, of whom the history h was sent, whatever comes there of what it is given
 abbrev pub LiveCallsTellWhatWasTyped : Type 0
 LiveCallsTellWhatWasTyped =
-    (c : Conf) (takes : ℕ → Takes) (given : ℕ → List (List ℕ)) (end : End) (printed : List ℕ) (live : HeadLive c takes given end printed)
+    (c : Conference) (takes : ℕ → Takes) (given : ℕ → List (List ℕ)) (end : End) (printed : List ℕ) (live : HeadLive c takes given end printed)
     → (j i : ℕ) (pair : IsPair (setup c) j i)
     → (h : History) → IsFromLive c takes i h
     → (wait : ℕ) (came : List Arrival) → Come (told_at (setup c) live.served.table j) came

@@ -13,7 +13,7 @@ use Rattle.promise_tests.specs.Typed.{IsAllTyped, IsOnlyTyped}
 -- of the conference that lay in files, what each aware terminal j hears of each other leg i, of whom the history h was sent
 pub record TellsWhatWasTyped (OutTells : Type 0) (m : MixWords) (old new : Outside) : Type 0 where
   pub bridge : Bridge
-  pub mixed : IsMixedFrom old.contents m.conf bridge
+  pub mixed : IsMixedFrom old.contents m.conference bridge
   pub prints : OutTells → Prints (views_behind bridge ++ counted bridge.conference bridge.inputs) old new
   pub only : (j i : ℕ) → IsPair (setup_of bridge) j i → (h : History) → IsFrom bridge i h
       → IsOnlyTyped (inward bridge i h) (onward_from bridge j i)

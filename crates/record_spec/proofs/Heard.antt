@@ -5,7 +5,7 @@ use Rattle.std.specs.List.{flat_map, AllByRecursion}
 use Rattle.std.proofs.lemmas.Bool.Decides.{Decides-eqb}
 use Rattle.std.proofs.lemmas.List.{append-nil, map-append, reverse-append}
 use Rattle.std.proofs.lemmas.Grind.{flat_map-append}
-use Rattle.rtt_base.specs.declared.text_packets.Pts.{Pts}
+use Rattle.rtt_base.specs.declared.text_packets.PayloadTypes.{PayloadTypes}
 use Rattle.wire_spec.specs.declared.faults.TextFault.{TextFault}
 use Rattle.wire_spec.specs.Packets.{Packet, Arrival}
 use Rattle.wire_spec.specs.Rtp.{rtp}
@@ -28,24 +28,24 @@ use Rattle.record_spec.proofs.Reading.{file_read}
 
 -- ---- what is no text
 
-module _ (ssrc : ℕ) (pts : Pts) where
+module _ (ssrc : ℕ) (payload_types : PayloadTypes) where
   -- nothing arrives of it
   abbrev IsNone : List ℕ → Type 0
-  IsNone octets = (t : ℕ) (past : List Arrival) → arrived t (text_of octets (Some ssrc) pts) past ≡ past
+  IsNone octets = (t : ℕ) (past : List Arrival) → arrived t (text_of octets (Some ssrc) payload_types) past ≡ past
 
-  by_first : (octets : List ℕ) → arrived 0 (text_of octets (Some ssrc) pts) [] ≡ [] → IsNone octets
-  by_first octets e = λ t past. go t past (text_of octets (Some ssrc) pts) e
+  by_first : (octets : List ℕ) → arrived 0 (text_of octets (Some ssrc) payload_types) [] ≡ [] → IsNone octets
+  by_first octets e = λ t past. go t past (text_of octets (Some ssrc) payload_types) e
     where
       go : (t : ℕ) (past : List Arrival) (r : Result Packet TextFault) → arrived 0 r [] ≡ [] → arrived t r past ≡ past
       go t past (Err f) h = refl
       go t past (Ok p) h = absurd (cc)
 
   -- RTCP is none
-  rtcp_is_none : AreGiven pts → (octets : List ℕ) → is_rtcp octets ≡ true → IsNone octets
+  rtcp_is_none : AreGiven payload_types → (octets : List ℕ) → is_rtcp octets ≡ true → IsNone octets
   rtcp_is_none g octets r =
       by_first octets
-      (sym (arrives_alike pts ssrc (record { time = 0; what = Whole octets } ∷ []) g.0 g.1)
-      ∙ ap (λ (b : Bool). arrivals_after ssrc pts [] (cond (is_name ssrc (stream_of pts (cond b sorts.Rtcp (headed (rtp octets))))) (record { time = 0; what = Whole octets } ∷ []) [])) r)
+      (sym (arrives_alike payload_types ssrc (record { time = 0; what = Whole octets } ∷ []) g.0 g.1)
+      ∙ ap (λ (b : Bool). arrivals_after ssrc payload_types [] (cond (is_name ssrc (stream_of payload_types (cond b sorts.Rtcp (headed (rtp octets))))) (record { time = 0; what = Whole octets } ∷ []) [])) r)
 
   -- no octets are none
   nothing_is_none : (octets : List ℕ) → eqb (length octets) 0 ≡ true → IsNone octets
@@ -55,14 +55,14 @@ module _ (ssrc : ℕ) (pts : Pts) where
       let none : length (x ∷ octets) ≡ 0 = (Decides-eqb (length (x ∷ octets)) 0).0 e in
       absurd (omega (arith, none))
 
-  heard_alike : AreGiven pts → (t : ℕ) (octets : List ℕ) (past : List Arrival) → arrivals_with ssrc pts (record { time = t; what = what_is octets }) past ≡ arrived t (text_of octets (Some ssrc) pts) past
+  heard_alike : AreGiven payload_types → (t : ℕ) (octets : List ℕ) (past : List Arrival) → arrivals_with ssrc payload_types (record { time = t; what = what_is octets }) past ≡ arrived t (text_of octets (Some ssrc) payload_types) past
   heard_alike g t octets past = go (is_rtcp octets) refl
     where
-      by_size : (c : Bool) → eqb (length octets) 0 ≡ c → arrivals_with ssrc pts (record { time = t; what = cond c Rtcp (Whole octets) }) past ≡ arrived t (text_of octets (Some ssrc) pts) past
+      by_size : (c : Bool) → eqb (length octets) 0 ≡ c → arrivals_with ssrc payload_types (record { time = t; what = cond c Rtcp (Whole octets) }) past ≡ arrived t (text_of octets (Some ssrc) payload_types) past
       by_size true e = sym (nothing_is_none octets e t past)
       by_size false e = refl
 
-      go : (b : Bool) → is_rtcp octets ≡ b → arrivals_with ssrc pts (record { time = t; what = cond (eqb (cond b 0 (length octets)) 0) Rtcp (Whole octets) }) past ≡ arrived t (text_of octets (Some ssrc) pts) past
+      go : (b : Bool) → is_rtcp octets ≡ b → arrivals_with ssrc payload_types (record { time = t; what = cond (eqb (cond b 0 (length octets)) 0) Rtcp (Whole octets) }) past ≡ arrived t (text_of octets (Some ssrc) payload_types) past
       go true r = sym (rtcp_is_none g octets r t past)
       go false r = by_size (eqb (length octets) 0) refl
 
@@ -74,9 +74,9 @@ with_text t (Ok p) past = record { time = t; packet = p } ∷ past
 with_text t (Err f) past = past
 
 -- the texts among entries, which stand newest first
-abbrev texts : ℕ → Pts → List Entry → List Arrival
-texts ssrc pts [] = []
-texts ssrc pts (e ∷ past) = with_text e.at (text_of e.octets (Some ssrc) pts) (texts ssrc pts past)
+abbrev texts : ℕ → PayloadTypes → List Entry → List Arrival
+texts ssrc payload_types [] = []
+texts ssrc payload_types (e ∷ past) = with_text e.at (text_of e.octets (Some ssrc) payload_types) (texts ssrc payload_types past)
 
 abbrev latest_entry : List Entry → ℕ
 latest_entry [] = 0
@@ -87,18 +87,18 @@ EntriesRise [] = Unit {0}
 EntriesRise (e ∷ past) = (latest_entry past ≤ e.at) × EntriesRise past
 
 -- none comes later than the last entry
-texts_before : (ssrc : ℕ) (pts : Pts) (past : List Entry) → EntriesRise past → latest (texts ssrc pts past) ≤ latest_entry past
-texts_before ssrc pts [] r = omega arith
-texts_before ssrc pts (e ∷ past) r = go (text_of e.octets (Some ssrc) pts) (texts_before ssrc pts past r.1)
+texts_before : (ssrc : ℕ) (payload_types : PayloadTypes) (past : List Entry) → EntriesRise past → latest (texts ssrc payload_types past) ≤ latest_entry past
+texts_before ssrc payload_types [] r = omega arith
+texts_before ssrc payload_types (e ∷ past) r = go (text_of e.octets (Some ssrc) payload_types) (texts_before ssrc payload_types past r.1)
   where
-    go : (q : Result Packet TextFault) → latest (texts ssrc pts past) ≤ latest_entry past → latest (with_text e.at q (texts ssrc pts past)) ≤ e.at
+    go : (q : Result Packet TextFault) → latest (texts ssrc payload_types past) ≤ latest_entry past → latest (with_text e.at q (texts ssrc payload_types past)) ≤ e.at
     go (Ok p) h = omega arith
     go (Err f) h = omega (arith, h, r.0)
 
 -- ---- what was told of its SSRC
 
 record IsTold (h : Hearing) (takes : Takes) : Type 0 where
-  texts_are : (plain_by h takes).past ≡ texts h.ssrc h.pts (datagrams takes)
+  texts_are : (plain_by h takes).past ≡ texts h.ssrc h.payload_types (datagrams takes)
   early : (plain_by h takes).moment ≤ latest_take takes
 
 told_text : (d : Plain) (t : ℕ) (r : Result Packet TextFault) → d.moment ≤ t → ((plain_packet d t r).past ≡ with_text t r d.past) × ((plain_packet d t r).moment ≤ t)
@@ -113,9 +113,9 @@ told h (a ∷ takes) r = go a.came (told h takes r.1)
   where
     go : (c : Came) → IsTold h takes → IsTold h (record { at = a.at; came = c } ∷ takes)
     go (Datagram octets) m =
-        let one = told_text (plain_by h takes) a.at (text_of octets (Some h.ssrc) h.pts) (omega (arith, m.early, r.0)) in
+        let one = told_text (plain_by h takes) a.at (text_of octets (Some h.ssrc) h.payload_types) (omega (arith, m.early, r.0)) in
         record {
-          texts_are = one.0 ∙ ap (λ (past : List Arrival). with_text a.at (text_of octets (Some h.ssrc) h.pts) past) m.texts_are;
+          texts_are = one.0 ∙ ap (λ (past : List Arrival). with_text a.at (text_of octets (Some h.ssrc) h.payload_types) past) m.texts_are;
           early = one.1;
         }
     go Large m = record { texts_are = m.texts_are; early = omega (arith, m.early, r.0) }
@@ -139,24 +139,24 @@ do_rise (a ∷ takes) r = go a.came (do_rise takes r.1)
 
 -- ---- what arrives out of files
 
-module _ (start ssrc : ℕ) (pts : Pts) (given : AreGiven pts) where
-  arrive_push : (past : List Arrival) (items : List Item) (x : Item) → arrivals_after ssrc pts past (items ++ x ∷ []) ≡ arrivals_with ssrc pts x (arrivals_after ssrc pts past items)
+module _ (start ssrc : ℕ) (payload_types : PayloadTypes) (given : AreGiven payload_types) where
+  arrive_push : (past : List Arrival) (items : List Item) (x : Item) → arrivals_after ssrc payload_types past (items ++ x ∷ []) ≡ arrivals_with ssrc payload_types x (arrivals_after ssrc payload_types past items)
   arrive_push past [] x = refl
-  arrive_push past (y ∷ items) x = arrive_push (arrivals_with ssrc pts y past) items x
+  arrive_push past (y ∷ items) x = arrive_push (arrivals_with ssrc payload_types y past) items x
 
   -- out of one file
   abbrev out_of : Part → List Arrival
-  out_of p = arrivals_after ssrc pts [] (map (item_in p.begins) p.entries)
+  out_of p = arrivals_after ssrc payload_types [] (map (item_in p.begins) p.entries)
 
-  out_is : (p : Part) → IsGood start p → arrivals (part_written start p) ssrc pts ≡ out_of p
+  out_is : (p : Part) → IsGood start p → arrivals (part_written start p) ssrc payload_types ≡ out_of p
   unfolding arrivals
-  out_is p g = ap (λ (r : Recording). arrivals_after ssrc pts [] r.items) (file_read start p g.short g.early g.small)
+  out_is p g = ap (λ (r : Recording). arrivals_after ssrc payload_types [] r.items) (file_read start p g.short g.early g.small)
 
-  out_more : (p : Part) (e : Entry) → out_of (with_entry p e) ≡ arrived (e.at - p.begins) (text_of e.octets (Some ssrc) pts) (out_of p)
+  out_more : (p : Part) (e : Entry) → out_of (with_entry p e) ≡ arrived (e.at - p.begins) (text_of e.octets (Some ssrc) payload_types) (out_of p)
   out_more p e =
-      ap (λ (items : List Item). arrivals_after ssrc pts [] items) (map-append (item_in p.begins) p.entries (e ∷ []))
+      ap (λ (items : List Item). arrivals_after ssrc payload_types [] items) (map-append (item_in p.begins) p.entries (e ∷ []))
       ∙ arrive_push [] (map (item_in p.begins) p.entries) (item_in p.begins e)
-      ∙ heard_alike ssrc pts given (e.at - p.begins) e.octets (out_of p)
+      ∙ heard_alike ssrc payload_types given (e.at - p.begins) e.octets (out_of p)
 
   -- by the clock of the links
   put_on : (begins t : ℕ) (r : Result Packet TextFault) (past : List Arrival) → begins ≤ t → begins + latest past ≤ t → map (later begins) (arrived (t - begins) r past) ≡ with_text t r (map (later begins) past)
@@ -180,15 +180,15 @@ module _ (start ssrc : ℕ) (pts : Pts) (given : AreGiven pts) where
 
   record IsOut (past : List Entry) (ps : Parts) : Type 0 where
     begun : ps.last.begins ≤ latest_entry past
-    are : out_of_all ps ≡ texts ssrc pts past
+    are : out_of_all ps ≡ texts ssrc payload_types past
 
   out_more_all : (past : List Entry) (e : Entry) (ps : Parts) → EntriesRise (e ∷ past) → IsOut past ps → IsOut (e ∷ past) (record { over = ps.over; last = with_entry ps.last e })
   out_more_all past e ps rise o =
-      let r = text_of e.octets (Some ssrc) pts in
+      let r = text_of e.octets (Some ssrc) payload_types in
       let more = flat_map (λ (p : Part). map (later p.begins) (out_of p)) (reverse ps.over) in
       let begins : ps.last.begins ≤ e.at = omega (arith, o.begun, rise.0) in
       let soon : latest (out_of_all ps) ≤ e.at =
-      subst (λ (xs : List Arrival). latest xs ≤ e.at) (sym o.are) (omega (arith, texts_before ssrc pts past rise.1, rise.0)) in
+      subst (λ (xs : List Arrival). latest xs ≤ e.at) (sym o.are) (omega (arith, texts_before ssrc payload_types past rise.1, rise.0)) in
       record {
         begun = begins;
         are =
@@ -200,12 +200,12 @@ module _ (start ssrc : ℕ) (pts : Pts) (given : AreGiven pts) where
 
   out_begun_all : (past : List Entry) (e : Entry) (ps : Parts) → IsOut past ps → IsOut (e ∷ past) (record { over = ps.over ++ ps.last ∷ []; last = begun_with e })
   out_begun_all past e ps o =
-      let r = text_of e.octets (Some ssrc) pts in
+      let r = text_of e.octets (Some ssrc) payload_types in
       let f : Part → List Arrival = λ p. map (later p.begins) (out_of p) in
       record {
         begun = omega arith;
         are =
-            ap (λ (xs : List Arrival). map (later e.at) xs ++ flat_map f (reverse (ps.over ++ ps.last ∷ []))) (heard_alike ssrc pts given (e.at - e.at) e.octets [])
+            ap (λ (xs : List Arrival). map (later e.at) xs ++ flat_map f (reverse (ps.over ++ ps.last ∷ []))) (heard_alike ssrc payload_types given (e.at - e.at) e.octets [])
             ∙ ap (λ (xs : List Arrival). xs ++ flat_map f (reverse (ps.over ++ ps.last ∷ []))) (put_on e.at e.at r [] (omega arith) (omega arith))
             ∙ text_append e.at r [] (flat_map f (reverse (ps.over ++ ps.last ∷ [])))
             ∙ ap (λ (qs : List Part). with_text e.at r (flat_map f qs)) (reverse-append ps.over (ps.last ∷ []))
@@ -223,23 +223,23 @@ module _ (start ssrc : ℕ) (pts : Pts) (given : AreGiven pts) where
   out_recorded [] rise = record { begun = omega arith; are = refl }
   out_recorded (e ∷ past) rise = out_noted past e (recorded start past) rise (out_recorded past rise.1)
 
-  same_out : (ps : List Part) → AllByRecursion (IsGood start) ps → flat_map (part_arrivals start ssrc pts) ps ≡ flat_map (λ (p : Part). map (later p.begins) (out_of p)) ps
+  same_out : (ps : List Part) → AllByRecursion (IsGood start) ps → flat_map (part_arrivals start ssrc payload_types) ps ≡ flat_map (λ (p : Part). map (later p.begins) (out_of p)) ps
   same_out [] g = refl
   same_out (p ∷ ps) g =
-      ap (λ (xs : List Arrival). map (later p.begins) xs ++ flat_map (part_arrivals start ssrc pts) ps) (out_is p g.0)
+      ap (λ (xs : List Arrival). map (later p.begins) xs ++ flat_map (part_arrivals start ssrc payload_types) ps) (out_is p g.0)
       ∙ ap (λ (xs : List Arrival). map (later p.begins) (out_of p) ++ xs) (same_out ps g.1)
 
 all_reversed : {X : Type 0} (P : X → Type 0) (xs : List X) → AllByRecursion P xs → AllByRecursion P (reverse xs)
 all_reversed P [] a = tt
 all_reversed P (x ∷ xs) a = subst (AllByRecursion P) (sym (reverse-append (x ∷ []) xs)) (all_push P (reverse xs) x (all_reversed P xs a.1) a.0)
 
-pub files_heard : (start : ℕ) (h : Hearing) (takes : Takes) → AreTakesFor h takes → parts_arrivals start h.ssrc h.pts (recorded start (datagrams takes)) ≡ (told_by h takes).past
+pub files_heard : (start : ℕ) (h : Hearing) (takes : Takes) → AreTakesFor h takes → parts_arrivals start h.ssrc h.payload_types (recorded start (datagrams takes)) ≡ (told_by h takes).past
 files_heard start h takes a =
     let d = do_rise takes a.rise in
     let ps = recorded start (datagrams takes) in
     let g = recorded_good start (datagrams takes) a.short in
-    same_out start h.ssrc h.pts a.types (ps.last ∷ reverse ps.over) (g.last, all_reversed (IsGood start) ps.over g.over)
-    ∙ (out_recorded start h.ssrc h.pts a.types (datagrams takes) d.rise).are
+    same_out start h.ssrc h.payload_types a.types (ps.last ∷ reverse ps.over) (g.last, all_reversed (IsGood start) ps.over g.over)
+    ∙ (out_recorded start h.ssrc h.payload_types a.types (datagrams takes) d.rise).are
     ∙ sym (told h takes a.rise).texts_are
     ∙ sym (ap (λ (d : Told). d.past) (unfollowed_law h takes a.alone).told)
 
@@ -263,17 +263,17 @@ no_later (a ∷ past) =
     let m : 0 + a.time ≡ a.time = omega arith in
     ap (λ (n : ℕ). record { time = n; packet = a.packet } ∷ map (later 0) past) m ∙ ap (λ (xs : List Arrival). a ∷ xs) (no_later past)
 
-one_file : (start ssrc : ℕ) (pts : Pts) (ps : Parts) → ps.over ≡ [] → ps.last.begins ≡ 0 → parts_arrivals start ssrc pts ps ≡ arrivals (part_written start ps.last) ssrc pts
-one_file start ssrc pts ps none zero =
-    let f = part_arrivals start ssrc pts in
+one_file : (start ssrc : ℕ) (payload_types : PayloadTypes) (ps : Parts) → ps.over ≡ [] → ps.last.begins ≡ 0 → parts_arrivals start ssrc payload_types ps ≡ arrivals (part_written start ps.last) ssrc payload_types
+one_file start ssrc payload_types ps none zero =
+    let f = part_arrivals start ssrc payload_types in
     ap (λ (qs : List Part). f ps.last ++ flat_map f (reverse qs)) none
     ∙ append-nil (f ps.last)
-    ∙ ap (λ (n : ℕ). map (later n) (arrivals (part_written start ps.last) ssrc pts)) zero
-    ∙ no_later (arrivals (part_written start ps.last) ssrc pts)
+    ∙ ap (λ (n : ℕ). map (later n) (arrivals (part_written start ps.last) ssrc payload_types)) zero
+    ∙ no_later (arrivals (part_written start ps.last) ssrc payload_types)
 
-pub file_heard : (start : ℕ) (h : Hearing) (takes : Takes) → AreTakesFor h takes → (recorded start (datagrams takes)).over ≡ [] → chunks h.wait h.leg (still (arrivals (last_file start takes) h.ssrc h.pts)) h.ssrc ≡ all_by h takes
+pub file_heard : (start : ℕ) (h : Hearing) (takes : Takes) → AreTakesFor h takes → (recorded start (datagrams takes)).over ≡ [] → chunks h.wait h.leg (still (arrivals (last_file start takes) h.ssrc h.payload_types)) h.ssrc ≡ all_by h takes
 file_heard start h takes a none =
     let ps = recorded start (datagrams takes) in
     ap (λ (past : List Arrival). chunks h.wait h.leg (still past) h.ssrc)
-    (sym (one_file start h.ssrc h.pts ps none (first_begins start (datagrams takes) none)) ∙ files_heard start h takes a)
+    (sym (one_file start h.ssrc h.payload_types ps none (first_begins start (datagrams takes) none)) ∙ files_heard start h takes a)
     ∙ sym (all_plain h takes a.alone)

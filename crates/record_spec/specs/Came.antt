@@ -1,7 +1,7 @@
 -- What is noted of what came of a link, and what arrives out of its files (profile). Takes, entries and arrivals stand newest
 -- first.
 use Rattle.std.specs.Prelude.{ℕ, ◌+◌, List, [], ◌∷◌, map, flat_map, reverse}
-use Rattle.rtt_base.specs.declared.text_packets.Pts.{Pts}
+use Rattle.rtt_base.specs.declared.text_packets.PayloadTypes.{PayloadTypes}
 use Rattle.wire_spec.specs.Packets.{Arrival}
 use Rattle.wire_spec.specs.Dump.{arrivals}
 use Rattle.link_spec.specs.Links.{Came, Datagram, Large, Quiet, Closed, Takes}
@@ -25,9 +25,9 @@ abbrev pub later : ℕ → Arrival → Arrival
 later t a = record { time = t + a.time; packet = a.packet }
 
 -- of a stream out of a file, by the clock of the links
-abbrev pub part_arrivals : ℕ → ℕ → Pts → Part → List Arrival
-part_arrivals start ssrc pts p = map (later p.begins) (arrivals (part_written start p) ssrc pts)
+abbrev pub part_arrivals : ℕ → ℕ → PayloadTypes → Part → List Arrival
+part_arrivals start ssrc payload_types p = map (later p.begins) (arrivals (part_written start p) ssrc payload_types)
 
 -- out of all files
-abbrev pub parts_arrivals : ℕ → ℕ → Pts → Parts → List Arrival
-parts_arrivals start ssrc pts ps = flat_map (part_arrivals start ssrc pts) (ps.last ∷ reverse ps.over)
+abbrev pub parts_arrivals : ℕ → ℕ → PayloadTypes → Parts → List Arrival
+parts_arrivals start ssrc payload_types ps = flat_map (part_arrivals start ssrc payload_types) (ps.last ∷ reverse ps.over)

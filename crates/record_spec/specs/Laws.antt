@@ -75,7 +75,7 @@ NeverFall (a ∷ past) = (latest_take past ≤ a.at) × NeverFall past
 
 -- Takes as a link gives them, at which a leg is heard that has payload types of text, and is not followed.
 pub record AreTakesFor (h : Hearing) (takes : Takes) : Type 0 where
-  pub types : AreGiven h.pts
+  pub types : AreGiven h.payload_types
   pub alone : h.follow ≡ false
   pub short : AllByRecursion IsShort (datagrams takes)
   pub rise : NeverFall takes
@@ -84,7 +84,7 @@ abbrev pub FilesAreHeard : Type 0
 FilesAreHeard =
     (start : ℕ) (h : Hearing) (takes : Takes)
     → AreTakesFor h takes
-    → parts_arrivals start h.ssrc h.pts (recorded start (datagrams takes)) ≡ (told_by h takes).past
+    → parts_arrivals start h.ssrc h.payload_types (recorded start (datagrams takes)) ≡ (told_by h takes).past
 
 -- the octets of the only file, or of the last one
 abbrev pub last_file : ℕ → Takes → List ℕ
@@ -95,4 +95,4 @@ RecordedIsHeard =
     (start : ℕ) (h : Hearing) (takes : Takes)
     → AreTakesFor h takes
     → (recorded start (datagrams takes)).over ≡ []
-    → chunks h.wait h.leg (still (arrivals (last_file start takes) h.ssrc h.pts)) h.ssrc ≡ all_by h takes
+    → chunks h.wait h.leg (still (arrivals (last_file start takes) h.ssrc h.payload_types)) h.ssrc ≡ all_by h takes

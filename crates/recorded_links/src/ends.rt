@@ -2,7 +2,7 @@
 ghost use Rattle.std.specs.Prelude.{◌≡◌};
 
 use crate::noters::Noter;
-use link_io::{Beat, Came, LinkIn, LinkOut, Taken};
+use link_io::{Beat, Came, LinkIn, LinkOut, LinkTake};
 use rtt_base::{Failed, Packet};
 use std::sync::Wait;
 
@@ -44,7 +44,7 @@ impl<I: LinkIn, R: Wait + Drop> LinkIn for RecordedIn<I, R> {
 
     ghost port = { λ end. I.port end.link };
 
-    fn take(&mut self, out: &mut Packet, until: u64) -> Result<Taken, Failed> {
+    fn take(&mut self, out: &mut Packet, until: u64) -> Result<LinkTake, Failed> {
         let Ok(taken) = self.link.take(out, until) else {
             return Err(Failed);
         };

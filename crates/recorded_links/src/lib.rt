@@ -6,13 +6,13 @@ mod ends;
 mod links;
 mod noters;
 mod shelves;
-mod starting;
+mod starts;
 mod tracks;
 mod writers;
 
 pub use ends::{RecordedIn, RecordedOut};
-pub use links::{Finished, Recorded};
-pub use starting::{BeginFault, start_of};
+pub use links::{LinksReturn, RecordedLinks};
+pub use starts::{BeginFault, start_of};
 
 #[cfg(test)]
 mod tests;

@@ -16,7 +16,7 @@ use std::thread::Threads;
 /// Links over others, of which what comes and what is given is recorded: the k-th link that is opened by the k-th pair of recordings.
 /// Files are written by a thread of their own, so that no call waits for a disk. All else is as below.
 #[derive(Drop)]
-pub struct Recorded<L: Links, J: Journals, R> {
+pub struct RecordedLinks<L: Links, J: Journals, R> {
     rt: R,
     links: L,
     /// The last moment that the clock told.
@@ -30,14 +30,14 @@ pub struct Recorded<L: Links, J: Journals, R> {
 
 /// What is left of links that were recorded.
 #[derive(Drop)]
-pub struct Finished<L, J> {
+pub struct LinksReturn<L, J> {
     pub links: L,
     pub journals: J,
     /// The name of the first file, in leg order, in before out, that could not be written to its end.
     pub failed: Result<Option<String>, NoMemory>,
 }
 
-impl<L: Links, J: Journals + Drop + Send + 'static, R: Threads + Wait + Drop + Send> Recorded<
+impl<L: Links, J: Journals + Drop + Send + 'static, R: Threads + Wait + Drop + Send> RecordedLinks<
     L,
     J,
     R,
@@ -51,10 +51,10 @@ where
         clock: Arc<AtomicU64, Global>,
         noters: Vec<Option<Noter<R>>>,
         writer: Writer<J>,
-    ) -> Recorded<L, J, R>
+    ) -> RecordedLinks<L, J, R>
         ensures { result.links ≡ links }
     {
-        Recorded {
+        RecordedLinks {
             rt,
             links,
             clock,
@@ -65,15 +65,15 @@ where
     }
 
     /// Ends the recordings: all that was noted is written.
-    pub fn finish(self) -> Finished<L, J>
-        ensures leads { ⟦<Recorded<L, J, R> as Links>⟧.leads self ≡ L.leads result.links }
-        ensures taken { (p : ℕ) → ⟦<Recorded<L, J, R> as Links>⟧.taken_at self p ≡ L.taken_at result.links p }
-        ensures given { (p : ℕ) → ⟦<Recorded<L, J, R> as Links>⟧.given_at self p ≡ L.given_at result.links p }
-        ensures own { (p : ℕ) → ⟦<Recorded<L, J, R> as Links>⟧.own_faults self p ≡ L.own_faults result.links p }
-        ensures objects { (p : ℕ) → ⟦<Recorded<L, J, R> as Links>⟧.object_faults self p ≡ L.object_faults result.links p }
-        ensures pauses { ⟦<Recorded<L, J, R> as Links>⟧.pauses self ≡ L.pauses result.links }
+    pub fn finish(self) -> LinksReturn<L, J>
+        ensures leads { ⟦<RecordedLinks<L, J, R> as Links>⟧.leads self ≡ L.leads result.links }
+        ensures taken { (p : ℕ) → ⟦<RecordedLinks<L, J, R> as Links>⟧.taken_at self p ≡ L.taken_at result.links p }
+        ensures given { (p : ℕ) → ⟦<RecordedLinks<L, J, R> as Links>⟧.given_at self p ≡ L.given_at result.links p }
+        ensures own { (p : ℕ) → ⟦<RecordedLinks<L, J, R> as Links>⟧.own_faults self p ≡ L.own_faults result.links p }
+        ensures objects { (p : ℕ) → ⟦<RecordedLinks<L, J, R> as Links>⟧.object_faults self p ≡ L.object_faults result.links p }
+        ensures pauses { ⟦<RecordedLinks<L, J, R> as Links>⟧.pauses self ≡ L.pauses result.links }
     {
-        let Recorded {
+        let RecordedLinks {
             rt,
             links,
             clock: _,
@@ -87,7 +87,7 @@ where
             tracks,
         } = writer.finish(&rt);
         let failed = end_all(&mut journals, tracks, noters);
-        Finished {
+        LinksReturn {
             links,
             journals,
             failed,
@@ -112,7 +112,7 @@ fn put_back<R: Drop>(noters: &mut Vec<Option<Noter<R>>>, noter: Option<Noter<R>>
     }
 }
 
-impl<L: Links, J: Journals, R: Wait + Drop + Send> Links for Recorded<L, J, R> {
+impl<L: Links, J: Journals, R: Wait + Drop + Send> Links for RecordedLinks<L, J, R> {
     type In = RecordedIn<L::In, R>;
 
     type Out = RecordedOut<L::Out, R>;

@@ -1,7 +1,7 @@
 //! The end at which entries of a recording are noted.
 
 use crate::batches::entry_size;
-use crate::shelves::{Legs, Shelf, Waiting};
+use crate::shelves::{Legs, Shelf, WaitingRecords};
 use call_recorder::Way;
 use rtt_base::limits::MOST_PACKET_OCTETS;
 use std::alloc::Global;
@@ -22,7 +22,7 @@ pub(crate) struct Noter<R> {
     /// The last moment that the clock of the links told.
     clock: Arc<AtomicU64, Global>,
     /// What waits in the whole call.
-    waiting: Arc<Waiting, Global>,
+    waiting: Arc<WaitingRecords, Global>,
     shelf: Shelf,
     over: bool,
 }
@@ -33,7 +33,7 @@ impl<R: Wait + Drop> Noter<R> {
         number: usize,
         way: Way,
         clock: Arc<AtomicU64, Global>,
-        waiting: Arc<Waiting, Global>,
+        waiting: Arc<WaitingRecords, Global>,
         shelf: Shelf,
     ) -> Noter<R> {
         Noter {

@@ -35,16 +35,16 @@ impl Legs {
 
 /// What waits in all recordings of a call.
 #[derive(Drop)]
-pub(crate) struct Waiting {
+pub(crate) struct WaitingRecords {
     /// For how many octets it counts.
     octets: AtomicU64,
     /// The legs of which something came.
     came: AtomicU64,
 }
 
-impl Waiting {
-    pub(crate) fn new() -> Waiting {
-        Waiting {
+impl WaitingRecords {
+    pub(crate) fn new() -> WaitingRecords {
+        WaitingRecords {
             octets: AtomicU64::new(0),
             came: AtomicU64::new(0),
         }

@@ -1,14 +1,14 @@
 use crate::batches::Batch;
 use crate::noters::Noter;
-use crate::shelves::{Waiting, exchange};
-use crate::starting::begin_track;
+use crate::shelves::{WaitingRecords, exchange};
+use crate::starts::begin_track;
 use crate::tracks::Track;
-use crate::{BeginFault, Finished, Recorded};
+use crate::{BeginFault, LinksReturn, RecordedLinks};
 use call_recorder::{Way, stem_of};
 use conf_text::{Form, read_conf};
-use conference::Conf;
+use conference::Conference;
 use journal_io::MemJournals;
-use link_io::{Came, FailingLink, LinkIn, LinkOut, Links, MemLinks, Planned};
+use link_io::{Came, FailingLink, LinkIn, LinkOut, Links, MemLinks, PlannedTake};
 use rtt_base::{Bytes, NoMemory, Packet, Path};
 use rtt_io::{FailingCall, FailingWrite};
 use std::alloc::Global;
@@ -18,7 +18,7 @@ use std::test::Fail;
 use std::thread::Threads;
 
 /// Ann and Bob.
-const CONF: &[u8] =
+const CONFERENCE: &[u8] =
     b"mixer 9000 0 0\nleg Ann aware 1001 5001 127.0.0.1:6001\nleg Bob aware 1002 5002 127.0.0.1:6002\nturns 600\n";
 
 /// A packet of text of SSRC 1001.
@@ -41,9 +41,9 @@ const ANN_IN: &[u8] =
 /// What Ann was given: a text at 1000.
 const ANN_OUT: &[u8] = b"\0\x16\0\x0E\0\0\x03\xE8\x80\xE2\0\x05\0\0\0\x64\0\0\x03\xE9Hi";
 
-fn conf(alloc: Global) -> Result<Conf, NoMemory> {
-    match read_conf(alloc, CONF, Form::Links) {
-        Ok(conf) => Ok(conf),
+fn conference(alloc: Global) -> Result<Conference, NoMemory> {
+    match read_conf(alloc, CONFERENCE, Form::Links) {
+        Ok(conference) => Ok(conference),
         Err(_) => Err(NoMemory),
     }
 }
@@ -51,10 +51,10 @@ fn conf(alloc: Global) -> Result<Conf, NoMemory> {
 /// Links at which this comes: of Ann a text, a datagram that is too long, and a report. What Ann is given first is not taken.
 fn links(alloc: Global) -> Result<MemLinks, NoMemory> {
     let mut links = MemLinks::new(alloc);
-    links.plan(5001, Planned::new(alloc, 100, Came::Datagram, TEXT)?)?;
-    links.plan(5001, Planned::new(alloc, 200, Came::Large, b"")?)?;
-    links.plan(5001, Planned::new(alloc, 250, Came::Datagram, REPORT)?)?;
-    links.plan(5001, Planned::new(alloc, FIVE_HOURS, Came::Datagram, TEXT)?)?;
+    links.plan(5001, PlannedTake::new(alloc, 100, Came::Datagram, TEXT)?)?;
+    links.plan(5001, PlannedTake::new(alloc, 200, Came::Large, b"")?)?;
+    links.plan(5001, PlannedTake::new(alloc, 250, Came::Datagram, REPORT)?)?;
+    links.plan(5001, PlannedTake::new(alloc, FIVE_HOURS, Came::Datagram, TEXT)?)?;
     links.fail(FailingLink::Give(5001, 1))?;
     Ok(links)
 }
@@ -100,12 +100,12 @@ fn call<R: Threads + Wait + Copy + Drop + Send + 'static>(
     alloc: Global,
     journals: MemJournals,
     course: Course,
-) -> Result<Finished<MemLinks, MemJournals>, BeginFault> {
-    let (Ok(conf), Ok(below)) = (conf(alloc), links(alloc)) else {
+) -> Result<LinksReturn<MemLinks, MemJournals>, BeginFault> {
+    let (Ok(conference), Ok(below)) = (conference(alloc), links(alloc)) else {
         return Err(BeginFault::NoMemory);
     };
-    let legs = conf.legs.as_slice();
-    let mut links = Recorded::begin(rt, alloc, below, journals, "call", legs, START, 20)?;
+    let legs = conference.legs.as_slice();
+    let mut links = RecordedLinks::begin(rt, alloc, below, journals, "call", legs, START, 20)?;
     match course {
         Course::Whole => run(&mut links, 1000),
         Course::Long => run(&mut links, u64::from(FIVE_HOURS)),
@@ -217,7 +217,7 @@ fn a_call_without_links_has_files_without_records(rt: HostRuntime) -> Result<(),
 const LARGE: [u8; 4000] = [7; 4000];
 
 /// A recording of what came of Ann, who notes, and what waits.
-type Begun<R> = (Track<MemJournals>, Noter<R>, Arc<Waiting, Global>);
+type Begun<R> = (Track<MemJournals>, Noter<R>, Arc<WaitingRecords, Global>);
 
 fn begun<R: Wait + Copy + Drop>(
     rt: R,
@@ -226,7 +226,7 @@ fn begun<R: Wait + Copy + Drop>(
 ) -> Result<Begun<R>, BeginFault> {
     let (Ok(clock), Ok(waiting)) = (
         Arc::new(alloc, AtomicU64::new(0)),
-        Arc::new(alloc, Waiting::new()),
+        Arc::new(alloc, WaitingRecords::new()),
     ) else {
         return Err(BeginFault::NoMemory);
     };

@@ -3,7 +3,7 @@ ghost use Rattle.std.specs.Prelude.{◌≡◌, [], IfSome};
 
 use crate::batches::Batch;
 use crate::noters::Noter;
-use crate::shelves::{Legs, Shelf, Waiting, exchange};
+use crate::shelves::{Legs, Shelf, WaitingRecords, exchange};
 use call_recorder::{Recorder, Way};
 use journal_io::Journals;
 use rtt_base::NoMemory;
@@ -35,7 +35,7 @@ impl<J: Journals> Track<J> {
     }
 
     /// Writes what waits on its shelf.
-    pub(crate) fn write<R: Wait>(&mut self, rt: &R, journals: &mut J, waiting: &Waiting)
+    pub(crate) fn write<R: Wait>(&mut self, rt: &R, journals: &mut J, waiting: &WaitingRecords)
         ensures written { IfSome self.new.recorder.file (λ _. self.new.recorder.pending ≡ []) }
     {
         let spare = mem::replace(&mut self.spare, Batch::empty(self.alloc));
@@ -93,7 +93,7 @@ impl Round {
 #[derive(Drop)]
 pub(crate) struct Tracks<J: Journals> {
     pub(crate) journals: J,
-    pub(crate) waiting: Arc<Waiting, Global>,
+    pub(crate) waiting: Arc<WaitingRecords, Global>,
     pub(crate) tracks: Vec<Track<J>>,
 }
 

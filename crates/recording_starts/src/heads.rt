@@ -13,7 +13,7 @@ const HEAD: usize = 16;
 
 /// A recording whose line and head were looked at. What was read of it is given again.
 #[derive(Drop)]
-pub struct Opened<S> {
+pub struct HeadReader<S> {
     // the longest line, of 128 octets, and the head
     pub(crate) front: [u8; 144],
     // how much of the front was read, and how much was given again
@@ -78,19 +78,19 @@ fn start_in(front: &[u8]) -> Option<u64>
     Some(1000 * number_of(head) + number_of(&head[4..]) / 1000)
 }
 
-impl<S: Source> Opened<S> {
+impl<S: Source> HeadReader<S> {
     ghost use Rattle.rtpdump_io.specs.Input.{CountsFaults};
     ghost use Rattle.recording_starts.specs.Heads.{LooksAt, held, left_of};
 
     /// Looks at the first octets of a source, and tells when the recording began, in milliseconds since 1970, if its line and its
     /// head are there.
-    pub fn open(source: S) -> (Opened<S>, Result<Option<u64>, Failed>)
+    pub fn open(source: S) -> (HeadReader<S>, Result<Option<u64>, Failed>)
         ensures counts { CountsFaults S.faults S.name source result.0.source result.1 }
         ensures left { S.tells → OnOk result.1 (left_of S.left result.0 ≡ S.left source) }
         ensures start { S.tells → IfOk result.1 (λ start. start ≡ start_of (S.left source)) }
         ensures early { IfOk result.1 (λ start. IfSome start (λ start. start < 2 ^ 48)) }
     {
-        let mut opened = Opened {
+        let mut opened = HeadReader {
             front: [0; 144],
             size: 0,
             given: 0,
@@ -126,7 +126,7 @@ impl<S: Source> Opened<S> {
     pub fn into_source(self) -> S
         ensures { result ≡ self.source }
     {
-        let Opened { source, .. } = self;
+        let HeadReader { source, .. } = self;
         source
     }
 
@@ -161,7 +161,7 @@ impl<S: Source> Opened<S> {
     }
 }
 
-impl<S: Source> Source for Opened<S> {
+impl<S: Source> Source for HeadReader<S> {
     ghost use Rattle.recording_starts.specs.Heads.{left_of};
 
     ghost tells = { S.tells };

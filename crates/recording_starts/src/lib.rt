@@ -5,7 +5,7 @@ mod clock;
 mod heads;
 
 pub use clock::{append_began, append_day_line, append_time, day_of};
-pub use heads::Opened;
+pub use heads::HeadReader;
 
 #[cfg(test)]
 mod tests;

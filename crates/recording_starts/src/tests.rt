@@ -1,4 +1,4 @@
-use crate::{Opened, append_began, append_day_line, day_of};
+use crate::{HeadReader, append_began, append_day_line, day_of};
 use rtt_base::{Bytes, Failed, NoMemory, Path};
 use rtt_io::{MemSource, Source, SteadySource};
 use std::alloc::Global;
@@ -25,7 +25,7 @@ fn opening(start: [u8; 8]) -> [u8; 44] {
 fn began(alloc: Global, octets: &[u8]) -> Result<Option<u64>, NoMemory> {
     let mut recording = Bytes::new(alloc);
     recording.append(octets)?;
-    let (_opened, looked) = Opened::open(SteadySource::new(recording));
+    let (_opened, looked) = HeadReader::open(SteadySource::new(recording));
     looked.map_err(|_| NoMemory)
 }
 
@@ -80,7 +80,7 @@ fn all_octets_are_given_again(rt: HostRuntime) -> Result<(), Fail> {
     for step in [1, 7, 4096] {
         let mut source = SteadySource::new(five_openings(alloc)?);
         source.set_step(step);
-        let (mut opened, _looked) = Opened::open(source);
+        let (mut opened, _looked) = HeadReader::open(source);
         let octets = given(alloc, &mut opened)?;
         assert!(rt; octets.as_slice() == whole.as_slice(), "by {step} octets");
     }
@@ -94,7 +94,7 @@ fn a_read_that_fails_is_told(rt: HostRuntime) -> Result<(), Fail> {
     recording.append(&OPENING)?;
     let mut source = MemSource::new(alloc, Path::from_text(alloc, "a.rtp")?, recording);
     source.fail_at(2)?;
-    let (_opened, looked) = Opened::open(source);
+    let (_opened, looked) = HeadReader::open(source);
     assert!(rt; looked == Err(Failed));
     Ok(())
 }

@@ -6,7 +6,7 @@ use Rattle.std.proofs.lemmas.List.{append-nil}
 use Rattle.std.proofs.lemmas.List.Elements.{All-head, All-tail}
 use Rattle.std.proofs.lemmas.Bool.Decides.{nat_tests}
 use Rattle.rtt_base.specs.declared.blocks.TextBlock.{TextBlock}
-use Rattle.rtt_base.specs.declared.text_packets.Pts.{Pts}
+use Rattle.rtt_base.specs.declared.text_packets.PayloadTypes.{PayloadTypes}
 use Rattle.wire_spec.specs.Packets.{redundant, primary_text}
 use Rattle.wire_spec.specs.Red.{red_header, red_spelling}
 use Rattle.wire_spec.specs.SentPackets.{type_sent}
@@ -38,6 +38,6 @@ primary_is (b ∷ []) d l = refl
 primary_is (b ∷ c ∷ bs) d l = let k : length (b ∷ c ∷ bs) - 1 ≡ suc (length (c ∷ bs) - 1) = omega arith in ap (λ n. (get_or (b ∷ c ∷ bs) n d).text) k ∙ primary_is (c ∷ bs) d (omega arith)
 
 -- ---- the payload type
-pub type_is : (pts : Pts) (bs : List TextBlock) (n : ℕ) → n ≡ length bs → cond (n == 0) pts.t140 pts.red ≡ type_sent pts bs
-type_is pts [] n e = rw e refl
-type_is pts (b ∷ bs) n e = let no : (n == 0) ≡ false = grind (arith, nat_tests) in rw no refl
+pub type_is : (payload_types : PayloadTypes) (bs : List TextBlock) (n : ℕ) → n ≡ length bs → cond (n == 0) payload_types.t140 payload_types.red ≡ type_sent payload_types bs
+type_is payload_types [] n e = rw e refl
+type_is payload_types (b ∷ bs) n e = let no : (n == 0) ≡ false = grind (arith, nat_tests) in rw no refl

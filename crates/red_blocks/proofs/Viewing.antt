@@ -6,7 +6,7 @@ use Rattle.std.proofs.lemmas.Str.{IsAscii-drop, IsAscii-take, IsUtf8-from_ascii,
 use Rattle.std.proofs.lemmas.List.{drop-take, drop-drop, length-take}
 use Rattle.std.proofs.lemmas.Bool.{le-ltb, eq-eqb, ne_eqb}
 use Rattle.rtt_base.specs.declared.blocks.TextBlock.{TextBlock}
-use Rattle.rtt_base.specs.declared.text_packets.Pts.{Pts}
+use Rattle.rtt_base.specs.declared.text_packets.PayloadTypes.{PayloadTypes}
 use Rattle.rtt_base.specs.declared.limits.TheConstants.{MOST_PACKET_OCTETS}
 use Rattle.wire_spec.specs.declared.headers.RedHeader.{RedHeader}
 use Rattle.wire_spec.specs.Packets.{primary, redundant, primary_text}
@@ -64,7 +64,7 @@ primary_is (x ∷ y ∷ rest) b = primary_is (y ∷ rest) b
 
 -- the packet of this header, these redundant blocks and this primary text
 pub packet_read : (r : Reading) (older : List TextBlock) (text : List ℕ)
-    → text_packet r (older ++ primary text ∷ []) ≡ record { mark = r.mark; seq = r.seq; stamp = r.stamp; ssrc = r.ssrc; source = unwrap_or r.csrc r.ssrc; older = older; primary = text }
+    → text_packet r (older ++ primary text ∷ []) ≡ record { marker_bit = r.marker_bit; seq = r.seq; timestamp = r.timestamp; ssrc = r.ssrc; source = unwrap_or r.csrc r.ssrc; older = older; primary = text }
 packet_read r older text = rw (redundant_is older (primary text), primary_is older (primary text)) refl
 
 -- an answer that is there has what follows from what it has
@@ -76,15 +76,15 @@ pub if_some_both : {X : Type 0} {P Q R : X → Type 0} (o : Option X) → ((x : 
 if_some_both (Some x) f p q = f x p q
 if_some_both None f p q = tt
 
-pub plain_read : (r : Reading) (pts : Pts) (blocks : List TextBlock) → r.pt ≡ pts.t140 → texts_at [] r.payload ≡ Ok blocks → red r.payload r.pt pts ≡ Ok blocks
+pub plain_read : (r : Reading) (payload_types : PayloadTypes) (blocks : List TextBlock) → r.pt ≡ payload_types.t140 → texts_at [] r.payload ≡ Ok blocks → red r.payload r.pt payload_types ≡ Ok blocks
 unfolding red
-plain_read r pts blocks e t = rw (eq-eqb r.pt pts.t140 e) t
+plain_read r payload_types blocks e t = rw (eq-eqb r.pt payload_types.t140 e) t
 
-pub red_read : (r : Reading) (pts : Pts) (hs : Headers) (blocks : List TextBlock) → r.pt ≢ pts.t140 → r.pt ≡ pts.red → headers_at 8 pts.t140 r.payload ≡ Ok hs → texts_at hs.headers hs.texts ≡ Ok blocks → red r.payload r.pt pts ≡ Ok blocks
+pub red_read : (r : Reading) (payload_types : PayloadTypes) (hs : Headers) (blocks : List TextBlock) → r.pt ≢ payload_types.t140 → r.pt ≡ payload_types.red → headers_at 8 payload_types.t140 r.payload ≡ Ok hs → texts_at hs.headers hs.texts ≡ Ok blocks → red r.payload r.pt payload_types ≡ Ok blocks
 unfolding red
-red_read r pts hs blocks n e h t = rw (ne_eqb r.pt pts.t140 n, eq-eqb r.pt pts.red e, h) t
+red_read r payload_types hs blocks n e h t = rw (ne_eqb r.pt payload_types.t140 n, eq-eqb r.pt payload_types.red e, h) t
 
-pub view_read : (octets : List ℕ) (asked : Option ℕ) (pts : Pts) (read r : Reading) (v : TextView) → length octets ≤ MOST_PACKET_OCTETS → rtp octets ≡ Ok read → accepted asked read ≡ Ok r → IsPacketOf r pts v
-    → text_of octets asked pts ≡ Ok (packet_in v)
+pub view_read : (octets : List ℕ) (asked : Option ℕ) (payload_types : PayloadTypes) (read r : Reading) (v : TextView) → length octets ≤ MOST_PACKET_OCTETS → rtp octets ≡ Ok read → accepted asked read ≡ Ok r → IsPacketOf r payload_types v
+    → text_of octets asked payload_types ≡ Ok (packet_in v)
 unfolding text_of text_of_short
-view_read octets asked pts read r v few e a p = rw (le-ltb _ _ few, e, a, p.blocks, p.packet) refl
+view_read octets asked payload_types read r v few e a p = rw (le-ltb _ _ few, e, a, p.blocks, p.packet) refl

@@ -2,7 +2,7 @@
 use Rattle.std.specs.Prelude.{◌≡◌, ℕ, ◌*◌, ◌≤◌, List, [], ◌∷◌, ◌++◌, length, take, drop, Ok}
 use Rattle.std.specs.Str.{IsAscii}
 use Rattle.rtt_base.specs.declared.blocks.TextBlock.{TextBlock}
-use Rattle.rtt_base.specs.declared.text_packets.Pts.{Pts}
+use Rattle.rtt_base.specs.declared.text_packets.PayloadTypes.{PayloadTypes}
 use Rattle.rtt_base.specs.declared.limits.TheConstants.{MOST_TEXT_OCTETS}
 use Rattle.wire_spec.specs.declared.headers.RedHeader.{RedHeader}
 use Rattle.wire_spec.specs.Packets.{Packet, primary}
@@ -32,7 +32,7 @@ blocks_in v = older_in v ++ primary v.primary.now ∷ []
 -- the packet
 abbrev pub packet_in : TextView → Packet
 packet_in v =
-    record { mark = v.marker_bit; seq = v.seq; stamp = v.stamp; ssrc = v.ssrc; source = v.source; older = older_in v; primary = v.primary.now }
+    record { marker_bit = v.marker_bit; seq = v.seq; timestamp = v.timestamp; ssrc = v.ssrc; source = v.source; older = older_in v; primary = v.primary.now }
 
 -- all that a view speaks of is there, and its texts are ASCII
 pub record IsView (v : TextView) : Type 0 where
@@ -52,6 +52,6 @@ pub record IsCut (size : ℕ) (texts front back : List ℕ) : Type 0 where
   pub ascii : IsAscii texts
 
 -- the packet that has this header and payload
-pub record IsPacketOf (r : Reading) (pts : Pts) (v : TextView) : Type 0 where
-  pub blocks : red r.payload r.pt pts ≡ Ok (blocks_in v)
+pub record IsPacketOf (r : Reading) (payload_types : PayloadTypes) (v : TextView) : Type 0 where
+  pub blocks : red r.payload r.pt payload_types ≡ Ok (blocks_in v)
   pub packet : text_packet r (blocks_in v) ≡ packet_in v

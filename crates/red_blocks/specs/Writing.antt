@@ -3,8 +3,8 @@ use Rattle.std.specs.Prelude.{ℕ, ◌<◌, ◌^◌, min, List}
 use Rattle.std.specs.List.{flat_map}
 use Rattle.rtt_base.specs.declared.blocks.TextBlock.{TextBlock}
 use Rattle.wire_spec.specs.Packets.{Packet}
-use Rattle.red_blocks.specs.declared.writing.BlockView.{BlockView}
-use Rattle.red_blocks.specs.declared.writing.TextHead.{TextHead}
+use Rattle.red_blocks.specs.declared.writers.BlockView.{BlockView}
+use Rattle.red_blocks.specs.declared.writers.TextHead.{TextHead}
 use Rattle.rtt_base.specs.declared.limits.TheConstants.{MOST_OFFSET}
 
 -- the offset has fourteen bits
@@ -26,4 +26,4 @@ seen b = record { offset = b.offset; text = b.text.now }
 -- the packet of these redundant blocks and this primary text
 abbrev pub packet_with : TextHead → List TextBlock → List ℕ → Packet
 packet_with h older text =
-    record { mark = h.mark; seq = h.seq; stamp = h.stamp; ssrc = h.ssrc; source = h.source; older = older; primary = text }
+    record { marker_bit = h.marker_bit; seq = h.seq; timestamp = h.timestamp; ssrc = h.ssrc; source = h.source; older = older; primary = text }

@@ -2,14 +2,14 @@
 #![tactic(auto)]
 
 mod packets;
-mod reading;
+mod readers;
 mod views;
-mod writing;
+mod writers;
 
 pub use packets::read_text;
-pub use reading::read_blocks;
+pub use readers::read_blocks;
 pub use views::{TextView, view_text};
-pub use writing::{BlockView, OlderBlocks, TextHead, write_blocks, write_text};
+pub use writers::{BlockView, OlderBlocks, TextHead, write_blocks, write_text};
 
 #[cfg(test)]
 mod tests;

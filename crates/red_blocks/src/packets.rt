@@ -8,7 +8,7 @@ ghost use Rattle.rtp_header.specs.Headers.{reading};
 use crate::read_blocks;
 use rtp_header::{RtpView, read_rtp};
 use rtt_base::limits::MOST_PACKET_OCTETS;
-use rtt_base::{Pts, TextPacket};
+use rtt_base::{PayloadTypes, TextPacket};
 use wire_spec::TextFault;
 
 /// A packet of the stream that is asked for, with one source.
@@ -30,19 +30,19 @@ pub(crate) fn accept(view: RtpView<'_>, asked: Option<u32>) -> Result<RtpView<'_
 fn read_short(
     bytes: &[u8],
     ssrc: Option<u32>,
-    pts: Pts,
+    payload_types: PayloadTypes,
     out: &mut TextPacket,
 ) -> Result<(), TextFault>
     requires { out.old.blocks ≡ [] }
-    ensures exact { Gives (λ _. packet_of out.new) result (text_of_short bytes.now ssrc pts) }
+    ensures exact { Gives (λ _. packet_of out.new) result (text_of_short bytes.now ssrc payload_types) }
     ensures blocks { OnOk result (out.new.blocks ≡ blocks_of (packet_of out.new)) }
     ensures err { OnErr result (out.new ≡ record out.old { blocks = [] }) }
 {
     let view = accept(read_rtp(bytes)?, ssrc)?;
-    read_blocks(view.payload, view.pt, pts, &mut out.blocks)?;
-    out.mark = view.mark;
+    read_blocks(view.payload, view.pt, payload_types, &mut out.blocks)?;
+    out.marker_bit = view.marker_bit;
     out.seq = view.seq;
-    out.stamp = view.stamp;
+    out.timestamp = view.timestamp;
     out.ssrc = view.ssrc;
     out.source = view.csrc.unwrap_or(view.ssrc);
     Ok(())
@@ -54,10 +54,10 @@ fn read_short(
 pub fn read_text(
     bytes: &[u8],
     ssrc: Option<u32>,
-    pts: Pts,
+    payload_types: PayloadTypes,
     out: &mut TextPacket,
 ) -> Result<(), TextFault>
-    ensures exact { Gives (λ _. packet_of out.new) result (text_of bytes.now ssrc pts) }
+    ensures exact { Gives (λ _. packet_of out.new) result (text_of bytes.now ssrc payload_types) }
     ensures blocks { OnOk result (out.new.blocks ≡ blocks_of (packet_of out.new)) }
     ensures err { OnErr result (out.new ≡ record out.old { blocks = [] }) }
 {
@@ -65,5 +65,5 @@ pub fn read_text(
     if bytes.len() > MOST_PACKET_OCTETS {
         return Err(TextFault::Long);
     }
-    read_short(bytes, ssrc, pts, out)
+    read_short(bytes, ssrc, payload_types, out)
 }

@@ -7,9 +7,9 @@ ghost use Rattle.red_blocks.specs.Reading.{headers_of};
 ghost use Rattle.red_blocks.specs.Views.{blocks_in, packet_in, IsCut, IsPacketOf, IsView};
 
 use crate::packets::accept;
-use crate::reading::{redundant_header, scan_headers};
+use crate::readers::{redundant_header, scan_headers};
 use rtp_header::{RtpView, read_rtp};
-use rtt_base::Pts;
+use rtt_base::PayloadTypes;
 use rtt_base::limits::{MOST_PACKET_OCTETS, MOST_TEXT_OCTETS};
 use wire_spec::RedHeader;
 
@@ -21,7 +21,7 @@ pub struct TextView<'a> {
     /// The sequence number.
     pub seq: u16,
     /// The timestamp, in ticks of 1 ms.
-    pub stamp: u32,
+    pub timestamp: u32,
     /// The SSRC of the stream.
     pub ssrc: u32,
     /// Whose text it is: the only CSRC, or the SSRC where there is none (RFC 9071).
@@ -83,9 +83,9 @@ fn view_texts<'a>(
         return None;
     };
     Some(TextView {
-        marker_bit: head.mark,
+        marker_bit: head.marker_bit,
         seq: head.seq,
-        stamp: head.stamp,
+        timestamp: head.timestamp,
         ssrc: head.ssrc,
         source: head.csrc.unwrap_or(head.ssrc),
         count,
@@ -97,17 +97,17 @@ fn view_texts<'a>(
 
 /// The view of a packet with this header and payload.
 #[inline(always)]
-fn view_payload<'a>(head: &RtpView<'a>, pts: Pts) -> Option<TextView<'a>>
-    ensures packet { IfSome result (IsPacketOf (reading head.now) pts) }
+fn view_payload<'a>(head: &RtpView<'a>, payload_types: PayloadTypes) -> Option<TextView<'a>>
+    ensures packet { IfSome result (IsPacketOf (reading head.now) payload_types) }
     ensures view { IfSome result IsView }
 {
-    if head.pt == pts.t140 {
+    if head.pt == payload_types.t140 {
         return view_texts(head, 0, &[], 0, head.payload);
     }
-    if head.pt != pts.red {
+    if head.pt != payload_types.red {
         return None;
     }
-    let Ok((count, older, texts)) = scan_headers(head.payload, pts.t140) else {
+    let Ok((count, older, texts)) = scan_headers(head.payload, payload_types.t140) else {
         return None;
     };
     view_texts(head, count, head.payload, older, texts)
@@ -116,8 +116,8 @@ fn view_payload<'a>(head: &RtpView<'a>, pts: Pts) -> Option<TextView<'a>>
 /// Looks at a packet of text where it lies: of the stream `ssrc`, where one is named. `None` where the octets are no
 /// such packet, or a text of it is not ASCII: `read_text` tells why, and reads other texts too. It takes no memory.
 #[inline(always)]
-pub fn view_text(octets: &[u8], ssrc: Option<u32>, pts: Pts) -> Option<TextView<'_>>
-    ensures packet { IfSome result (λ view. text_of octets.now ssrc pts ≡ Ok (packet_in view)) }
+pub fn view_text(octets: &[u8], ssrc: Option<u32>, payload_types: PayloadTypes) -> Option<TextView<'_>>
+    ensures packet { IfSome result (λ view. text_of octets.now ssrc payload_types ≡ Ok (packet_in view)) }
     ensures view { IfSome result IsView }
 {
     if octets.len() > MOST_PACKET_OCTETS {
@@ -129,5 +129,5 @@ pub fn view_text(octets: &[u8], ssrc: Option<u32>, pts: Pts) -> Option<TextView<
     let Ok(head) = accept(read, ssrc) else {
         return None;
     };
-    view_payload(&head, pts)
+    view_payload(&head, payload_types)
 }

@@ -4,13 +4,13 @@ use Rattle.std.specs.Prelude.{min, max, not, slice_get, ◌==◌, ◌||◌}
 use Rattle.std.specs.List.{list_any}
 use Rattle.std.proofs.lemmas.Bool.Decides.{nat_tests}
 use Rattle.rtt_base.specs.declared.blocks.TextBlock.{TextBlock}
-use Rattle.rtt_base.specs.Stamps.{ahead}
+use Rattle.rtt_base.specs.Timestamps.{ahead}
 use Rattle.wire_spec.specs.Packets.{has_text}
 use Rattle.stream_spec.specs.Own.{Sent, nth, repeat_of, repeats, has_text_in}
 use Rattle.stream_spec.proofs.Sent.{nth_in}
 use Rattle.red_window.specs.Kept.{in_turn, block_kept, blocks_kept}
-use Rattle.red_window.specs.declared.kept.KeptBlock.{KeptBlock}
-use Rattle.red_window.specs.Standing.{kept_of, kept_last, StandsFor, MayFollow}
+use Rattle.red_window.specs.declared.slots.KeptBlock.{KeptBlock}
+use Rattle.red_window.specs.Standing.{kept_of, kept_last, WindowStandsFor, MayFollow}
 
 -- ---- whether one has text
 -- a text that is not empty
@@ -70,7 +70,7 @@ any_split (suc n) (x ∷ xs) = or_assoc (is_text x) (list_any is_text (take n xs
 pub any_in_turn : (n : ℕ) (xs : List KeptBlock) → list_any is_text xs ≡ list_any is_text (in_turn n xs)
 any_in_turn n xs = sym (any_both (drop n xs) (take n xs) ∙ (or_comm (list_any is_text (drop n xs)) (list_any is_text (take n xs)) ∙ any_split n xs))
 
-pub due_is : (g base : ℕ) (kept : List KeptBlock) (past : List Sent) → StandsFor g base kept past → list_any is_text kept ≡ has_text_in g past
+pub due_is : (g base : ℕ) (kept : List KeptBlock) (past : List Sent) → WindowStandsFor g base kept past → list_any is_text kept ≡ has_text_in g past
 due_is g base kept past s = ap (λ (bs : List KeptBlock). list_any is_text bs) s.last ∙ any_kept g base past
 
 -- one of the last g, or the last one, has text
@@ -88,7 +88,7 @@ last_or_more (suc g) past = let m : max 1 (suc g) ≡ suc g = omega arith in rw 
     go (z ∷ zs) = again (has_text z.text) (has_text_in g zs)
 
 -- ---- the blocks
--- stamps that lie less than half the circle apart
+-- timestamps that lie less than half the circle apart
 distance_is : (base m n : ℕ) → n ≤ m → m < n + 2 ^ 31 → ahead ((base + m) % 2 ^ 32) ((base + n) % 2 ^ 32) ≡ m - n
 distance_is base m n a b = omega arith
 
@@ -113,9 +113,9 @@ repeats_last (suc g) n base media past l f =
     one (Some e) q = let i = nth_in g n past e q (omega arith) in let d = f.later e i in block_is base media e d.0 d.1 (f.near e i)
 
 -- a window repeats what was sent
-pub repeats_are : (g base media stamp : ℕ) (kept : List KeptBlock) (past : List Sent) → StandsFor g base kept past → stamp ≡ (base + media) % 2 ^ 32 → MayFollow g media past
-    → blocks_kept stamp kept ≡ repeats g media past
-repeats_are g base media stamp kept past s e f = rw (s.last, e) (repeats_last g g base media past (omega arith) f)
+pub repeats_are : (g base media timestamp : ℕ) (kept : List KeptBlock) (past : List Sent) → WindowStandsFor g base kept past → timestamp ≡ (base + media) % 2 ^ 32 → MayFollow g media past
+    → blocks_kept timestamp kept ≡ repeats g media past
+repeats_are g base media timestamp kept past s e f = rw (s.last, e) (repeats_last g g base media past (omega arith) f)
 
 -- ---- a block more
 abbrev pub shifted : List KeptBlock → KeptBlock → List KeptBlock
@@ -130,9 +130,9 @@ shifted_last : (g base : ℕ) (past : List Sent) (e : Sent) → shifted (kept_la
 shifted_last zero base past e = refl
 shifted_last (suc g) base past e = pushed g base past e
 
-pub kept_more : (g base : ℕ) (past : List Sent) (e : Sent) (stamp : ℕ) (text : List ℕ) (old new : List KeptBlock) → StandsFor g base old past
-    → stamp ≡ (base + e.media) % 2 ^ 32 → text ≡ e.text → new ≡ shifted old (record { sent = true; stamp = stamp; text = text }) → StandsFor g base new (e ∷ past)
-kept_more g base past e stamp text old new s q t n = record { last = n ∙ rw (s.last, q, t) (shifted_last g base past e) }
+pub kept_more : (g base : ℕ) (past : List Sent) (e : Sent) (timestamp : ℕ) (text : List ℕ) (old new : List KeptBlock) → WindowStandsFor g base old past
+    → timestamp ≡ (base + e.media) % 2 ^ 32 → text ≡ e.text → new ≡ shifted old (record { sent = true; timestamp = timestamp; text = text }) → WindowStandsFor g base new (e ∷ past)
+kept_more g base past e timestamp text old new s q t n = record { last = n ∙ rw (s.last, q, t) (shifted_last g base past e) }
 
 -- ---- places that are written over in turn
 three : (xs : List KeptBlock) → length xs ≡ 3 → (a : KeptBlock) × (b : KeptBlock) × (c : KeptBlock) × (xs ≡ a ∷ b ∷ c ∷ [])
@@ -173,56 +173,56 @@ next_is g n m f h = go (n + 1 == g) refl
     go true e = f (let q : n + 1 ≡ g = grind (arith, nat_tests) in q)
     go false e = h (λ q. let no : ⊥ = grind (arith, nat_tests) in no)
 
-turn_size : (g n stamp : ℕ) (a b c : KeptBlock) → g ≤ 3 → n < max 1 g → length (blocks_kept stamp (in_turn n (take g (a ∷ b ∷ c ∷ [])))) ≡ g
-turn_size zero zero stamp a b c l m = refl
-turn_size zero (suc n) stamp a b c l m = absurd (omega arith)
-turn_size (suc g) n stamp a b c l m =
-    each_place (λ g n. length (blocks_kept stamp (in_turn n (take g (a ∷ b ∷ c ∷ [])))) ≡ g) refl refl refl refl refl refl (suc g) n l (omega arith)
+turn_size : (g n timestamp : ℕ) (a b c : KeptBlock) → g ≤ 3 → n < max 1 g → length (blocks_kept timestamp (in_turn n (take g (a ∷ b ∷ c ∷ [])))) ≡ g
+turn_size zero zero timestamp a b c l m = refl
+turn_size zero (suc n) timestamp a b c l m = absurd (omega arith)
+turn_size (suc g) n timestamp a b c l m =
+    each_place (λ g n. length (blocks_kept timestamp (in_turn n (take g (a ∷ b ∷ c ∷ [])))) ≡ g) refl refl refl refl refl refl (suc g) n l (omega arith)
 
 -- a window has as many blocks as generations
-pub blocks_size : (g n stamp : ℕ) (places : List KeptBlock) → length places ≡ 3 → g ≤ 3 → n < max 1 g → length (blocks_kept stamp (in_turn n (take g places))) ≡ g
-blocks_size g n stamp places e l m = let t = three places e in subst (λ (ps : List KeptBlock). length (blocks_kept stamp (in_turn n (take g ps))) ≡ g) (sym t.3) (turn_size g n stamp t.0 t.1 t.2 l m)
+pub blocks_size : (g n timestamp : ℕ) (places : List KeptBlock) → length places ≡ 3 → g ≤ 3 → n < max 1 g → length (blocks_kept timestamp (in_turn n (take g places))) ≡ g
+blocks_size g n timestamp places e l m = let t = three places e in subst (λ (ps : List KeptBlock). length (blocks_kept timestamp (in_turn n (take g ps))) ≡ g) (sym t.3) (turn_size g n timestamp t.0 t.1 t.2 l m)
 
-turn_at : (g n p i stamp : ℕ) (a b c d : KeptBlock) → g ≤ 3 → n < g → p < g → (n + p < g → i ≡ n + p) → (g ≤ n + p → i ≡ n + p - g)
-    → slice_get (blocks_kept stamp (in_turn n (take g (a ∷ b ∷ c ∷ [])))) p ≡ Some (block_kept stamp (get_or (a ∷ b ∷ c ∷ []) i d))
-turn_at zero n p i stamp a b c d l m q f h = absurd (omega arith)
-turn_at (suc zero) zero zero i stamp a b c d l m q f h = let e : i ≡ 0 = f (omega arith) in rw e refl
-turn_at (suc zero) zero (suc p) i stamp a b c d l m q f h = absurd (omega arith)
-turn_at (suc zero) (suc n) p i stamp a b c d l m q f h = absurd (omega arith)
-turn_at (suc (suc zero)) zero zero i stamp a b c d l m q f h = let e : i ≡ 0 = f (omega arith) in rw e refl
-turn_at (suc (suc zero)) zero (suc zero) i stamp a b c d l m q f h = let e : i ≡ 1 = f (omega arith) in rw e refl
-turn_at (suc (suc zero)) zero (suc (suc p)) i stamp a b c d l m q f h = absurd (omega arith)
-turn_at (suc (suc zero)) (suc zero) zero i stamp a b c d l m q f h = let e : i ≡ 1 = f (omega arith) in rw e refl
-turn_at (suc (suc zero)) (suc zero) (suc zero) i stamp a b c d l m q f h = let e : i ≡ 0 = h (omega arith) in rw e refl
-turn_at (suc (suc zero)) (suc zero) (suc (suc p)) i stamp a b c d l m q f h = absurd (omega arith)
-turn_at (suc (suc zero)) (suc (suc n)) p i stamp a b c d l m q f h = absurd (omega arith)
-turn_at (suc (suc (suc zero))) zero zero i stamp a b c d l m q f h = let e : i ≡ 0 = f (omega arith) in rw e refl
-turn_at (suc (suc (suc zero))) zero (suc zero) i stamp a b c d l m q f h = let e : i ≡ 1 = f (omega arith) in rw e refl
-turn_at (suc (suc (suc zero))) zero (suc (suc zero)) i stamp a b c d l m q f h = let e : i ≡ 2 = f (omega arith) in rw e refl
-turn_at (suc (suc (suc zero))) (suc zero) zero i stamp a b c d l m q f h = let e : i ≡ 1 = f (omega arith) in rw e refl
-turn_at (suc (suc (suc zero))) (suc zero) (suc zero) i stamp a b c d l m q f h = let e : i ≡ 2 = f (omega arith) in rw e refl
-turn_at (suc (suc (suc zero))) (suc zero) (suc (suc zero)) i stamp a b c d l m q f h = let e : i ≡ 0 = h (omega arith) in rw e refl
-turn_at (suc (suc (suc zero))) (suc (suc zero)) zero i stamp a b c d l m q f h = let e : i ≡ 2 = f (omega arith) in rw e refl
-turn_at (suc (suc (suc zero))) (suc (suc zero)) (suc zero) i stamp a b c d l m q f h = let e : i ≡ 0 = h (omega arith) in rw e refl
-turn_at (suc (suc (suc zero))) (suc (suc zero)) (suc (suc zero)) i stamp a b c d l m q f h = let e : i ≡ 1 = h (omega arith) in rw e refl
-turn_at (suc (suc (suc zero))) (suc (suc (suc n))) p i stamp a b c d l m q f h = absurd (omega arith)
-turn_at (suc (suc (suc zero))) n (suc (suc (suc p))) i stamp a b c d l m q f h = absurd (omega arith)
-turn_at (suc (suc (suc (suc g)))) n p i stamp a b c d l m q f h = absurd (omega arith)
+turn_at : (g n p i timestamp : ℕ) (a b c d : KeptBlock) → g ≤ 3 → n < g → p < g → (n + p < g → i ≡ n + p) → (g ≤ n + p → i ≡ n + p - g)
+    → slice_get (blocks_kept timestamp (in_turn n (take g (a ∷ b ∷ c ∷ [])))) p ≡ Some (block_kept timestamp (get_or (a ∷ b ∷ c ∷ []) i d))
+turn_at zero n p i timestamp a b c d l m q f h = absurd (omega arith)
+turn_at (suc zero) zero zero i timestamp a b c d l m q f h = let e : i ≡ 0 = f (omega arith) in rw e refl
+turn_at (suc zero) zero (suc p) i timestamp a b c d l m q f h = absurd (omega arith)
+turn_at (suc zero) (suc n) p i timestamp a b c d l m q f h = absurd (omega arith)
+turn_at (suc (suc zero)) zero zero i timestamp a b c d l m q f h = let e : i ≡ 0 = f (omega arith) in rw e refl
+turn_at (suc (suc zero)) zero (suc zero) i timestamp a b c d l m q f h = let e : i ≡ 1 = f (omega arith) in rw e refl
+turn_at (suc (suc zero)) zero (suc (suc p)) i timestamp a b c d l m q f h = absurd (omega arith)
+turn_at (suc (suc zero)) (suc zero) zero i timestamp a b c d l m q f h = let e : i ≡ 1 = f (omega arith) in rw e refl
+turn_at (suc (suc zero)) (suc zero) (suc zero) i timestamp a b c d l m q f h = let e : i ≡ 0 = h (omega arith) in rw e refl
+turn_at (suc (suc zero)) (suc zero) (suc (suc p)) i timestamp a b c d l m q f h = absurd (omega arith)
+turn_at (suc (suc zero)) (suc (suc n)) p i timestamp a b c d l m q f h = absurd (omega arith)
+turn_at (suc (suc (suc zero))) zero zero i timestamp a b c d l m q f h = let e : i ≡ 0 = f (omega arith) in rw e refl
+turn_at (suc (suc (suc zero))) zero (suc zero) i timestamp a b c d l m q f h = let e : i ≡ 1 = f (omega arith) in rw e refl
+turn_at (suc (suc (suc zero))) zero (suc (suc zero)) i timestamp a b c d l m q f h = let e : i ≡ 2 = f (omega arith) in rw e refl
+turn_at (suc (suc (suc zero))) (suc zero) zero i timestamp a b c d l m q f h = let e : i ≡ 1 = f (omega arith) in rw e refl
+turn_at (suc (suc (suc zero))) (suc zero) (suc zero) i timestamp a b c d l m q f h = let e : i ≡ 2 = f (omega arith) in rw e refl
+turn_at (suc (suc (suc zero))) (suc zero) (suc (suc zero)) i timestamp a b c d l m q f h = let e : i ≡ 0 = h (omega arith) in rw e refl
+turn_at (suc (suc (suc zero))) (suc (suc zero)) zero i timestamp a b c d l m q f h = let e : i ≡ 2 = f (omega arith) in rw e refl
+turn_at (suc (suc (suc zero))) (suc (suc zero)) (suc zero) i timestamp a b c d l m q f h = let e : i ≡ 0 = h (omega arith) in rw e refl
+turn_at (suc (suc (suc zero))) (suc (suc zero)) (suc (suc zero)) i timestamp a b c d l m q f h = let e : i ≡ 1 = h (omega arith) in rw e refl
+turn_at (suc (suc (suc zero))) (suc (suc (suc n))) p i timestamp a b c d l m q f h = absurd (omega arith)
+turn_at (suc (suc (suc zero))) n (suc (suc (suc p))) i timestamp a b c d l m q f h = absurd (omega arith)
+turn_at (suc (suc (suc (suc g)))) n p i timestamp a b c d l m q f h = absurd (omega arith)
 
 -- the block at a place counted from the oldest
-pub block_at : (g n p i stamp : ℕ) (places : List KeptBlock) (d : KeptBlock) → length places ≡ 3 → g ≤ 3 → n < g → p < g → (n + p < g → i ≡ n + p) → (g ≤ n + p → i ≡ n + p - g)
-    → slice_get (blocks_kept stamp (in_turn n (take g places))) p ≡ Some (block_kept stamp (get_or places i d))
-block_at g n p i stamp places d e l m q f h = let t = three places e in subst (λ (ps : List KeptBlock). slice_get (blocks_kept stamp (in_turn n (take g ps))) p ≡ Some (block_kept stamp (get_or ps i d))) (sym t.3) (turn_at g n p i stamp t.0 t.1 t.2 d l m q f h)
+pub block_at : (g n p i timestamp : ℕ) (places : List KeptBlock) (d : KeptBlock) → length places ≡ 3 → g ≤ 3 → n < g → p < g → (n + p < g → i ≡ n + p) → (g ≤ n + p → i ≡ n + p - g)
+    → slice_get (blocks_kept timestamp (in_turn n (take g places))) p ≡ Some (block_kept timestamp (get_or places i d))
+block_at g n p i timestamp places d e l m q f h = let t = three places e in subst (λ (ps : List KeptBlock). slice_get (blocks_kept timestamp (in_turn n (take g ps))) p ≡ Some (block_kept timestamp (get_or ps i d))) (sym t.3) (turn_at g n p i timestamp t.0 t.1 t.2 d l m q f h)
 
 -- ---- a new window
-empty_is : (base : ℕ) (b : KeptBlock) → b.sent ≡ false → b.stamp ≡ 0 → b.text ≡ [] → b ≡ kept_of base None
-empty_is base b s t x = same b.sent b.stamp b.text s t x
+empty_is : (base : ℕ) (b : KeptBlock) → b.sent ≡ false → b.timestamp ≡ 0 → b.text ≡ [] → b ≡ kept_of base None
+empty_is base b s t x = same b.sent b.timestamp b.text s t x
   where
-    same : (s : Bool) (t : ℕ) (x : List ℕ) → s ≡ false → t ≡ 0 → x ≡ [] → (let b : KeptBlock = record { sent = s; stamp = t; text = x } in b) ≡ record { sent = false; stamp = 0; text = [] }
+    same : (s : Bool) (t : ℕ) (x : List ℕ) → s ≡ false → t ≡ 0 → x ≡ [] → (let b : KeptBlock = record { sent = s; timestamp = t; text = x } in b) ≡ record { sent = false; timestamp = 0; text = [] }
     same s t x e f h = rw (e, f, h) refl
 
 abbrev Fresh : KeptBlock → Type 0
-Fresh b = (b.sent ≡ false) × ((b.stamp ≡ 0) × (b.text ≡ []))
+Fresh b = (b.sent ≡ false) × ((b.timestamp ≡ 0) × (b.text ≡ []))
 
 pub fresh : (g base : ℕ) (a b c : KeptBlock) → g ≤ 3 → Fresh a → Fresh b → Fresh c → in_turn 0 (take g (a ∷ b ∷ c ∷ [])) ≡ kept_last g base []
 fresh g base a b c l x y z = rw (empty_is base a x.0 x.1.0 x.1.1, empty_is base b y.0 y.1.0 y.1.1, empty_is base c z.0 z.1.0 z.1.1) (go g l)

@@ -1,7 +1,7 @@
 //! The redundancy of one source (RFC 4103, section 4): each packet repeats the last blocks before it.
 #![tactic(auto)]
 
-mod kept;
+mod slots;
 mod laws;
 mod windows;
 

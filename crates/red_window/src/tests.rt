@@ -3,11 +3,11 @@ use red_blocks::OlderBlocks;
 use std::process::Abort;
 
 /// The blocks of a packet with this timestamp are these, as offset and text.
-fn expect_blocks(rt: &impl Abort, window: &Window, stamp: u32, expected: &[(u16, &[u8])]) {
+fn expect_blocks(rt: &impl Abort, window: &Window, timestamp: u32, expected: &[(u16, &[u8])]) {
     assert_eq!(rt; window.len(), expected.len());
     for (place, (offset, text)) in expected.iter().enumerate() {
         if place < window.len() {
-            let block = window.block(place, stamp);
+            let block = window.block(place, timestamp);
             assert_eq!(rt; block.offset, *offset);
             assert!(rt; block.text == *text);
         }

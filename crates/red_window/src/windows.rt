@@ -1,7 +1,7 @@
 //! The window of one source.
 ghost use Rattle.std.specs.Prelude.{◌≡◌, ◌+◌, ◌%◌, ◌^◌, ◌<◌, ◌≤◌, ◌∷◌, [], ℕ, List, length};
 
-use crate::kept::{KeptBlock, any_text};
+use crate::slots::{KeptBlock, any_text};
 use red_blocks::{BlockView, OlderBlocks};
 use std::marker::Model;
 
@@ -20,7 +20,7 @@ pub struct Window {
 
 impl Model for Window {
     ghost use Rattle.std.specs.Prelude.{List, ◌≡◌, ◌<◌, ◌≤◌, length, take, max};
-    ghost use Rattle.red_window.specs.declared.kept.KeptBlock.{KeptBlock};
+    ghost use Rattle.red_window.specs.declared.slots.KeptBlock.{KeptBlock};
     ghost use Rattle.red_window.specs.Kept.{AreShort, in_turn};
 
     ghost Value = { List KeptBlock };
@@ -32,17 +32,17 @@ impl Model for Window {
 
 impl Window {
     ghost use Rattle.rtt_base.specs.declared.limits.TheConstants.{MOST_PACKET_OCTETS};
-    ghost use Rattle.rtt_base.specs.declared.text_packets.Pts.{Pts};
+    ghost use Rattle.rtt_base.specs.declared.text_packets.PayloadTypes.{PayloadTypes};
     ghost use Rattle.wire_spec.specs.SentPackets.{packet_written};
     ghost use Rattle.stream_spec.specs.Own.{Sent, has_text_in};
-    ghost use Rattle.red_blocks.specs.declared.writing.TextHead.{TextHead};
+    ghost use Rattle.red_blocks.specs.declared.writers.TextHead.{TextHead};
     ghost use Rattle.red_blocks.specs.Writing.{packet_with};
     ghost use Rattle.red_window.specs.Kept.{blocks_kept};
-    ghost use Rattle.red_window.specs.Standing.{StandsFor};
+    ghost use Rattle.red_window.specs.Standing.{WindowStandsFor};
 
     /// A window of two generations, of a source of which nothing was sent.
     pub fn new() -> Window
-        ensures { (base : ℕ) → StandsFor 2 base result [] }
+        ensures { (base : ℕ) → WindowStandsFor 2 base result [] }
     {
         Window::with(USUAL)
     }
@@ -50,7 +50,7 @@ impl Window {
     /// A window of so many generations, 0 to 3, of a source of which nothing was sent.
     pub fn with(generations: u8) -> Window
         requires { generations ≤ 3 }
-        ensures { (base : ℕ) → StandsFor generations base result [] }
+        ensures { (base : ℕ) → WindowStandsFor generations base result [] }
     {
         Window {
             generations: usize::from(generations),
@@ -65,15 +65,15 @@ impl Window {
 
     /// Whether one of the blocks that the next packet repeats has text.
     pub fn due(&self) -> bool
-        ensures { (g base : ℕ) (past : List Sent) → StandsFor g base self.now past → result ≡ has_text_in g past }
+        ensures { (g base : ℕ) (past : List Sent) → WindowStandsFor g base self.now past → result ≡ has_text_in g past }
     {
         any_text(&self.places[..self.generations])
     }
 
     /// A packet that repeats these blocks, with a text of at most 1023 octets, has at most 4224 octets. Nothing is done.
     pub fn packets_fit(&self)
-        ensures { (pts : Pts) (head : TextHead) (text : List ℕ) → length text < 1024
-            → length (packet_written pts (packet_with head (blocks_kept head.stamp self.now) text))
+        ensures { (payload_types : PayloadTypes) (head : TextHead) (text : List ℕ) → length text < 1024
+            → length (packet_written payload_types (packet_with head (blocks_kept head.timestamp self.now) text))
             ≤ MOST_PACKET_OCTETS }
     {
         // so that the proof sees what is kept
@@ -81,13 +81,13 @@ impl Window {
     }
 
     /// Keeps a copy of the text of a packet with this timestamp, over the oldest block.
-    pub fn keep(&mut self, stamp: u32, text: &[u8])
+    pub fn keep(&mut self, timestamp: u32, text: &[u8])
         requires { length text.now < 1024 }
-        ensures { (g base : ℕ) (past : List Sent) (e : Sent) → StandsFor g base self.old past → stamp ≡ (base + e.media) % 2 ^ 32 → text.now ≡ e.text
-            → StandsFor g base self.new (e ∷ past) }
+        ensures { (g base : ℕ) (past : List Sent) (e : Sent) → WindowStandsFor g base self.old past → timestamp ≡ (base + e.media) % 2 ^ 32 → text.now ≡ e.text
+            → WindowStandsFor g base self.new (e ∷ past) }
     {
         if self.oldest < self.generations {
-            self.places[self.oldest].set(stamp, text);
+            self.places[self.oldest].set(timestamp, text);
             self.oldest = if self.oldest + 1 == self.generations {
                 0
             } else {
@@ -100,13 +100,13 @@ impl Window {
 impl OlderBlocks for Window {
     ghost use Rattle.red_window.specs.Kept.{blocks_kept};
 
-    ghost blocks = { λ window stamp. blocks_kept stamp window };
+    ghost blocks = { λ window timestamp. blocks_kept timestamp window };
 
     fn len(&self) -> usize {
         self.generations
     }
 
-    fn block(&self, place: usize, stamp: u32) -> BlockView<'_> {
+    fn block(&self, place: usize, timestamp: u32) -> BlockView<'_> {
         let behind = self.oldest + place;
         let index = if behind < self.generations {
             behind
@@ -115,7 +115,7 @@ impl OlderBlocks for Window {
         };
         let kept = &self.places[index];
         BlockView {
-            offset: kept.offset(stamp),
+            offset: kept.offset(timestamp),
             text: kept.text.as_slice(),
         }
     }

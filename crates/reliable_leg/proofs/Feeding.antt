@@ -2,17 +2,17 @@
 use Rattle.std.proofs.Common.{◌≡◌, ℕ, ◌+◌, ◌-◌, ◌≤◌, List, [], ◌∷◌, ◌++◌, append_assoc, append-nil, take-add, length, length-drop, take, drop, Option, None, Some, refl, sym, ap, subst, ◌∙◌, arith}
 use Rattle.std.proofs.lemmas.List.{take-append-drop, take_rest}
 use Rattle.frame_spec.specs.declared.frames.Frame.{Frame}
-use Rattle.frame_spec.specs.declared.frames.FrameFault.{FrameFault}
+use Rattle.frame_spec.specs.declared.frames.FrameRefusal.{FrameRefusal}
 use Rattle.frame_spec.specs.declared.kinds.FrameKind.TheVariants.{EndsInside}
 use Rattle.frame_spec.specs.Frames.{Place, Reading, frame_fault, read_frames, reading_from, start, lasting, lasting_fault}
 use Rattle.frame_spec.proofs.Readings.{nothing_left, read_no_further}
 use Rattle.reliable_leg.specs.Fronts.{place_of}
-use Rattle.reliable_leg.specs.Readers.{after, Leads, given_by, Goes, Stands, IsFed, IsTaken, IsRefused}
+use Rattle.reliable_leg.specs.Readers.{after, LeadsFrames, given_by, Goes, Stands, IsFed, IsTaken, FrameIsRefused}
 use Rattle.reliable_leg.specs.declared.readers.FrameReader.{FrameReader}
 use Rattle.reliable_leg.specs.declared.batches.TheConstants.{MOST_BATCH_FRAMES}
 
 -- ---- step behind step
-pub leads_both : (p q r : Place) (held left last one two : List ℕ) (fs gs : List Frame) → Leads p held one fs q left → Leads q left two gs r last → Leads p held (one ++ two) (fs ++ gs) r last
+pub leads_both : (p q r : Place) (held left last one two : List ℕ) (fs gs : List Frame) → LeadsFrames p held one fs q left → LeadsFrames q left two gs r last → LeadsFrames p held (one ++ two) (fs ++ gs) r last
 leads_both p q r held left last one two fs gs a b more =
     ap (λ octets. reading_from p (held ++ octets)) (append_assoc one two more)
     ∙ a (two ++ more)
@@ -21,7 +21,7 @@ leads_both p q r held left last one two fs gs a b more =
 
 -- so much of a piece was taken, and gave these frames
 pub record Fills (old now : FrameReader) (piece : List ℕ) (out : List Frame) (taken : ℕ) : Type 0 where
-  pub leads : Leads (place_of old.place) old.held (take taken piece) out (place_of now.place) now.held
+  pub leads : LeadsFrames (place_of old.place) old.held (take taken piece) out (place_of now.place) now.held
 
 pub fills_first : (r : FrameReader) (piece : List ℕ) → Fills r r piece [] 0
 fills_first r piece = record { leads = λ more. refl }
@@ -32,16 +32,16 @@ rest_of piece taken = take_rest piece taken
 
 fills_more : (old now new : FrameReader) (piece : List ℕ) (before out : List Frame) (taken more : ℕ) → Fills old now piece before taken → IsTaken now new (drop taken piece) before out more → Fills old new piece out (taken + more)
 fills_more old now new piece before out taken more f t = record {
-  leads = subst (λ octets. Leads (place_of old.place) old.held octets out (place_of new.place) new.held) (sym (take-add taken more piece))
-      (subst (λ fs. Leads (place_of old.place) old.held (take taken piece ++ take more (drop taken piece)) fs (place_of new.place) new.held) (sym t.out_is)
+  leads = subst (λ octets. LeadsFrames (place_of old.place) old.held octets out (place_of new.place) new.held) (sym (take-add taken more piece))
+      (subst (λ fs. LeadsFrames (place_of old.place) old.held (take taken piece ++ take more (drop taken piece)) fs (place_of new.place) new.held) (sym t.out_is)
       (leads_both (place_of old.place) (place_of now.place) (place_of new.place) old.held now.held new.held (take taken piece) (take more (drop taken piece)) before t.more f.leads t.leads));
 }
 
 -- a fault behind frames
-abbrev pub FailsBehind : Place → List ℕ → List ℕ → List Frame → FrameFault → Type 0
+abbrev pub FailsBehind : Place → List ℕ → List ℕ → List Frame → FrameRefusal → Type 0
 FailsBehind p held piece out fault = (more : List ℕ) → reading_from p (held ++ (piece ++ more)) ≡ record { frames = out; fault = Some fault }
 
-fails_behind : (old now new : FrameReader) (piece : List ℕ) (before out : List Frame) (taken : ℕ) (fault : FrameFault) → Fills old now piece before taken → IsRefused now new (drop taken piece) before out fault
+fails_behind : (old now new : FrameReader) (piece : List ℕ) (before out : List Frame) (taken : ℕ) (fault : FrameRefusal) → Fills old now piece before taken → FrameIsRefused now new (drop taken piece) before out fault
     → FailsBehind (place_of old.place) old.held piece out fault
 fails_behind old now new piece before out taken fault f t more =
     ap (λ octets. reading_from (place_of old.place) (old.held ++ (octets ++ more))) (sym (take-append-drop taken piece))
@@ -51,7 +51,7 @@ fails_behind old now new piece before out taken fault f t more =
     ∙ ap (λ fs. let y : Reading = record { frames = fs; fault = Some fault } in y) (append-nil before ∙ sym t.same)
 
 -- ---- what was given before
-abbrev is_last : Place → List ℕ → Option FrameFault
+abbrev is_last : Place → List ℕ → Option FrameRefusal
 is_last p [] = None
 is_last p (x ∷ xs) = Some (record { offset = p.byte; kind = EndsInside })
 
@@ -80,7 +80,7 @@ pub record Given (p : Place) (held before behind : List ℕ) (out : List Frame) 
   pub lasts : lasting_fault behind ≡ None
   pub goes : Goes p held None behind
 
-given : (p q : Place) (held left octets piece : List ℕ) (out : List Frame) → Goes p held None octets → Leads p held piece out q left → frame_fault q left ≡ Some EndsInside → Given q left octets (octets ++ piece) out
+given : (p q : Place) (held left octets piece : List ℕ) (out : List Frame) → Goes p held None octets → LeadsFrames p held piece out q left → frame_fault q left ≡ Some EndsInside → Given q left octets (octets ++ piece) out
 given p q held left octets piece out g l e = record {
   frames = sym front;
   lasts = ap lasting (reads_begun q left (octets ++ piece) goes e) ∙ no_last q left;
@@ -112,7 +112,7 @@ feeds old new piece octets out taken o n f e s =
     record { frames = g.frames; fault_is = g.lasts; stands = subst (λ fault. Goes (place_of new.place) new.held fault (octets ++ take taken piece)) (sym n) g.goes }
 
 -- a fault that is met
-pub meets : (old new : FrameReader) (piece octets : List ℕ) (out : List Frame) (fault : FrameFault) → old.fault ≡ None → new.fault ≡ Some fault → FailsBehind (place_of old.place) old.held piece out fault → lasting (Some fault) ≡ Some fault
+pub meets : (old new : FrameReader) (piece octets : List ℕ) (out : List Frame) (fault : FrameRefusal) → old.fault ≡ None → new.fault ≡ Some fault → FailsBehind (place_of old.place) old.held piece out fault → lasting (Some fault) ≡ Some fault
     → Stands old octets → IsFed new octets (octets ++ piece) out (Some fault)
 meets old new piece octets out fault o n f lasts s = record {
   frames = sym front;
@@ -133,7 +133,7 @@ meets old new piece octets out fault o n f lasts s = record {
     front = ap (λ (o : List ℕ). given_by o) (sym (nothing_more (octets ++ piece))) ∙ ap (λ (r : Reading). r.frames) (all [])
 
 -- a fault that was met before
-pub still : (r : FrameReader) (piece octets : List ℕ) (fault : FrameFault) → r.fault ≡ Some fault → Stands r octets → IsFed r octets (octets ++ piece) [] (Some fault)
+pub still : (r : FrameReader) (piece octets : List ℕ) (fault : FrameRefusal) → r.fault ≡ Some fault → Stands r octets → IsFed r octets (octets ++ piece) [] (Some fault)
 still r piece octets fault n s = record {
   frames = append-nil (given_by octets) ∙ sym front;
   fault_is = ap (λ (o : List ℕ). lasting (read_frames o).fault) (sym (nothing_more (octets ++ piece))) ∙ ap (λ (r : Reading). lasting r.fault) (all []) ∙ g.0;
@@ -157,15 +157,15 @@ ends_whole r octets o e z s = sym (reads_begun (place_of r.place) r.held octets 
     none [] z = refl
     none (x ∷ xs) z = absurd (omega (arith, z))
 
-pub ends_inside : (r : FrameReader) (octets : List ℕ) (fault : FrameFault) → r.fault ≡ None → frame_fault (place_of r.place) r.held ≡ Some EndsInside → (length r.held ≡ 0 → ⊥) → fault ≡ record { offset = r.place.byte; kind = EndsInside } → Stands r octets
+pub ends_inside : (r : FrameReader) (octets : List ℕ) (fault : FrameRefusal) → r.fault ≡ None → frame_fault (place_of r.place) r.held ≡ Some EndsInside → (length r.held ≡ 0 → ⊥) → fault ≡ record { offset = r.place.byte; kind = EndsInside } → Stands r octets
     → Some fault ≡ (read_frames octets).fault
 ends_inside r octets fault o e z f s = sym (reads_begun (place_of r.place) r.held octets (subst (λ fault. Goes (place_of r.place) r.held fault octets) o s) e ∙ some r.held z)
   where
     some : (held : List ℕ) → (length held ≡ 0 → ⊥) → is_last (place_of r.place) held ≡ Some fault
     some [] z = absurd (z refl)
-    some (x ∷ xs) z = ap (λ (f : FrameFault). Some f) (sym f)
+    some (x ∷ xs) z = ap (λ (f : FrameRefusal). Some f) (sym f)
 
-pub ends_so : (r : FrameReader) (octets : List ℕ) (fault : FrameFault) → r.fault ≡ Some fault → Stands r octets → Some fault ≡ (read_frames octets).fault
+pub ends_so : (r : FrameReader) (octets : List ℕ) (fault : FrameRefusal) → r.fault ≡ Some fault → Stands r octets → Some fault ≡ (read_frames octets).fault
 ends_so r octets fault n s =
     let g = subst (λ fault. Goes (place_of r.place) r.held fault octets) n s in
     sym (ap (λ (o : List ℕ). (read_frames o).fault) (sym (nothing_more octets)) ∙ ap (λ (r : Reading). r.fault) (g.1 []))
@@ -197,10 +197,10 @@ feeding_more old now new piece rest before out taken more r f t o few within = r
 pub feeds_all : (old now : FrameReader) (piece octets : List ℕ) (out : List Frame) (taken : ℕ) → old.fault ≡ None → Feeding old now piece out taken → frame_fault (place_of now.place) now.held ≡ Some EndsInside → Stands old octets → IsFed now octets (octets ++ take taken piece) out None
 feeds_all old now piece octets out taken o f e s = feeds old now piece octets out taken o f.no_fault f.fills e s
 
-pub meets_one : (old now new : FrameReader) (piece rest octets : List ℕ) (before out : List Frame) (taken : ℕ) (fault : FrameFault) → old.fault ≡ None → rest ≡ take (length piece - taken) (drop taken piece) → Feeding old now piece before taken → IsRefused now new rest before out fault
+pub meets_one : (old now new : FrameReader) (piece rest octets : List ℕ) (before out : List Frame) (taken : ℕ) (fault : FrameRefusal) → old.fault ≡ None → rest ≡ take (length piece - taken) (drop taken piece) → Feeding old now piece before taken → FrameIsRefused now new rest before out fault
     → Stands old octets → IsFed new octets (octets ++ piece) out (Some fault)
 meets_one old now new piece rest octets before out taken fault o r f t s =
-    let refused = subst (λ octets. IsRefused now new octets before out fault) (r ∙ rest_of piece taken) t in
+    let refused = subst (λ octets. FrameIsRefused now new octets before out fault) (r ∙ rest_of piece taken) t in
     meets old new piece octets out fault o refused.fault_is (fails_behind old now new piece before out taken fault f.fills refused) refused.lasts s
 
 -- nothing came yet

@@ -11,7 +11,7 @@ use Rattle.frame_spec.specs.Frames.{Place, frame_fault, frame_of, length_of, pla
 use Rattle.frame_spec.proofs.Readings.{whole, begun, same_head, held_frame, held_fault}
 use Rattle.reliable_leg.specs.Fronts.{needed}
 use Rattle.reliable_leg.specs.Fronts.{place_of, view_of}
-use Rattle.reliable_leg.specs.Readers.{Leads, Fails, IsTaken, IsRefused}
+use Rattle.reliable_leg.specs.Readers.{LeadsFrames, Fails, IsTaken, FrameIsRefused}
 use Rattle.reliable_leg.specs.declared.fronts.FrameView.{FrameView}
 use Rattle.reliable_leg.specs.declared.readers.FrameReader.{FrameReader}
 use Rattle.frame_spec.specs.declared.frames.Frame.{Frame}
@@ -51,11 +51,11 @@ just_whole p held part few e =
     ]
 
 pub leads_frame : (p : Place) (held part : List ℕ) → length held + length part ≤ needed held → frame_fault p (held ++ part) ≡ None
-    → Leads p held part (frame_of (held ++ part) ∷ []) (place_behind p (frame_of (held ++ part))) []
+    → LeadsFrames p held part (frame_of (held ++ part) ∷ []) (place_behind p (frame_of (held ++ part))) []
 leads_frame p held part few e more =
     ap (λ octets. reading_from p octets) (sym (append_assoc held part more)) ∙ held_frame p (held ++ part) more e (just_whole p held part few e)
 
-pub leads_on : (p : Place) (held part : List ℕ) → Leads p held part [] p (held ++ part)
+pub leads_on : (p : Place) (held part : List ℕ) → LeadsFrames p held part [] p (held ++ part)
 leads_on p held part more = ap (λ octets. reading_from p octets) (sym (append_assoc held part more))
 
 pub fails_here : (p : Place) (held piece : List ℕ) (taken : ℕ) (kind : FrameKind) → frame_fault p (held ++ take taken piece) ≡ Some kind → kind ≢ EndsInside
@@ -76,9 +76,9 @@ pub takes_frame : (old new : FrameReader) (piece : List ℕ) (before out : List 
 takes_frame old new piece before out taken held v few within h e view o q n = record {
   more = view_of v ∷ [];
   out_is = o;
-  leads = subst (λ left. Leads (place_of old.place) old.held (take taken piece) (view_of v ∷ []) (place_of new.place) left) (sym n)
-      (subst (λ place. Leads (place_of old.place) old.held (take taken piece) (view_of v ∷ []) place []) (sym q)
-      (subst (λ (f : Frame). Leads (place_of old.place) old.held (take taken piece) (f ∷ []) (place_behind (place_of old.place) f) []) (sym (view ∙ ap frame_of h))
+  leads = subst (λ left. LeadsFrames (place_of old.place) old.held (take taken piece) (view_of v ∷ []) (place_of new.place) left) (sym n)
+      (subst (λ place. LeadsFrames (place_of old.place) old.held (take taken piece) (view_of v ∷ []) place []) (sym q)
+      (subst (λ (f : Frame). LeadsFrames (place_of old.place) old.held (take taken piece) (f ∷ []) (place_behind (place_of old.place) f) []) (sym (view ∙ ap frame_of h))
       (leads_frame (place_of old.place) old.held (take taken piece) (part_fits old.held piece taken few within) (subst (λ octets. frame_fault (place_of old.place) octets ≡ None) h e))));
 }
 
@@ -86,8 +86,8 @@ pub takes_none : (old new : FrameReader) (piece : List ℕ) (out : List Frame) (
 takes_none old new piece out taken h q = record {
   more = [];
   out_is = sym (append-nil out);
-  leads = subst (λ place. Leads (place_of old.place) old.held (take taken piece) [] (place_of place) new.held) (sym q)
-      (subst (λ left. Leads (place_of old.place) old.held (take taken piece) [] (place_of old.place) left) (sym h) (leads_on (place_of old.place) old.held (take taken piece)));
+  leads = subst (λ place. LeadsFrames (place_of old.place) old.held (take taken piece) [] (place_of place) new.held) (sym q)
+      (subst (λ left. LeadsFrames (place_of old.place) old.held (take taken piece) [] (place_of old.place) left) (sym h) (leads_on (place_of old.place) old.held (take taken piece)));
 }
 
 lasts_at : (offset : ℕ) (kind : FrameKind) → kind ≢ EndsInside → lasting (Some (record { offset = offset; kind = kind })) ≡ Some (record { offset = offset; kind = kind })
@@ -101,7 +101,7 @@ lasts_at offset ManyFrames n = refl
 
 pub refuses : (old new : FrameReader) (piece : List ℕ) (out : List Frame) (taken : ℕ) (held : List ℕ) (kind : FrameKind) → held ≡ old.held ++ take taken piece
     → frame_fault (place_of old.place) held ≡ Some kind → kind ≢ EndsInside → new.fault ≡ Some (record { offset = old.place.byte; kind = kind })
-    → IsRefused old new piece out out (record { offset = old.place.byte; kind = kind })
+    → FrameIsRefused old new piece out out (record { offset = old.place.byte; kind = kind })
 refuses old new piece out taken held kind h e lasts f = record {
   same = refl;
   fails = fails_here (place_of old.place) old.held piece taken kind (subst (λ octets. frame_fault (place_of old.place) octets ≡ Some kind) h e) lasts;

@@ -6,10 +6,10 @@ use Rattle.frame_spec.specs.declared.kinds.FrameKind.TheVariants.{EndsInside}
 use Rattle.frame_spec.specs.declared.limits.TheConstants.{FRAME_HEAD_OCTETS}
 use Rattle.frame_spec.specs.Frames as frames
 use Rattle.frame_spec.specs.Frames.{frame_fault, frame_of, length_of}
-use Rattle.reliable_leg.specs.declared.fronts.Place.{Place}
+use Rattle.reliable_leg.specs.declared.fronts.FramePosition.{FramePosition}
 use Rattle.reliable_leg.specs.declared.fronts.FrameView.{FrameView}
 
-abbrev pub place_of : Place → frames.Place
+abbrev pub place_of : FramePosition → frames.Place
 place_of p = record { byte = p.byte; latest = p.latest }
 
 abbrev pub view_of : FrameView → Frame
@@ -22,7 +22,7 @@ IsFront p octets (Ok None) = frame_fault p octets ≡ Some EndsInside
 IsFront p octets (Err kind) = (frame_fault p octets ≡ Some kind) × (kind ≢ EndsInside)
 
 -- a frame that begins there with these octets may still become whole; with no octets it is still to come
-abbrev pub IsBegun : Place → List ℕ → Type 0
+abbrev pub IsBegun : FramePosition → List ℕ → Type 0
 IsBegun p held = frame_fault (place_of p) held ≡ Some EndsInside
 
 -- how many octets of a frame tell what is to be known next of it: its head, and then all

@@ -1,7 +1,7 @@
 -- What a reader of frames stands for (profile).
 use Rattle.std.specs.Prelude.{◌≡◌, ℕ, List, [], ◌++◌, take, Option, None, Some, Result, Ok, Err}
 use Rattle.frame_spec.specs.declared.frames.Frame.{Frame}
-use Rattle.frame_spec.specs.declared.frames.FrameFault.{FrameFault}
+use Rattle.frame_spec.specs.declared.frames.FrameRefusal.{FrameRefusal}
 use Rattle.frame_spec.specs.Frames as frames
 use Rattle.frame_spec.specs.Frames.{Reading, read_frames, reading_from, lasting, lasting_fault}
 use Rattle.reliable_leg.specs.Fronts.{place_of}
@@ -12,11 +12,11 @@ abbrev pub after : List Frame → Reading → Reading
 after fs r = record { frames = fs ++ r.frames; fault = r.fault }
 
 -- whatever follows, octets at one place are read as these frames and then what is at another place
-abbrev pub Leads : frames.Place → List ℕ → List ℕ → List Frame → frames.Place → List ℕ → Type 0
-Leads p held given fs q left = (more : List ℕ) → reading_from p (held ++ (given ++ more)) ≡ after fs (reading_from q (left ++ more))
+abbrev pub LeadsFrames : frames.Place → List ℕ → List ℕ → List Frame → frames.Place → List ℕ → Type 0
+LeadsFrames p held given fs q left = (more : List ℕ) → reading_from p (held ++ (given ++ more)) ≡ after fs (reading_from q (left ++ more))
 
 -- whatever follows, octets have this fault, and no frame in front of it
-abbrev pub Fails : frames.Place → List ℕ → List ℕ → FrameFault → Type 0
+abbrev pub Fails : frames.Place → List ℕ → List ℕ → FrameRefusal → Type 0
 Fails p held given fault = (more : List ℕ) → reading_from p (held ++ (given ++ more)) ≡ record { frames = []; fault = Some fault }
 
 -- ---- a reader that was given these octets
@@ -25,7 +25,7 @@ abbrev pub given_by : List ℕ → List Frame
 given_by octets = (read_frames octets).frames
 
 -- with no fault, what follows is read behind what is held; a fault is that of the octets, whatever follows them
-abbrev pub Goes : frames.Place → List ℕ → Option FrameFault → List ℕ → Type 0
+abbrev pub Goes : frames.Place → List ℕ → Option FrameRefusal → List ℕ → Type 0
 Goes p held None octets = (more : List ℕ) → read_frames (octets ++ more) ≡ after (given_by octets) (reading_from p (held ++ more))
 Goes p held (Some fault) octets = (lasting (Some fault) ≡ Some fault) × ((more : List ℕ) → read_frames (octets ++ more) ≡ record { frames = given_by octets; fault = Some fault })
 
@@ -38,13 +38,13 @@ IsOpen r = r.fault ≡ None
 
 -- ---- one piece
 -- Behind octets others were taken: these frames are those of all behind those before, and all have this fault, if one.
-pub record IsFed (r : FrameReader) (before behind : List ℕ) (out : List Frame) (fault : Option FrameFault) : Type 0 where
+pub record IsFed (r : FrameReader) (before behind : List ℕ) (out : List Frame) (fault : Option FrameRefusal) : Type 0 where
   pub frames : given_by before ++ out ≡ given_by behind
   pub fault_is : lasting_fault behind ≡ fault
   pub stands : Stands r behind
 
 -- Whatever octets it was given before.
-abbrev pub Feeds : FrameReader → FrameReader → List ℕ → List Frame → Result ℕ FrameFault → Type 0
+abbrev pub Feeds : FrameReader → FrameReader → List ℕ → List Frame → Result ℕ FrameRefusal → Type 0
 Feeds old new piece out (Ok taken) = (octets : List ℕ) → Stands old octets → IsFed new octets (octets ++ take taken piece) out None
 Feeds old new piece out (Err fault) = (octets : List ℕ) → Stands old octets → IsFed new octets (octets ++ piece) out (Some fault)
 
@@ -52,19 +52,19 @@ Feeds old new piece out (Err fault) = (octets : List ℕ) → Stands old octets 
 pub record IsTaken (old new : FrameReader) (piece : List ℕ) (before out : List Frame) (taken : ℕ) : Type 0 where
   pub more : List Frame
   pub out_is : out ≡ before ++ more
-  pub leads : Leads (place_of old.place) old.held (take taken piece) more (place_of new.place) new.held
+  pub leads : LeadsFrames (place_of old.place) old.held (take taken piece) more (place_of new.place) new.held
 
-pub record IsRefused (old new : FrameReader) (piece : List ℕ) (before out : List Frame) (fault : FrameFault) : Type 0 where
+pub record FrameIsRefused (old new : FrameReader) (piece : List ℕ) (before out : List Frame) (fault : FrameRefusal) : Type 0 where
   pub same : out ≡ before
   pub fails : Fails (place_of old.place) old.held piece fault
   pub lasts : lasting (Some fault) ≡ Some fault
   pub fault_is : new.fault ≡ Some fault
 
-abbrev pub Takes : FrameReader → FrameReader → List ℕ → List Frame → List Frame → Result ℕ FrameFault → Type 0
+abbrev pub Takes : FrameReader → FrameReader → List ℕ → List Frame → List Frame → Result ℕ FrameRefusal → Type 0
 Takes old new piece before out (Ok taken) = IsTaken old new piece before out taken
-Takes old new piece before out (Err fault) = IsRefused old new piece before out fault
+Takes old new piece before out (Err fault) = FrameIsRefused old new piece before out fault
 
 -- the fault of an end
-abbrev pub is_fault : Result (Unit {0}) FrameFault → Option FrameFault
+abbrev pub is_fault : Result (Unit {0}) FrameRefusal → Option FrameRefusal
 is_fault (Ok done) = None
 is_fault (Err fault) = Some fault

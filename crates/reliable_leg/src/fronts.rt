@@ -12,7 +12,7 @@ use simdutf8::basic::from_utf8;
 
 /// Where a frame begins.
 #[derive(Clone, Copy, Debug)]
-pub struct Place {
+pub struct FramePosition {
     /// How many octets stand in front of it.
     pub byte: u64,
     /// The moment of the frame in front of it, in milliseconds; 0 for the first.
@@ -39,7 +39,7 @@ fn head_of(octets: &[u8]) -> (u32, u16)
 }
 
 /// The first test that the head of a frame fails.
-fn fault_of_head(place: Place, at: u32, size: u16) -> Option<FrameKind>
+fn fault_of_head(place: FramePosition, at: u32, size: u16) -> Option<FrameKind>
     requires { place.byte ≤ MOST_FRAMES_OCTETS }
     ensures value { result ≡ head_fault (place_of place) at size }
     ensures lasts { IfSome result (λ kind. kind ≢ EndsInside) }
@@ -67,7 +67,7 @@ fn is_text(octets: &[u8]) -> bool
 
 /// The frame in front of these octets, which begin at `place`, or the first test that it fails; none where it is not there to its
 /// end.
-pub fn first_frame(place: Place, octets: &[u8]) -> Result<Option<FrameView<'_>>, FrameKind>
+pub fn first_frame(place: FramePosition, octets: &[u8]) -> Result<Option<FrameView<'_>>, FrameKind>
     requires { place.byte ≤ MOST_FRAMES_OCTETS }
     ensures { IsFront (place_of place) octets.now result }
 {

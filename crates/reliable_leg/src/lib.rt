@@ -4,13 +4,13 @@
 mod batches;
 mod fronts;
 mod readers;
-mod writing;
+mod writers;
 
 pub use batches::{FrameBatch, MOST_BATCH_FRAMES};
-pub use frame_spec::{Frame, FrameFault, FrameKind};
-pub use fronts::{FrameView, Place, first_frame};
+pub use frame_spec::{Frame, FrameRefusal, FrameKind};
+pub use fronts::{FrameView, FramePosition, first_frame};
 pub use readers::FrameReader;
-pub use writing::write_frame;
+pub use writers::write_frame;
 
 #[cfg(test)]
 mod tests;

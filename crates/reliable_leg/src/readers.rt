@@ -5,9 +5,9 @@ ghost use Rattle.rtt_base.specs.declared.limits.TheConstants.{MOST_PACKET_OCTETS
 ghost use Rattle.reliable_leg.specs.Fronts.{place_of, IsBegun, needed};
 
 use crate::batches::{FrameBatch, MOST_BATCH_FRAMES};
-use crate::fronts::{Place, first_frame};
+use crate::fronts::{FramePosition, first_frame};
 use frame_spec::limits::FRAME_HEAD_OCTETS;
-use frame_spec::{FrameFault, FrameKind};
+use frame_spec::{FrameRefusal, FrameKind};
 use rtt_base::Packet;
 
 /// Reads frames from a stream that comes in pieces, which may be cut anywhere. It keeps the octets of one frame. After a fault it
@@ -15,10 +15,10 @@ use rtt_base::Packet;
 #[derive(Drop)]
 pub struct FrameReader {
     /// Where the frame begins that is not yet whole.
-    place: Place,
+    place: FramePosition,
     /// The octets of it that are there.
     held: Packet,
-    fault: Option<FrameFault>,
+    fault: Option<FrameRefusal>,
     ghost begun: { IsBegun place held },
     ghost within: { place.byte ≤ MOST_FRAMES_OCTETS },
 }
@@ -59,7 +59,7 @@ impl FrameReader {
         ensures { Stands result [] }
     {
         FrameReader {
-            place: Place { byte: 0, latest: 0 },
+            place: FramePosition { byte: 0, latest: 0 },
             held: Packet::new(),
             fault: None,
         }
@@ -67,7 +67,7 @@ impl FrameReader {
 
     /// Puts up to 64 frames that end in this piece in place of what is in `out`, and tells how many octets it took: those up to the
     /// end of the 64th frame, or all. At a fault `out` has the frames of this piece before it.
-    pub fn feed(&mut self, piece: &[u8], out: &mut FrameBatch) -> Result<usize, FrameFault>
+    pub fn feed(&mut self, piece: &[u8], out: &mut FrameBatch) -> Result<usize, FrameRefusal>
         ensures feeds { Feeds self.old self.new piece.now out.new result }
         ensures few { length out.new ≤ MOST_BATCH_FRAMES }
         ensures within { IfOk result (λ taken. taken ≤ length piece.now) }
@@ -88,7 +88,7 @@ impl FrameReader {
     }
 
     /// Takes octets of this piece up to the end of the head or of the frame that is begun, and appends the frame where it is whole.
-    fn take(&mut self, piece: &[u8], out: &mut FrameBatch) -> Result<usize, FrameFault>
+    fn take(&mut self, piece: &[u8], out: &mut FrameBatch) -> Result<usize, FrameRefusal>
         requires open { IsOpen self.old }
         requires some { 0 < length piece.now }
         requires room { length out.old < MOST_BATCH_FRAMES }
@@ -101,7 +101,7 @@ impl FrameReader {
         let taken = take_missing(&mut self.held, piece);
         match first_frame(self.place, self.held.as_slice()) {
             Ok(Some(view)) => {
-                let place = Place {
+                let place = FramePosition {
                     byte: self.place.byte + (FRAME_HEAD_OCTETS + view.text.len()) as u64,
                     latest: view.at,
                 };
@@ -112,7 +112,7 @@ impl FrameReader {
             }
             Ok(None) => Ok(taken),
             Err(kind) => {
-                let fault = FrameFault {
+                let fault = FrameRefusal {
                     offset: self.place.byte,
                     kind,
                 };
@@ -124,7 +124,7 @@ impl FrameReader {
     }
 
     /// Tells whether the octets that were taken are whole frames.
-    pub fn end(&self) -> Result<(), FrameFault>
+    pub fn end(&self) -> Result<(), FrameRefusal>
         ensures { (octets : List ℕ) → Stands self.now octets → is_fault result ≡ (read_frames octets).fault }
     {
         if let Some(fault) = self.fault {
@@ -133,7 +133,7 @@ impl FrameReader {
         if self.held.is_empty() {
             return Ok(());
         }
-        Err(FrameFault {
+        Err(FrameRefusal {
             offset: self.place.byte,
             kind: FrameKind::EndsInside,
         })

@@ -1,5 +1,5 @@
 //! Frames with octets by hand: whole, octet by octet, and refused.
-use crate::{FrameBatch, FrameFault, FrameKind, FrameReader, write_frame};
+use crate::{FrameBatch, FrameRefusal, FrameKind, FrameReader, write_frame};
 use rtt_base::{Bytes, Text};
 use std::process::Abort;
 use std::test::Fail;
@@ -19,9 +19,9 @@ fn is_frame(batch: &FrameBatch, place: usize, at: u32, text: &[u8]) -> bool {
 fn read_at_once(
     octets: &[u8],
 ) -> (
-    Result<usize, FrameFault>,
+    Result<usize, FrameRefusal>,
     FrameBatch,
-    Result<(), FrameFault>,
+    Result<(), FrameRefusal>,
 ) {
     let mut reader = FrameReader::new();
     let mut batch = FrameBatch::new();
@@ -34,13 +34,13 @@ fn expect_refused(rt: &impl Abort, octets: &[u8], frames: usize, offset: u64, ki
     let mut reader = FrameReader::new();
     let mut batch = FrameBatch::new();
     let answer = reader.feed(octets, &mut batch);
-    assert!(rt; answer == Err(FrameFault { offset, kind }));
+    assert!(rt; answer == Err(FrameRefusal { offset, kind }));
     assert!(rt; batch.len() == frames);
     let again = reader.feed(octets, &mut batch);
-    assert!(rt; again == Err(FrameFault { offset, kind }));
+    assert!(rt; again == Err(FrameRefusal { offset, kind }));
     assert!(rt; batch.len() == 0);
     let end = reader.end();
-    assert!(rt; end == Err(FrameFault { offset, kind }));
+    assert!(rt; end == Err(FrameRefusal { offset, kind }));
 }
 
 #[test]
@@ -78,7 +78,7 @@ fn a_cut_frame_is_missed_at_the_end(rt: HostRuntime) {
     assert!(rt; answer == Ok(13));
     assert!(rt; batch.len() == 1);
     assert!(rt;
-        end == Err(FrameFault {
+        end == Err(FrameRefusal {
             offset: 7,
             kind: FrameKind::EndsInside
         })

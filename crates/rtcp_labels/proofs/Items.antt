@@ -8,8 +8,8 @@ use Rattle.std.specs.Int.{w32, from_be_bytes}
 use Rattle.rtt_base.specs.Steps.{◌>>=◌}
 use Rattle.rtcp_spec.specs.declared.events.Event.{Event}
 use Rattle.rtcp_spec.specs.declared.events.Event.TheVariants as event
-use Rattle.rtcp_spec.specs.declared.faults.RtcpFault.{RtcpFault}
-use Rattle.rtcp_spec.specs.declared.faults.RtcpFault.TheVariants as faults
+use Rattle.rtcp_spec.specs.declared.faults.RtcpRefusal.{RtcpRefusal}
+use Rattle.rtcp_spec.specs.declared.faults.RtcpRefusal.TheVariants as faults
 use Rattle.rtcp_spec.specs.Rtcp.{Item, item_at, name_in, Told, and_items, items_within, items, fill, filled, chunk_at, chunks, byes}
 use Rattle.rtcp_labels.specs.Notes.{Notes, noted, all_noted, Noted, after, after_all}
 use Rattle.rtcp_labels.proofs.Noting.{noted_both, after_more}
@@ -31,17 +31,17 @@ same (suc n) (suc m) ssrc [] h k = refl
 same zero (suc m) ssrc (x ∷ xs) h k = absurd (omega arith)
 same (suc n) zero ssrc (x ∷ xs) h k = absurd (omega arith)
 same (suc n) (suc m) ssrc (x ∷ xs) h k =
-    ap (λ (read : Result Told RtcpFault). item_at (x ∷ xs) >>= and_items ssrc (x ∷ xs) read)
+    ap (λ (read : Result Told RtcpRefusal). item_at (x ∷ xs) >>= and_items ssrc (x ∷ xs) read)
     (same n m ssrc (behind (x ∷ xs)) (omega (arith, shorter x xs)) (omega (arith, shorter x xs)))
 
 unroll : (ssrc : ℕ) (octets : List ℕ) → items ssrc octets ≡ (item_at octets >>= and_items ssrc octets (items ssrc (behind octets)))
 unfolding items_within
 unroll ssrc [] = refl
 unroll ssrc (x ∷ xs) =
-    ap (λ (read : Result Told RtcpFault). item_at (x ∷ xs) >>= and_items ssrc (x ∷ xs) read)
+    ap (λ (read : Result Told RtcpRefusal). item_at (x ∷ xs) >>= and_items ssrc (x ∷ xs) read)
     (same (length xs) (length (behind (x ∷ xs))) ssrc (behind (x ∷ xs)) (shorter x xs) (omega arith))
 
-pub item_refused : (n : Notes) (ssrc : ℕ) (octets : List ℕ) (fault : RtcpFault) → item_at octets ≡ Err fault → after n (items ssrc octets) ≡ Err fault
+pub item_refused : (n : Notes) (ssrc : ℕ) (octets : List ℕ) (fault : RtcpRefusal) → item_at octets ≡ Err fault → after n (items ssrc octets) ≡ Err fault
 item_refused n ssrc octets fault e = ap (after n) (unroll ssrc octets) ∙ rw e refl
 
 pub item_more : (n : Notes) (ssrc : ℕ) (octets : List ℕ) (i : Item) → item_at octets ≡ Ok (Some i)
@@ -71,11 +71,11 @@ not_named ssrc kind text none = go (kind == 2) (nat_lt 0 (length text)) (is_utf8
 
 -- ---- chunks
 
-got : Noted → Result Noted RtcpFault → Noted
+got : Noted → Result Noted RtcpRefusal → Noted
 got d (Ok n) = n
 got d (Err e) = d
 
-abbrev alright : Noted → Result Noted RtcpFault
+abbrev alright : Noted → Result Noted RtcpRefusal
 alright n = Ok n
 
 -- what was read is the one thing that was read
@@ -83,18 +83,18 @@ parts : (a b : Noted) → alright a ≡ alright b → a ≡ b
 unfolding got
 parts a b e = ap (got a) e
 
-pub items_refused : (n : Notes) (octets : List ℕ) (read : Result Told RtcpFault) (fault : RtcpFault) → after n read ≡ Err fault → after n (read >>= filled octets) ≡ Err fault
+pub items_refused : (n : Notes) (octets : List ℕ) (read : Result Told RtcpRefusal) (fault : RtcpRefusal) → after n read ≡ Err fault → after n (read >>= filled octets) ≡ Err fault
 items_refused n octets (Ok told) fault e = absurd cc
 items_refused n octets (Err d) fault e = e
 
-pub not_filled : (n new : Notes) (octets rest : List ℕ) (read : Result Told RtcpFault) → after n read ≡ Ok (record { noted = new; rest = rest })
+pub not_filled : (n new : Notes) (octets rest : List ℕ) (read : Result Told RtcpRefusal) → after n read ≡ Ok (record { noted = new; rest = rest })
     → nat_lt (length rest) (fill (length octets - length rest)) ≡ true → after n (read >>= filled octets) ≡ Err faults.Items
 not_filled n new octets rest (Err d) e short = absurd cc
 not_filled n new octets rest (Ok told) e short =
     let is : told.rest ≡ rest = ap (λ (x : Noted). x.rest) (parts _ _ e) in
     rw (is, short) refl
 
-pub is_filled : (n new : Notes) (octets rest : List ℕ) (read : Result Told RtcpFault) → after n read ≡ Ok (record { noted = new; rest = rest })
+pub is_filled : (n new : Notes) (octets rest : List ℕ) (read : Result Told RtcpRefusal) → after n read ≡ Ok (record { noted = new; rest = rest })
     → nat_lt (length rest) (fill (length octets - length rest)) ≡ false
     → after n (read >>= filled octets) ≡ Ok (record { noted = new; rest = drop (fill (length octets - length rest)) rest })
 is_filled n new octets rest (Err d) e there = absurd cc
@@ -103,11 +103,11 @@ is_filled n new octets rest (Ok told) e there =
     let new_is : all_noted n told.events ≡ new = ap (λ (x : Noted). x.noted) (parts _ _ e) in
     rw (is, there, new_is) refl
 
-pub chunk_refused : (n : Notes) (left : ℕ) (octets : List ℕ) (fault : RtcpFault) → after n (chunk_at octets) ≡ Err fault → after_all n (chunks (suc left) octets) ≡ Err fault
+pub chunk_refused : (n : Notes) (left : ℕ) (octets : List ℕ) (fault : RtcpRefusal) → after n (chunk_at octets) ≡ Err fault → after_all n (chunks (suc left) octets) ≡ Err fault
 unfolding chunks
 chunk_refused n left octets fault e = go (chunk_at octets) e
   where
-    go : (read : Result Told RtcpFault) → after n read ≡ Err fault → after_all n (read >>= λ told. chunks left told.rest >>= λ events. Ok (told.events ++ events)) ≡ Err fault
+    go : (read : Result Told RtcpRefusal) → after n read ≡ Err fault → after_all n (read >>= λ told. chunks left told.rest >>= λ events. Ok (told.events ++ events)) ≡ Err fault
     go (Ok told) h = absurd cc
     go (Err d) h = let is : d ≡ fault = cc in rw is refl
 
@@ -116,11 +116,11 @@ pub chunk_more : (n new : Notes) (left : ℕ) (octets rest : List ℕ) → after
 unfolding chunks
 chunk_more n new left octets rest e = go (chunk_at octets) e
   where
-    others : (told : Told) (read : Result (List Event) RtcpFault) → after_all n (read >>= λ events. Ok (told.events ++ events)) ≡ after_all (all_noted n told.events) read
+    others : (told : Told) (read : Result (List Event) RtcpRefusal) → after_all n (read >>= λ events. Ok (told.events ++ events)) ≡ after_all (all_noted n told.events) read
     others told (Ok events) = ap (λ (all : Notes). Ok all) (noted_both n told.events events)
     others told (Err d) = refl
 
-    go : (read : Result Told RtcpFault) → after n read ≡ Ok (record { noted = new; rest = rest })
+    go : (read : Result Told RtcpRefusal) → after n read ≡ Ok (record { noted = new; rest = rest })
         → after_all n (read >>= λ told. chunks left told.rest >>= λ events. Ok (told.events ++ events)) ≡ after_all new (chunks left rest)
     go (Err d) h = absurd cc
     go (Ok told) h =
@@ -130,7 +130,7 @@ chunk_more n new left octets rest e = go (chunk_at octets) e
 
 -- ---- where some are left
 
-pub chunk_refused_of : (n : Notes) (left : ℕ) (octets : List ℕ) (fault : RtcpFault) → 0 < left → after n (chunk_at octets) ≡ Err fault → after_all n (chunks left octets) ≡ Err fault
+pub chunk_refused_of : (n : Notes) (left : ℕ) (octets : List ℕ) (fault : RtcpRefusal) → 0 < left → after n (chunk_at octets) ≡ Err fault → after_all n (chunks left octets) ≡ Err fault
 chunk_refused_of n zero octets fault some e = absurd (omega arith)
 chunk_refused_of n (suc left) octets fault some e = chunk_refused n left octets fault e
 

@@ -5,8 +5,8 @@ use Rattle.std.proofs.lemmas.List.{append-nil}
 use Rattle.std.proofs.lemmas.Bool.{lt-ltb, le-ltb, ltb-true, ltb-false}
 use Rattle.rtt_base.specs.Steps.{◌>>=◌}
 use Rattle.rtcp_spec.specs.declared.events.Event.{Event}
-use Rattle.rtcp_spec.specs.declared.faults.RtcpFault.{RtcpFault}
-use Rattle.rtcp_spec.specs.declared.faults.RtcpFault.TheVariants.{Many}
+use Rattle.rtcp_spec.specs.declared.faults.RtcpRefusal.{RtcpRefusal}
+use Rattle.rtcp_spec.specs.declared.faults.RtcpRefusal.TheVariants.{Many}
 use Rattle.rtcp_spec.specs.Rtcp.{Told, and_told, at_most_64}
 use Rattle.rtcp_labels.specs.Notes.{Notes, notes, noted, all_noted, after}
 
@@ -15,7 +15,7 @@ noted_both n [] ys = refl
 noted_both n (x ∷ xs) ys = noted_both (noted n x) xs ys
 
 -- what is told first is noted first
-pub after_more : (n : Notes) (first : List Event) (read : Result Told RtcpFault) → after n (read >>= λ told. Ok (and_told first told)) ≡ after (all_noted n first) read
+pub after_more : (n : Notes) (first : List Event) (read : Result Told RtcpRefusal) → after n (read >>= λ told. Ok (and_told first told)) ≡ after (all_noted n first) read
 after_more n first (Ok told) = ap (λ (all : Notes). Ok (record { noted = all; rest = told.rest })) (noted_both n first told.events)
 after_more n first (Err e) = refl
 
@@ -27,7 +27,7 @@ stays_many events (e ∷ es) = go (nat_lt (length events) 64) (λ more. stays_ma
     go true h = h (events ++ e ∷ [])
     go false h = h events
 
-abbrev pub answer : Notes → Result (List Event) RtcpFault
+abbrev pub answer : Notes → Result (List Event) RtcpRefusal
 answer n = if n.many then Err Many else Ok n.events
 
 -- where at most 64 came before: all events, or there are too many

@@ -3,16 +3,16 @@ use Rattle.std.proofs.Common.{◌≡◌, ℕ, zero, suc, ◌+◌, ◌<◌, ◌�
 use Rattle.std.specs.Prelude.{◌==◌, if◌then◌else◌}
 use Rattle.rtt_base.specs.Steps.{◌>>=◌}
 use Rattle.rtcp_spec.specs.declared.events.Event.{Event}
-use Rattle.rtcp_spec.specs.declared.faults.RtcpFault.{RtcpFault}
-use Rattle.rtcp_spec.specs.declared.faults.RtcpFault.TheVariants.{Many}
+use Rattle.rtcp_spec.specs.declared.faults.RtcpRefusal.{RtcpRefusal}
+use Rattle.rtcp_spec.specs.declared.faults.RtcpRefusal.TheVariants.{Many}
 use Rattle.rtcp_spec.specs.Rtcp.{Body, body_at, Told, events_of, at_most_64, packet_read, packets_within, rtcp}
 use Rattle.rtcp_labels.specs.Notes.{Notes, notes, all_noted, after_all}
 use Rattle.rtcp_labels.proofs.Noting.{too_many, all_fit, noted_few}
 
-abbrev pub with_rest : List ℕ → List Event → Result Told RtcpFault
+abbrev pub with_rest : List ℕ → List Event → Result Told RtcpRefusal
 with_rest rest all = Ok (record { events = all; rest = rest })
 
-pub body_refused : (past : List Event) (octets : List ℕ) (fault : RtcpFault) → body_at octets ≡ Err fault → packet_read past octets ≡ Err fault
+pub body_refused : (past : List Event) (octets : List ℕ) (fault : RtcpRefusal) → body_at octets ≡ Err fault → packet_read past octets ≡ Err fault
 unfolding packet_read
 body_refused past octets fault e = rw e refl
 
@@ -21,28 +21,28 @@ module _ (past : List Event) (octets : List ℕ) (body : Body) (read : body_at o
   unfolding packet_read
   opened = rw read refl
 
-  pub events_refused : (fault : RtcpFault) → after_all (notes past false) (events_of body) ≡ Err fault → packet_read past octets ≡ Err fault
+  pub events_refused : (fault : RtcpRefusal) → after_all (notes past false) (events_of body) ≡ Err fault → packet_read past octets ≡ Err fault
   events_refused fault e = opened ∙ go (events_of body) e
     where
-      go : (r : Result (List Event) RtcpFault) → after_all (notes past false) r ≡ Err fault → (r >>= λ events. at_most_64 (past ++ events) >>= with_rest body.rest) ≡ Err fault
+      go : (r : Result (List Event) RtcpRefusal) → after_all (notes past false) r ≡ Err fault → (r >>= λ events. at_most_64 (past ++ events) >>= with_rest body.rest) ≡ Err fault
       go (Ok events) h = absurd cc
       go (Err d) h = let is : d ≡ fault = cc in rw is refl
 
   pub events_too_many : (n : Notes) → length past ≤ 64 → after_all (notes past false) (events_of body) ≡ Ok n → n.many ≡ true → packet_read past octets ≡ Err Many
   events_too_many n few e many = opened ∙ go (events_of body) e
     where
-      go : (r : Result (List Event) RtcpFault) → after_all (notes past false) r ≡ Ok n → (r >>= λ events. at_most_64 (past ++ events) >>= with_rest body.rest) ≡ Err Many
+      go : (r : Result (List Event) RtcpRefusal) → after_all (notes past false) r ≡ Ok n → (r >>= λ events. at_most_64 (past ++ events) >>= with_rest body.rest) ≡ Err Many
       go (Err d) h = absurd cc
       go (Ok events) h = let is : all_noted (notes past false) events ≡ n = cc in rw (too_many past events n few is many) refl
 
   pub events_taken : (n : Notes) → length past ≤ 64 → after_all (notes past false) (events_of body) ≡ Ok n → n.many ≡ false → packet_read past octets ≡ Ok (record { events = n.events; rest = body.rest })
   events_taken n few e fit = opened ∙ go (events_of body) e
     where
-      go : (r : Result (List Event) RtcpFault) → after_all (notes past false) r ≡ Ok n → (r >>= λ events. at_most_64 (past ++ events) >>= with_rest body.rest) ≡ Ok (record { events = n.events; rest = body.rest })
+      go : (r : Result (List Event) RtcpRefusal) → after_all (notes past false) r ≡ Ok n → (r >>= λ events. at_most_64 (past ++ events) >>= with_rest body.rest) ≡ Ok (record { events = n.events; rest = body.rest })
       go (Err d) h = absurd cc
       go (Ok events) h = let is : all_noted (notes past false) events ≡ n = cc in rw (all_fit past events n few is fit) refl
 
-pub taken_few : (past : List Event) (read : Result (List Event) RtcpFault) (n : Notes) → length past ≤ 64 → after_all (notes past false) read ≡ Ok n → length n.events ≤ 64
+pub taken_few : (past : List Event) (read : Result (List Event) RtcpRefusal) (n : Notes) → length past ≤ 64 → after_all (notes past false) read ≡ Ok n → length n.events ≤ 64
 taken_few past (Ok events) n few e =
     let is : all_noted (notes past false) events ≡ n = cc in
     subst (λ (m : Notes). length m.events ≤ 64) is (noted_few (notes past false) events few)
@@ -51,7 +51,7 @@ taken_few past (Err d) n few e = absurd cc
 -- ---- all packets
 
 -- what comes of the events so far and of what follows, in at most so many steps
-abbrev pub and_more : ℕ → List Event → List ℕ → Result (List Event) RtcpFault
+abbrev pub and_more : ℕ → List Event → List ℕ → Result (List Event) RtcpRefusal
 and_more fuel events rest = if length rest == 0 then Ok events else packets_within fuel events rest
 
 pub first_read : (octets : List ℕ) → (n : ℕ) × (length octets ≤ suc n) × (rtcp octets ≡ (packet_read [] octets >>= λ told. and_more n told.events told.rest))
@@ -63,7 +63,7 @@ pub next_read : (n : ℕ) (past : List Event) (rest : List ℕ) → (length rest
 unfolding packets_within
 next_read n past rest some = rw some refl
 
-pub first_err : (past : List Event) (octets : List ℕ) (fault : RtcpFault) → past ≡ [] → packet_read past octets ≡ Err fault → rtcp octets ≡ Err fault
+pub first_err : (past : List Event) (octets : List ℕ) (fault : RtcpRefusal) → past ≡ [] → packet_read past octets ≡ Err fault → rtcp octets ≡ Err fault
 first_err past octets fault none e =
     let f = first_read octets in
     f.2 ∙ rw (subst (λ (xs : List Event). packet_read xs octets ≡ Err fault) none e) refl
@@ -88,7 +88,7 @@ some_left : (rest : List ℕ) (n : ℕ) → (length rest == 0) ≡ false → len
 some_left [] n some enough = absurd cc
 some_left (x ∷ xs) n some enough = omega arith
 
-pub next_err : (past : List Event) (rest octets : List ℕ) (fault : RtcpFault) → Left past rest octets → (length rest == 0) ≡ false → packet_read past rest ≡ Err fault → rtcp octets ≡ Err fault
+pub next_err : (past : List Event) (rest octets : List ℕ) (fault : RtcpRefusal) → Left past rest octets → (length rest == 0) ≡ false → packet_read past rest ≡ Err fault → rtcp octets ≡ Err fault
 next_err past rest octets fault l some e = go l.steps (some_left rest l.steps some l.enough) l.gives
   where
     go : (n : ℕ) → 0 < n → and_more n past rest ≡ rtcp octets → rtcp octets ≡ Err fault

@@ -2,7 +2,7 @@
 use Rattle.std.specs.Prelude.{ℕ, Bool, true, List, [], ◌∷◌, ◌++◌, length, Result, Ok, nat_lt, if◌then◌else◌}
 use Rattle.rtt_base.specs.Steps.{◌>>=◌}
 use Rattle.rtcp_spec.specs.declared.events.Event.{Event}
-use Rattle.rtcp_spec.specs.declared.faults.RtcpFault.{RtcpFault}
+use Rattle.rtcp_spec.specs.declared.faults.RtcpRefusal.{RtcpRefusal}
 use Rattle.rtcp_spec.specs.Rtcp.{Told}
 
 pub record Notes : Type 0 where
@@ -24,8 +24,8 @@ pub record Noted : Type 0 where
   pub noted : Notes
   pub rest : List ℕ
 
-abbrev pub after : Notes → Result Told RtcpFault → Result Noted RtcpFault
+abbrev pub after : Notes → Result Told RtcpRefusal → Result Noted RtcpRefusal
 after n read = read >>= λ told. Ok (record { noted = all_noted n told.events; rest = told.rest })
 
-abbrev pub after_all : Notes → Result (List Event) RtcpFault → Result Notes RtcpFault
+abbrev pub after_all : Notes → Result (List Event) RtcpRefusal → Result Notes RtcpRefusal
 after_all n read = read >>= λ events. Ok (all_noted n events)

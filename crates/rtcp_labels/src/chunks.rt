@@ -5,47 +5,47 @@ ghost use Rattle.rtcp_spec.specs.Rtcp.{item_at, items, fill, chunk_at, chunks, b
 ghost use Rattle.rtcp_labels.specs.Views.{item_view, FitsIn};
 ghost use Rattle.rtcp_labels.specs.Notes.{notes, all_noted, after, after_all, Noted};
 
-use crate::notes::{Told, note, note_item};
-use rtcp_spec::{Event, Events, RtcpFault};
+use crate::notes::{ReadResult, note, note_item};
+use rtcp_spec::{Event, Events, RtcpRefusal};
 
 /// How many octets an SSRC has.
 const SOURCE: usize = 4;
 
 /// An item of a chunk.
 #[derive(Clone, Copy)]
-pub(crate) struct Item<'a> {
+pub(crate) struct SdesItem<'a> {
     pub kind: u8,
     pub text: &'a [u8],
 }
 
 /// The item in front, or `None` where an octet 0 ends the items.
-fn front_item(octets: &[u8]) -> Told<Option<Item<'_>>>
+fn front_item(octets: &[u8]) -> ReadResult<Option<SdesItem<'_>>>
     ensures exact { Gives (option_map item_view) result (item_at octets.now) }
     ensures fits { IfOk result (λ item. IfSome item (FitsIn octets.now)) }
     ensures last { result ≡ Ok None → 1 ≤ length octets.now }
 {
     if octets.is_empty() {
-        return Err(RtcpFault::Items);
+        return Err(RtcpRefusal::Items);
     }
     let kind = octets[0];
     if kind == 0 {
         return Ok(None);
     }
     if octets.len() < 2 {
-        return Err(RtcpFault::Items);
+        return Err(RtcpRefusal::Items);
     }
     let size = usize::from(octets[1]);
     if octets.len() < 2 + size {
-        return Err(RtcpFault::Items);
+        return Err(RtcpRefusal::Items);
     }
-    Ok(Some(Item {
+    Ok(Some(SdesItem {
         kind,
         text: &octets[2..2 + size],
     }))
 }
 
 /// Notes what the items of a source tell, and answers what is behind them.
-fn read_items<'a>(ssrc: u32, octets: &'a [u8], out: &mut Events, many: &mut bool) -> Told<&'a [u8]>
+fn read_items<'a>(ssrc: u32, octets: &'a [u8], out: &mut Events, many: &mut bool) -> ReadResult<&'a [u8]>
     ensures exact { Gives (λ rest. record { noted = notes out.new.items many.new; rest = rest.now }) result (after (notes out.old.items many.old) (items ssrc octets.now)) }
     ensures shorter { IfOk result (λ rest. length rest.now ≤ length octets.now) }
 {
@@ -66,24 +66,24 @@ fn fill_of(size: usize) -> usize
 
 /// Notes what a chunk tells, and answers what is behind it.
 #[tactic(auto, unfolding(rtcp_spec::specs::Rtcp::chunk_at))]
-fn read_chunk<'a>(octets: &'a [u8], out: &mut Events, many: &mut bool) -> Told<&'a [u8]>
+fn read_chunk<'a>(octets: &'a [u8], out: &mut Events, many: &mut bool) -> ReadResult<&'a [u8]>
     ensures { Gives (λ rest. record { noted = notes out.new.items many.new; rest = rest.now }) result (after (notes out.old.items many.old) (chunk_at octets.now)) }
 {
     if octets.len() < SOURCE {
-        return Err(RtcpFault::Items);
+        return Err(RtcpRefusal::Items);
     }
     let ssrc = u32::from_be_bytes([octets[0], octets[1], octets[2], octets[3]]);
     let items = &octets[SOURCE..];
     let rest = read_items(ssrc, items, out, many)?;
     let fill = fill_of(items.len() - rest.len());
     if rest.len() < fill {
-        return Err(RtcpFault::Items);
+        return Err(RtcpRefusal::Items);
     }
     Ok(&rest[fill..])
 }
 
 /// Notes what so many chunks tell.
-pub(crate) fn read_chunks(count: u8, octets: &[u8], out: &mut Events, many: &mut bool) -> Told<()>
+pub(crate) fn read_chunks(count: u8, octets: &[u8], out: &mut Events, many: &mut bool) -> ReadResult<()>
     ensures { Gives (λ _. notes out.new.items many.new) result (after_all (notes out.old.items many.old) (chunks count octets.now)) }
 {
     let mut rest = octets;
@@ -111,11 +111,11 @@ fn note_byes(count: u8, octets: &[u8], out: &mut Events, many: &mut bool)
 }
 
 /// Notes the sources that leave.
-pub(crate) fn read_byes(count: u8, octets: &[u8], out: &mut Events, many: &mut bool) -> Told<()>
+pub(crate) fn read_byes(count: u8, octets: &[u8], out: &mut Events, many: &mut bool) -> ReadResult<()>
     ensures { Gives (λ _. notes out.new.items many.new) result (after_all (notes out.old.items many.old) (leavings count octets.now)) }
 {
     if octets.len() < SOURCE * usize::from(count) {
-        return Err(RtcpFault::Bye);
+        return Err(RtcpRefusal::Bye);
     }
     note_byes(count, octets, out, many);
     Ok(())

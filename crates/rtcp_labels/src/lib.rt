@@ -4,12 +4,12 @@
 mod bodies;
 mod chunks;
 mod notes;
-mod reading;
-mod writing;
+mod readers;
+mod writers;
 
-pub use reading::read_rtcp;
-pub use rtcp_spec::{Event, Events, RtcpFault, SdesName};
-pub use writing::{write_bye, write_sdes};
+pub use readers::read_rtcp;
+pub use rtcp_spec::{Event, Events, RtcpRefusal, SdesName};
+pub use writers::{write_bye, write_sdes};
 
 #[cfg(test)]
 mod tests;

@@ -3,11 +3,11 @@ ghost use Rattle.std.specs.Prelude.{◌≡◌, ◌≤◌, length};
 ghost use Rattle.rtcp_spec.specs.Rtcp.{name_in};
 ghost use Rattle.rtcp_labels.specs.Notes.{notes, noted, all_noted};
 
-use rtcp_spec::{Event, Events, MOST_EVENTS, RtcpFault, SdesName};
+use rtcp_spec::{Event, Events, MOST_EVENTS, RtcpRefusal, SdesName};
 use simdutf8::basic::from_utf8;
 
 /// What octets tell, or why they are refused.
-pub(crate) type Told<T> = Result<T, RtcpFault>;
+pub(crate) type ReadResult<T> = Result<T, RtcpRefusal>;
 
 /// The type of the item that is a source's name.
 const NAME: u8 = 2;

@@ -1,4 +1,4 @@
-use crate::{Event, Events, RtcpFault, read_rtcp, write_bye, write_sdes};
+use crate::{Event, Events, RtcpRefusal, read_rtcp, write_bye, write_sdes};
 use rtt_base::Packet;
 use std::test::Fail;
 
@@ -28,7 +28,7 @@ const ANN: [u8; 20] = *b"\x81\xCA\x00\x04\x00\x00\x03\xE9\x02\x07Ann Lee\x00\x00
 const LEAVING: [u8; 8] = [0x81, 0xCB, 0x00, 0x01, 0x00, 0x00, 0x03, 0xE9];
 
 /// How many events are read, or why the octets are refused.
-fn count(bytes: &[u8]) -> Result<usize, RtcpFault> {
+fn count(bytes: &[u8]) -> Result<usize, RtcpRefusal> {
     let mut events = Events::new();
     read_rtcp(bytes, &mut events)?;
     Ok(events.len())
@@ -104,29 +104,29 @@ fn what_passes_the_room_left_is_not_written(rt: HostRuntime) -> Result<(), Fail>
 
 #[test]
 fn each_refusal_of_a_packet(rt: HostRuntime) {
-    assert!(rt; count(&[]) == Err(RtcpFault::Short));
-    assert!(rt; count(&[0x80, 0xC9, 0]) == Err(RtcpFault::Short));
-    assert!(rt; count(&[0x80, 0xC9, 0, 1, 0, 0, 0]) == Err(RtcpFault::Short));
-    assert!(rt; count(&[0x80, 0xC9, 0, 0, 0x80]) == Err(RtcpFault::Short));
+    assert!(rt; count(&[]) == Err(RtcpRefusal::Short));
+    assert!(rt; count(&[0x80, 0xC9, 0]) == Err(RtcpRefusal::Short));
+    assert!(rt; count(&[0x80, 0xC9, 0, 1, 0, 0, 0]) == Err(RtcpRefusal::Short));
+    assert!(rt; count(&[0x80, 0xC9, 0, 0, 0x80]) == Err(RtcpRefusal::Short));
     assert!(rt; count(&[0x80, 0xC9, 0, 0]) == Ok(0));
-    assert!(rt; count(&[0x40, 0xC9, 0xFF, 0xFF]) == Err(RtcpFault::Version));
-    assert!(rt; count(&[0xA0, 0xC9, 0, 0]) == Err(RtcpFault::Padding));
-    assert!(rt; count(&[0xA0, 0xC9, 0, 1, 0, 0, 0, 0]) == Err(RtcpFault::Padding));
-    assert!(rt; count(&[0xA0, 0xC9, 0, 1, 0, 0, 0, 5]) == Err(RtcpFault::Padding));
+    assert!(rt; count(&[0x40, 0xC9, 0xFF, 0xFF]) == Err(RtcpRefusal::Version));
+    assert!(rt; count(&[0xA0, 0xC9, 0, 0]) == Err(RtcpRefusal::Padding));
+    assert!(rt; count(&[0xA0, 0xC9, 0, 1, 0, 0, 0, 0]) == Err(RtcpRefusal::Padding));
+    assert!(rt; count(&[0xA0, 0xC9, 0, 1, 0, 0, 0, 5]) == Err(RtcpRefusal::Padding));
     assert!(rt; count(&[0xA0, 0xC9, 0, 1, 0, 0, 0, 4]) == Ok(0));
-    assert!(rt; count(&[0xA1, 0xCB, 0, 1, 0, 0, 0, 4]) == Err(RtcpFault::Bye));
-    assert!(rt; count(&[0x82, 0xCB, 0, 1, 0, 0, 0, 7]) == Err(RtcpFault::Bye));
+    assert!(rt; count(&[0xA1, 0xCB, 0, 1, 0, 0, 0, 4]) == Err(RtcpRefusal::Bye));
+    assert!(rt; count(&[0x82, 0xCB, 0, 1, 0, 0, 0, 7]) == Err(RtcpRefusal::Bye));
     assert!(rt; count(&[0x81, 0xCB, 0, 2, 0, 0, 0, 7, 1, 2, 3, 4]) == Ok(1));
 }
 
 #[test]
 fn each_refusal_of_a_chunk(rt: HostRuntime) {
-    assert!(rt; count(&[0x81, 0xCA, 0, 0]) == Err(RtcpFault::Items));
-    assert!(rt; count(b"\x81\xCA\x00\x02\x00\x00\x03\xE9\x02\x02An") == Err(RtcpFault::Items));
-    assert!(rt; count(b"\x81\xCA\x00\x02\x00\x00\x03\xE9\x02\x03An") == Err(RtcpFault::Items));
-    assert!(rt; count(b"\x81\xCA\x00\x02\x00\x00\x03\xE9\x02\x01A\x02") == Err(RtcpFault::Items));
+    assert!(rt; count(&[0x81, 0xCA, 0, 0]) == Err(RtcpRefusal::Items));
+    assert!(rt; count(b"\x81\xCA\x00\x02\x00\x00\x03\xE9\x02\x02An") == Err(RtcpRefusal::Items));
+    assert!(rt; count(b"\x81\xCA\x00\x02\x00\x00\x03\xE9\x02\x03An") == Err(RtcpRefusal::Items));
+    assert!(rt; count(b"\x81\xCA\x00\x02\x00\x00\x03\xE9\x02\x01A\x02") == Err(RtcpRefusal::Items));
     assert!(rt;
-        count(b"\xA1\xCA\x00\x02\x00\x00\x03\xE9\x02\x00\x00\x01") == Err(RtcpFault::Items)
+        count(b"\xA1\xCA\x00\x02\x00\x00\x03\xE9\x02\x00\x00\x01") == Err(RtcpRefusal::Items)
     );
     assert!(rt; count(b"\x81\xCA\x00\x02\x00\x00\x03\xE9\x02\x01A\x00") == Ok(1));
     assert!(rt; count(b"\x81\xCA\x00\x02\x00\x00\x03\xE9\x02\x00\x00\x00") == Ok(0));
@@ -142,17 +142,17 @@ fn each_refusal_of_a_chunk(rt: HostRuntime) {
 #[test]
 fn a_65th_event_is_refused_behind_what_its_packet_refuses(rt: HostRuntime) -> Result<(), Fail> {
     assert!(rt; count(leavings(2, 2).as_slice()) == Ok(64));
-    assert!(rt; count(leavings(2, 3).as_slice()) == Err(RtcpFault::Many));
+    assert!(rt; count(leavings(2, 3).as_slice()) == Err(RtcpRefusal::Many));
     let mut octets = leavings(2, 2);
     octets.append(&LEAVING)?;
     octets.append(&[0x40, 0, 0, 0])?;
-    assert!(rt; count(octets.as_slice()) == Err(RtcpFault::Many));
+    assert!(rt; count(octets.as_slice()) == Err(RtcpRefusal::Many));
     let mut cut = leavings(2, 2);
     cut.append(b"\x82\xCA\x00\x02\x00\x00\x03\xE9\x02\x01A\x00")?;
-    assert!(rt; count(cut.as_slice()) == Err(RtcpFault::Items));
+    assert!(rt; count(cut.as_slice()) == Err(RtcpRefusal::Items));
     let mut gone = leavings(2, 2);
     gone.append(&[0x82, 0xCB, 0, 1, 0, 0, 0, 7])?;
-    assert!(rt; count(gone.as_slice()) == Err(RtcpFault::Bye));
+    assert!(rt; count(gone.as_slice()) == Err(RtcpRefusal::Bye));
     Ok(())
 }
 

@@ -5,8 +5,8 @@ use Rattle.std.specs.Int.{w16, w32, to_be_bytes, from_be_bytes}
 use Rattle.rtt_base.specs.Steps.{◌>>=◌}
 use Rattle.rtcp_spec.specs.declared.events.Event.{Event}
 use Rattle.rtcp_spec.specs.declared.events.Event.TheVariants as event
-use Rattle.rtcp_spec.specs.declared.faults.RtcpFault.{RtcpFault}
-use Rattle.rtcp_spec.specs.declared.faults.RtcpFault.TheVariants.{Short, Version, Padding, Items, Bye, Many}
+use Rattle.rtcp_spec.specs.declared.faults.RtcpRefusal.{RtcpRefusal}
+use Rattle.rtcp_spec.specs.declared.faults.RtcpRefusal.TheVariants.{Short, Version, Padding, Items, Bye, Many}
 
 -- ---- a packet
 
@@ -18,22 +18,22 @@ pub record Body : Type 0 where
   pub rest : List ℕ
 
 -- what stands before q octets of padding
-abbrev pub before_padding : ℕ → List ℕ → Result (List ℕ) RtcpFault
+abbrev pub before_padding : ℕ → List ℕ → Result (List ℕ) RtcpRefusal
 before_padding q octets = if nat_le 1 q && nat_le q (length octets) then Ok (take (length octets - q) octets) else Err Padding
 
 -- all, or what stands before the padding, whose last octet counts it
-abbrev pub unpadded : Bool → List ℕ → Result (List ℕ) RtcpFault
+abbrev pub unpadded : Bool → List ℕ → Result (List ℕ) RtcpRefusal
 unpadded false octets = Ok octets
 unpadded true octets = before_padding (slice_index octets (length octets - 1)) octets
 
 -- a packet of version 2 with this first octet and type, from behind its head on, where so many octets are its own
-abbrev pub body_of : ℕ → ℕ → ℕ → List ℕ → Result Body RtcpFault
+abbrev pub body_of : ℕ → ℕ → ℕ → List ℕ → Result Body RtcpRefusal
 body_of first kind size behind = if nat_lt (length behind) size then Err Short else do
   octets ← unpadded (first / 32 % 2 == 1) (take size behind)
   Ok (record { count = first % 32; kind = kind; octets = octets; rest = drop size behind })
 
 -- the packet in front
-unfoldable pub body_at : List ℕ → Result Body RtcpFault
+unfoldable pub body_at : List ℕ → Result Body RtcpRefusal
 body_at octets =
     if nat_lt (length octets) 4 then Err Short
     else (if slice_index octets 0 / 64 == 2
@@ -48,7 +48,7 @@ pub record Item : Type 0 where
   pub text : List ℕ
 
 -- the item in front, or none where an octet 0 ends the items
-abbrev pub item_at : List ℕ → Result (Option Item) RtcpFault
+abbrev pub item_at : List ℕ → Result (Option Item) RtcpRefusal
 item_at octets =
     if length octets == 0 then Err Items
     else (if slice_index octets 0 == 0 then Ok None
@@ -72,17 +72,17 @@ abbrev pub and_told : List Event → Told → Told
 and_told before told = record { events = before ++ told.events; rest = told.rest }
 
 -- what comes of an item and of the others, as they were read
-abbrev pub and_items : ℕ → List ℕ → Result Told RtcpFault → Option Item → Result Told RtcpFault
+abbrev pub and_items : ℕ → List ℕ → Result Told RtcpRefusal → Option Item → Result Told RtcpRefusal
 and_items ssrc octets others None = Ok (record { events = []; rest = drop 1 octets })
 and_items ssrc octets others (Some i) = others >>= λ told. Ok (and_told (name_in ssrc i) told)
 
 -- the items up to the octet 0 that ends them, in at most so many steps
-unfoldable pub items_within : ℕ → ℕ → List ℕ → Result Told RtcpFault
+unfoldable pub items_within : ℕ → ℕ → List ℕ → Result Told RtcpRefusal
 items_within zero ssrc octets = Err Items
 items_within (suc fuel) ssrc octets = item_at octets >>= and_items ssrc octets (items_within fuel ssrc (drop (2 + slice_index octets 1) octets))
 
 -- the items of a source
-abbrev pub items : ℕ → List ℕ → Result Told RtcpFault
+abbrev pub items : ℕ → List ℕ → Result Told RtcpRefusal
 items ssrc octets = items_within (length octets) ssrc octets
 
 -- how many octets follow n up to a multiple of four
@@ -90,19 +90,19 @@ abbrev pub fill : ℕ → ℕ
 fill n = (4 - n % 4) % 4
 
 -- what stands behind items, which are filled up to a multiple of four
-abbrev pub filled : List ℕ → Told → Result Told RtcpFault
+abbrev pub filled : List ℕ → Told → Result Told RtcpRefusal
 filled octets told =
     if nat_lt (length told.rest) (fill (length octets - length told.rest)) then Err Items
     else Ok (record { events = told.events; rest = drop (fill (length octets - length told.rest)) told.rest })
 
 -- a source and its items
-unfoldable pub chunk_at : List ℕ → Result Told RtcpFault
+unfoldable pub chunk_at : List ℕ → Result Told RtcpRefusal
 chunk_at octets =
     if nat_lt (length octets) 4 then Err Items
     else (items (from_be_bytes w32 octets) (drop 4 octets) >>= filled (drop 4 octets))
 
 -- so many chunks
-unfoldable pub chunks : ℕ → List ℕ → Result (List Event) RtcpFault
+unfoldable pub chunks : ℕ → List ℕ → Result (List Event) RtcpRefusal
 chunks zero octets = Ok []
 chunks (suc n) octets = chunk_at octets >>= λ told. chunks n told.rest >>= λ events. Ok (told.events ++ events)
 
@@ -113,22 +113,22 @@ abbrev pub byes : ℕ → List ℕ → List Event
 byes zero octets = []
 byes (suc n) octets = event.Bye (from_be_bytes w32 octets) ∷ byes n (drop 4 octets)
 
-abbrev pub leavings : ℕ → List ℕ → Result (List Event) RtcpFault
+abbrev pub leavings : ℕ → List ℕ → Result (List Event) RtcpRefusal
 leavings n octets = if nat_lt (length octets) (4 * n) then Err Bye else Ok (byes n octets)
 
 -- ---- all packets
 
 -- source descriptions have type 202, leavings 203; packets of other types are passed over, and what is left of a packet is too
-abbrev pub events_of : Body → Result (List Event) RtcpFault
+abbrev pub events_of : Body → Result (List Event) RtcpRefusal
 events_of body =
     if body.kind == 202 then chunks body.count body.octets
     else (if body.kind == 203 then leavings body.count body.octets else Ok [])
 
-abbrev pub at_most_64 : List Event → Result (List Event) RtcpFault
+abbrev pub at_most_64 : List Event → Result (List Event) RtcpRefusal
 at_most_64 events = if nat_lt 64 (length events) then Err Many else Ok events
 
 -- the events so far and those of the packet in front
-unfoldable pub packet_read : List Event → List ℕ → Result Told RtcpFault
+unfoldable pub packet_read : List Event → List ℕ → Result Told RtcpRefusal
 packet_read past octets = do
   body ← body_at octets
   events ← events_of body
@@ -136,13 +136,13 @@ packet_read past octets = do
   Ok (record { events = all; rest = body.rest })
 
 -- and those of the packets behind it, in at most so many steps
-unfoldable pub packets_within : ℕ → List Event → List ℕ → Result (List Event) RtcpFault
+unfoldable pub packets_within : ℕ → List Event → List ℕ → Result (List Event) RtcpRefusal
 packets_within zero past octets = Err Short
 packets_within (suc fuel) past octets = packet_read past octets >>= λ told.
     if length told.rest == 0 then Ok told.events else packets_within fuel told.events told.rest
 
 -- the events of one or more packets
-unfoldable pub rtcp : List ℕ → Result (List Event) RtcpFault
+unfoldable pub rtcp : List ℕ → Result (List Event) RtcpRefusal
 rtcp octets = packets_within (length octets) [] octets
 
 -- ---- writing

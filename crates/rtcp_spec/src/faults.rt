@@ -3,7 +3,7 @@ use thiserror::Error;
 
 /// Why octets are no RTCP packets (RFC 3550, section 6).
 #[derive(Clone, Copy, Debug, PartialEq, Eq, Error)]
-pub enum RtcpFault {
+pub enum RtcpRefusal {
     /// A packet's head or length passes the end.
     #[error("Short")]
     Short,

@@ -6,7 +6,7 @@ mod faults;
 pub mod laws;
 
 pub use events::{Event, Events, SdesName};
-pub use faults::RtcpFault;
+pub use faults::RtcpRefusal;
 
 /// How many events one datagram may tell.
 pub const MOST_EVENTS: usize = 64;

@@ -5,7 +5,7 @@ use Rattle.wire_spec.specs.Rtp.{Reading, Head}
 
 abbrev pub reading : RtpView → Reading
 reading v =
-    record { mark = v.mark; pt = v.pt; seq = v.seq; stamp = v.stamp; ssrc = v.ssrc; cc = v.cc; csrc = v.csrc; payload = v.payload.now }
+    record { marker_bit = v.marker_bit; pt = v.pt; seq = v.seq; timestamp = v.timestamp; ssrc = v.ssrc; cc = v.cc; csrc = v.csrc; payload = v.payload.now }
 
 abbrev pub spelled : RtpHead → Head
-spelled h = record { mark = h.mark; pt = h.pt; seq = h.seq; stamp = h.stamp; ssrc = h.ssrc; csrc = h.csrc }
+spelled h = record { marker_bit = h.marker_bit; pt = h.pt; seq = h.seq; timestamp = h.timestamp; ssrc = h.ssrc; csrc = h.csrc }

@@ -4,13 +4,13 @@
 #[derive(Clone, Copy, Debug)]
 pub struct RtpView<'a> {
     /// The M bit.
-    pub mark: bool,
+    pub marker_bit: bool,
     /// The payload type, below 128.
     pub pt: u8,
     /// The sequence number.
     pub seq: u16,
     /// The timestamp.
-    pub stamp: u32,
+    pub timestamp: u32,
     pub ssrc: u32,
     /// How many CSRCs there are, below 16.
     pub cc: u8,
@@ -24,13 +24,13 @@ pub struct RtpView<'a> {
 #[derive(Clone, Copy, Debug)]
 pub struct RtpHead {
     /// The M bit.
-    pub mark: bool,
+    pub marker_bit: bool,
     /// The payload type, below 128.
     pub pt: u8,
     /// The sequence number.
     pub seq: u16,
     /// The timestamp.
-    pub stamp: u32,
+    pub timestamp: u32,
     pub ssrc: u32,
     pub csrc: Option<u32>,
 }

@@ -2,12 +2,12 @@
 #![tactic(auto)]
 
 mod headers;
-mod reading;
-mod writing;
+mod readers;
+mod writers;
 
 pub use headers::{RtpHead, RtpView};
-pub use reading::read_rtp;
-pub use writing::{write_header, write_rtp};
+pub use readers::read_rtp;
+pub use writers::{write_header, write_rtp};
 
 #[cfg(test)]
 mod tests;

@@ -10,10 +10,10 @@ fn extension_and_padding_are_passed_over(rt: HostRuntime) -> Result<(), Fail> {
         0x41, 0x42, 0, 2,
     ];
     let view = read_rtp(&bytes)?;
-    assert!(rt; view.mark);
+    assert!(rt; view.marker_bit);
     assert_eq!(rt; view.pt, 98);
     assert_eq!(rt; view.seq, 7);
-    assert_eq!(rt; view.stamp, 9);
+    assert_eq!(rt; view.timestamp, 9);
     assert_eq!(rt; view.ssrc, 1001);
     assert_eq!(rt; view.cc, 1);
     assert_eq!(rt; view.csrc, Some(5));
@@ -29,10 +29,10 @@ fn a_packet_cut_in_its_header_is_short(rt: HostRuntime) {
 #[test]
 fn a_header_with_a_source_is_written(rt: HostRuntime) -> Result<(), Fail> {
     let head = RtpHead {
-        mark: true,
+        marker_bit: true,
         pt: 100,
         seq: 100,
-        stamp: 5000,
+        timestamp: 5000,
         ssrc: 9000,
         csrc: Some(1001),
     };

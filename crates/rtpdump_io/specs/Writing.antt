@@ -3,7 +3,7 @@ use Rattle.std.specs.Prelude.{ℕ, ◌≡◌, ◌<◌, ◌≤◌, ◌++◌, List
 use Rattle.rtt_base.specs.declared.records.Record.{Record}
 
 -- the size of a record, its head included, has sixteen bits, and a packet of no octets is one of RTCP
-pub record Holds (r : Record) : Type 0 where
+pub record RecordHolds (r : Record) : Type 0 where
   pub some : 0 < length r.bytes
   pub fits : length r.bytes ≤ 65527
 

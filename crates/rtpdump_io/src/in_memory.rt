@@ -3,7 +3,7 @@ ghost use Rattle.std.specs.Prelude.{◌+◌, ◌≤◌, length, IfSome};
 ghost use Rattle.rtpdump_io.specs.InMemory.{IsDump, IsBehindOpening, IsSplit, TellsFirst};
 
 use crate::record_heads::RecordHead;
-use crate::writing::OPENING;
+use crate::writers::OPENING;
 
 /// The records of a written recording: the octets behind its line and its head.
 pub fn records_of(recording: &[u8]) -> &[u8]

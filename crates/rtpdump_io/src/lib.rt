@@ -7,12 +7,12 @@ mod items;
 mod openings;
 mod readers;
 mod record_heads;
-mod writing;
+mod writers;
 
 pub use in_memory::{next_record, records_of};
 pub use items::{DumpFault, DumpItem, RecordingFault};
 pub use readers::DumpReader;
-pub use writing::{write_dump, write_opening, write_record};
+pub use writers::{write_dump, write_opening, write_record};
 
 #[cfg(test)]
 mod tests;

@@ -1,5 +1,5 @@
 ghost use Rattle.std.specs.Prelude.{◌<◌, ◌≤◌, length, IfOk};
-ghost use Rattle.rtpdump_io.specs.Writing.{Holds};
+ghost use Rattle.rtpdump_io.specs.Writing.{RecordHolds};
 
 use crate::{DumpFault, DumpItem, DumpReader, write_dump, write_opening, write_record};
 use rtt_base::{Bytes, Failed, NoMemory, Packet, Path, Record};
@@ -263,7 +263,7 @@ fn records_are_written_behind_the_opening(rt: HostRuntime) -> Result<(), Fail> {
 fn sent(alloc: Global, at: u32, packet: &[u8]) -> Result<Record, NoMemory>
     requires some { 0 < length packet.now }
     requires fits { length packet.now ≤ 65527 }
-    ensures { IfOk result Holds }
+    ensures { IfOk result RecordHolds }
 {
     let mut bytes = Bytes::new(alloc);
     bytes.append(packet)?;

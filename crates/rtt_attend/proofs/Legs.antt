@@ -6,8 +6,8 @@ use Rattle.wire_spec.specs.Dump.{dump}
 use Rattle.rtpdump_io.specs.declared.items.DumpFault.{DumpFault}
 use Rattle.rtpdump_io.specs.Reading.{UnlessOfSource, is_of_source}
 use Rattle.rtt_io.specs.Counts.{Rose, counted}
-use Rattle.file_spec.specs.declared.conf_lines.LegLine.{LegLine}
-use Rattle.file_spec.specs.Conf.{Conf}
+use Rattle.file_spec.specs.declared.conference_lines.LegLine.{LegLine}
+use Rattle.file_spec.specs.Conference.{Conference}
 use Rattle.mixer_spec.specs.Setups.{leg_at, ssrc_of}
 use Rattle.mixer_spec.specs.Bridged.{input_limit, leg_chunks}
 use Rattle.mixer_spec.specs.Plain.{plain}
@@ -17,8 +17,8 @@ use Rattle.command_spec.specs.Mixing.{hears_of, input_at, makes}
 use Rattle.command_spec.specs.Attending.{named, named_by, says_of}
 use Rattle.command_spec.proofs.Naming.{same_named}
 use Rattle.leg_items.specs.Answers.{read_well}
-use Rattle.bridge_run.specs.declared.mixed.MixFault.{MixFault}
-use Rattle.bridge_run.specs.declared.mixed.MixFault.TheVariants.{Open, Dump, TooLong, NoMemory}
+use Rattle.bridge_run.specs.declared.results.MixFault.{MixFault}
+use Rattle.bridge_run.specs.declared.results.MixFault.TheVariants.{Open, Dump, TooLong, NoMemory}
 use Rattle.command_spec.specs.Inputs.{AllLie, LieBelow, NoneFailedBelow, inputs_under, octets_under}
 use Rattle.bridge_run.specs.Mixes.{IsFirst, NoneFailed, RoseAt, Stops}
 use Rattle.bridge_run.specs.Opened.{IsNotOpened}
@@ -26,7 +26,7 @@ use Rattle.mixer_posts.proofs.Backward.{pushed}
 use Rattle.bridge_run.proofs.Opening.{is_there, leg_read_at, rose_behind}
 use Rattle.bridge_run.proofs.Handing.{input_is}
 use Rattle.bridge_run.proofs.Answering.{broken_steps, leg_within}
-use Rattle.rtt_attend.specs.declared.said.Said.{Said}
+use Rattle.rtt_attend.specs.declared.sender_reports.SenderReport.{SenderReport}
 use Rattle.rtt_attend.specs.Heard.{Hears, IsRead}
 use Rattle.view_spec.specs.Tallies.{tally_at}
 use Rattle.rtt_attend.specs.Opened.{heard_as, AreFresh, AreHeard, AreInputs, AreUnheard, HearsLeg, IsInput, IsUnheard}
@@ -66,18 +66,18 @@ module _ {S : Type 0} (tells : Type 0) (left : S → List ℕ) (faults : S → �
       some_of (held leg.input) (left p.0) (ap (λ (x : LegLine). held x.input) (sym same) ∙ o.2.told t)
 
   -- what is heard of an opened input is heard of its leg
-  pub hears_leg : (limit : ℕ) (held : Contents) (legs : List LegLine) (k : ℕ) (leg : LegLine) (s : S) (result : Result Said DumpFault) → leg_at legs k ≡ Some leg → IsInput tells left faults name_of held leg s
+  pub hears_leg : (limit : ℕ) (held : Contents) (legs : List LegLine) (k : ℕ) (leg : LegLine) (s : S) (result : Result SenderReport DumpFault) → leg_at legs k ≡ Some leg → IsInput tells left faults name_of held leg s
       → tells → Hears limit (hears_of leg) (left s) result → HearsLeg limit held legs k result
   hears_leg limit held legs k leg s result at is t hears =
       subst (λ (o : Option LegLine). Hears limit (heard_as o) (input_at (inputs_under held legs) k) result) (sym at)
       (subst (λ (octets : List ℕ). Hears limit (hears_of leg) octets result) (input_is held legs k leg (left s) at (is.told t)) hears)
 
   -- ---- a source that was read and handed back
-  module _ (result : Result Said DumpFault) (old new : S) (objects objects_then : List ℕ → ℕ) (read : IsRead faults name_of result old new) (fresh : faults old ≡ 0) where
+  module _ (result : Result SenderReport DumpFault) (old new : S) (objects objects_then : List ℕ → ℕ) (read : IsRead faults name_of result old new) (fresh : faults old ≡ 0) where
     pub failed_read : objects_then (name_of new) ≡ counted (objects (name_of new)) (faults new) → IfErr result (λ fault. is_of_source fault.kind ≡ true → RoseAt objects objects_then (name_of old))
     failed_read added = go result read.read
       where
-        go : (r : Result Said DumpFault) → IfErr r (λ fault. is_of_source fault.kind ≡ true → Rose (faults old) (faults new)) → IfErr r (λ fault. is_of_source fault.kind ≡ true → RoseAt objects objects_then (name_of old))
+        go : (r : Result SenderReport DumpFault) → IfErr r (λ fault. is_of_source fault.kind ≡ true → Rose (faults old) (faults new)) → IfErr r (λ fault. is_of_source fault.kind ≡ true → RoseAt objects objects_then (name_of old))
         go (Ok said) rose = tt
         go (Err fault) rose = λ source.
             subst (λ n. Rose (objects n) (objects_then n)) read.same_name
@@ -86,22 +86,22 @@ module _ {S : Type 0} (tells : Type 0) (left : S → List ℕ) (faults : S → �
     pub calm_read : (faults new ≡ 0 → (n : List ℕ) → objects_then n ≡ objects n) → UnlessOfSource result ((n : List ℕ) → objects_then n ≡ objects n)
     calm_read calm = go result read.calm
       where
-        go : (r : Result Said DumpFault) → UnlessOfSource r (faults new ≡ faults old) → UnlessOfSource r ((n : List ℕ) → objects_then n ≡ objects n)
+        go : (r : Result SenderReport DumpFault) → UnlessOfSource r (faults new ≡ faults old) → UnlessOfSource r ((n : List ℕ) → objects_then n ≡ objects n)
         go (Ok said) same = calm (same ∙ fresh)
         go (Err fault) same = λ none. calm (same none ∙ fresh)
 
 -- ---- what was heard
-pub heard_more : (limit : ℕ) (held : Contents) (legs : List LegLine) (all : List Said) (said : Said) → AreHeard limit held legs all → HearsLeg limit held legs (length all) (Ok said) → AreHeard limit held legs (all ++ said ∷ [])
+pub heard_more : (limit : ℕ) (held : Contents) (legs : List LegLine) (all : List SenderReport) (said : SenderReport) → AreHeard limit held legs all → HearsLeg limit held legs (length all) (Ok said) → AreHeard limit held legs (all ++ said ∷ [])
 heard_more limit held legs all said are here = λ k x e. elim (pushed all said k x e) [
   | inl f ↦ are k x f
-  | inr q ↦ subst (λ (i : ℕ). HearsLeg limit held legs i (Ok x)) (sym q.0) (subst (λ (y : Said). HearsLeg limit held legs (length all) (Ok y)) (sym q.1) here)
+  | inr q ↦ subst (λ (i : ℕ). HearsLeg limit held legs i (Ok x)) (sym q.0) (subst (λ (y : SenderReport). HearsLeg limit held legs (length all) (Ok y)) (sym q.1) here)
 ]
 
-pub none_heard : (limit : ℕ) (held : Contents) (legs : List LegLine) (all : List Said) → all ≡ [] → AreHeard limit held legs all
+pub none_heard : (limit : ℕ) (held : Contents) (legs : List LegLine) (all : List SenderReport) → all ≡ [] → AreHeard limit held legs all
 none_heard limit held legs [] e = λ k said at. absurd (cc at)
 none_heard limit held legs (said ∷ all) e = absurd (cc e)
 
-pub whole_below : (limit : ℕ) (held : Contents) (legs : List LegLine) (all : List Said) → AreHeard limit held legs all → (k : ℕ) → k < length all → (dump limit (input_at (inputs_under held legs) k)).fault ≡ None
+pub whole_below : (limit : ℕ) (held : Contents) (legs : List LegLine) (all : List SenderReport) → AreHeard limit held legs all → (k : ℕ) → k < length all → (dump limit (input_at (inputs_under held legs) k)).fault ≡ None
 whole_below limit held legs all are k less = let p = is_there all k less in (are k p.0 p.1).1
 
 -- ---- a fault
@@ -131,7 +131,7 @@ module _ {S : Type 0} (tells : Type 0) (left : S → List ℕ) (faults : S → �
       (got, opened_at held legs sources k leg s are there got)
 
   -- the leg k, its input and what was heard of those before it; what is counted at first, before it is read, behind that and last
-  module _ (limit : ℕ) (held now : Contents) (legs : List LegLine) (k : ℕ) (leg : LegLine) (s : S) (all : List Said) (fault : DumpFault) (objects objects_now objects_read objects_then : List ℕ → ℕ)
+  module _ (limit : ℕ) (held now : Contents) (legs : List LegLine) (k : ℕ) (leg : LegLine) (s : S) (all : List SenderReport) (fault : DumpFault) (objects objects_now objects_read objects_then : List ℕ → ℕ)
       (at : leg_at legs k ≡ Some leg) (is : IsInput tells left faults name_of held leg s) (many : length all ≡ k) where
     pub unheard : (tells → AreHeard limit held legs all) → (tells → Hears limit (hears_of leg) (left s) (Err fault)) → (is_of_source fault.kind ≡ true → RoseAt objects_now objects_read (name_of s))
         → (is_of_source fault.kind ≡ false → (n : List ℕ) → objects_read n ≡ objects_now n) → (tells → IsSome (now (name_of s)) → (n : List ℕ) → n ≢ name_of s → objects_read n ≡ objects_now n)
@@ -174,8 +174,8 @@ unheard_of Told objects now objects_then held then limit most lines legs fault a
     (subst (λ (l : List LegLine). AreUnheard Told objects objects_then held limit l fault) are (unheard_in Told objects now objects_then held then limit lines fault counts same u))
 
 -- ---- the conference
-module _ (held : Contents) (c : Conf) where
-  pub are_told : (all : List Said) → length all ≡ length c.legs → AllLie held c.legs → AreHeard (input_limit c) held c.legs all → AreTold held c all
+module _ (held : Contents) (c : Conference) where
+  pub are_told : (all : List SenderReport) → length all ≡ length c.legs → AllLie held c.legs → AreHeard (input_limit c) held c.legs all → AreTold held c all
   are_told all many lie are = record {
     lie = lie;
     whole = λ k less. whole_below (input_limit c) held c.legs all are k (omega (arith, less, many));
@@ -183,7 +183,7 @@ module _ (held : Contents) (c : Conf) where
     counts = λ k said leg at is. (are k said at).2 ∙ ap (λ (o : Option LegLine). tally_at (heard_as o) (dump (input_limit c) (input_at (inputs_under held c.legs) k)).items) is;
   }
 
-  pub is_named : (all : List Said) (new : Conf) → AreTold held c all → new ≡ named_by (says_in all) c → IsNamed held c new
+  pub is_named : (all : List SenderReport) (new : Conference) → AreTold held c all → new ≡ named_by (says_in all) c → IsNamed held c new
   is_named all new told is = record {
     lie = told.lie;
     whole = told.whole;

@@ -5,24 +5,24 @@ use Rattle.std.specs.List.{enumerate_from}
 use Rattle.std.proofs.lemmas.List.{append-nil, take_all}
 use Rattle.std.proofs.lemmas.Grind.{flat_map-append}
 use Rattle.std.proofs.lemmas.List.FromFn.{length-enumerate_from}
-use Rattle.file_spec.specs.declared.conf_lines.LegLine.{LegLine}
-use Rattle.file_spec.specs.Conf.{Conf}
+use Rattle.file_spec.specs.declared.conference_lines.LegLine.{LegLine}
+use Rattle.file_spec.specs.Conference.{Conference}
 use Rattle.view_spec.specs.Tallies.{tally_line}
 use Rattle.mixer_posts.proofs.LegLines.{legs_more}
 use Rattle.command_spec.specs.Inputs.{inputs_under}
 use Rattle.command_spec.specs.Mixing.{counts_lines, leg_tally}
 use Rattle.command_spec.specs.Work.{Contents}
 use Rattle.bridge_run.proofs.Opening.{leg_read_at}
-use Rattle.rtt_attend.specs.declared.said.Said.{Said}
+use Rattle.rtt_attend.specs.declared.sender_reports.SenderReport.{SenderReport}
 use Rattle.rtt_attend.specs.Named.{AreTold, lines_below}
 
-said_read_at : (all : List Said) (k : ℕ) (said : Said) → k < length all → said ≡ get_or all k said → slice_get all k ≡ Some said
+said_read_at : (all : List SenderReport) (k : ℕ) (said : SenderReport) → k < length all → said ≡ get_or all k said → slice_get all k ≡ Some said
 said_read_at [] k said less is = absurd (omega arith)
 said_read_at (x ∷ all) zero said less is = ap Some (sym is)
 said_read_at (x ∷ all) (suc k) said less is = said_read_at all k said (omega arith) is
 
 -- one line more
-pub lines_more : (held : Contents) (c : Conf) (all : List Said) (k : ℕ) (leg : LegLine) (said : Said) (old new : List ℕ) → AreTold held c all → k < length c.legs → length all ≡ length c.legs
+pub lines_more : (held : Contents) (c : Conference) (all : List SenderReport) (k : ℕ) (leg : LegLine) (said : SenderReport) (old new : List ℕ) → AreTold held c all → k < length c.legs → length all ≡ length c.legs
     → leg ≡ get_or c.legs k leg → said ≡ get_or all k said → old ≡ lines_below c (inputs_under held c.legs) k → new ≡ old ++ tally_line leg.name said.tally
     → new ≡ lines_below c (inputs_under held c.legs) (k + 1)
 lines_more held c all k leg said old new told less many leg_is said_is before adds =
@@ -40,6 +40,6 @@ lines_more held c all k leg said old new told less many leg_is said_is before ad
     ∙ sym (ap (flat_map line) (legs_more c k leg less)))))))
 
 -- all of them
-pub lines_all : (held : Contents) (c : Conf) (k : ℕ) (lines : List ℕ) → length c.legs ≤ k → lines ≡ lines_below c (inputs_under held c.legs) k → lines ≡ counts_lines c (inputs_under held c.legs)
+pub lines_all : (held : Contents) (c : Conference) (k : ℕ) (lines : List ℕ) → length c.legs ≤ k → lines ≡ lines_below c (inputs_under held c.legs) k → lines ≡ counts_lines c (inputs_under held c.legs)
 lines_all held c k lines low is =
     is ∙ ap (flat_map (λ x. tally_line x.1.name (leg_tally c (inputs_under held c.legs) x.0 x.1))) (take_all k (enumerate_from 0 c.legs) (omega (arith, length-enumerate_from 0 c.legs, low)))

@@ -1,6 +1,6 @@
 -- What is counted of an input, record by record.
 use Rattle.std.specs.Prelude.{◌≡◌, ◌+◌, ◌≤◌, ◌<◌, ◌^◌, ℕ, Bool, Some, List, Err, if◌then◌else◌}
-use Rattle.rtt_base.specs.declared.text_packets.Pts.{Pts}
+use Rattle.rtt_base.specs.declared.text_packets.PayloadTypes.{PayloadTypes}
 use Rattle.wire_spec.specs.declared.faults.TextFault.{TextFault}
 use Rattle.wire_spec.specs.Text.{text_of}
 use Rattle.wire_spec.specs.Dump.{Item}
@@ -10,8 +10,8 @@ use Rattle.rtpdump_io.specs.declared.items.DumpItem.{DumpItem}
 use Rattle.rtpdump_io.specs.declared.items.DumpItem.TheVariants.{Packet, Rtcp, Cut, Large, End}
 
 -- this sender is heard, with these payload types
-abbrev pub hears_so : ℕ → Pts → Reception
-hears_so ssrc pts = record { ssrc = ssrc; pts = pts; wait = 0 }
+abbrev pub hears_so : ℕ → PayloadTypes → Reception
+hears_so ssrc payload_types = record { ssrc = ssrc; payload_types = payload_types; wait = 0 }
 
 -- what becomes of a packet with this fault
 abbrev pub fate_of_fault : TextFault → Fate
@@ -19,7 +19,7 @@ fate_of_fault fault = fate_of (Err fault)
 
 -- what becomes of a record, whose octets these are where it is a packet
 abbrev pub fate_in : Reception → DumpItem → List ℕ → Fate
-fate_in r (Packet at) out = fate_of (text_of out (Some r.ssrc) r.pts)
+fate_in r (Packet at) out = fate_of (text_of out (Some r.ssrc) r.payload_types)
 fate_in r (Rtcp at) out = NoPacket
 fate_in r (Cut at) out = Refused
 fate_in r (Large at) out = Refused

@@ -12,10 +12,10 @@ use Rattle.rtpdump_io.specs.declared.items.DumpFault.{DumpFault}
 use Rattle.rtpdump_io.specs.Reading.{IsFaultOf, UnlessOfSource, is_of_source}
 use Rattle.command_spec.specs.Attending as attending
 use Rattle.command_spec.specs.Attending.{and_read, nothing, said_after, said_by}
-use Rattle.rtt_attend.specs.declared.said.Said.{Said}
+use Rattle.rtt_attend.specs.declared.sender_reports.SenderReport.{SenderReport}
 
 -- what is told of a sender, in the definition's words
-abbrev pub said_of : Said → attending.Said
+abbrev pub said_of : SenderReport → attending.Said
 said_of said = record { name = said.name; left = said.left }
 
 -- ---- one record
@@ -31,25 +31,25 @@ is_rtcp (Rtcp at) = true
 is_rtcp _ = false
 
 -- what is known then is what a record at this moment tells, which has these octets where it is one of RTCP
-abbrev pub TellsItem : ℕ → ℕ → DumpItem → List ℕ → Said → Said → Type 0
+abbrev pub TellsItem : ℕ → ℕ → DumpItem → List ℕ → SenderReport → SenderReport → Type 0
 TellsItem ssrc at item octets old new = said_of new ≡ (if is_rtcp item then and_read ssrc at (said_of old) (rtcp octets) else said_of old)
 
 -- ---- all of them
 -- it is what these records tell of the sender that is heard, and what is counted of them, where their recording has no fault
-abbrev pub HearsAll : Reception → List Entry → Recording → Result Said DumpFault → Type 0
+abbrev pub HearsAll : Reception → List Entry → Recording → Result SenderReport DumpFault → Type 0
 HearsAll r records recording (Ok said) =
     (said_of said ≡ said_after r.ssrc 0 nothing records) × (recording.fault ≡ None) × (said.tally ≡ tally_at r recording.items)
 HearsAll r records recording (Err fault) = IsFaultOf recording fault
 
 -- it is what an input of these octets tells of its sender, and what is counted of it, where it can be read to its end
-abbrev pub Hears : ℕ → Reception → List ℕ → Result Said DumpFault → Type 0
+abbrev pub Hears : ℕ → Reception → List ℕ → Result SenderReport DumpFault → Type 0
 Hears limit r octets (Ok said) =
     (said_of said ≡ said_by limit r.ssrc octets) × ((dump limit octets).fault ≡ None) × (said.tally ≡ tally_at r (dump limit octets).items)
 Hears limit r octets (Err fault) = IsFaultOf (dump limit octets) fault
 
 module _ {S : Type 0} where
   -- A source that was read is the one that it was. Where its reading failed, its count rose, and else it did not.
-  pub record IsRead (faults : S → ℕ) (name : S → List ℕ) (result : Result Said DumpFault) (old new : S) : Type 0 where
+  pub record IsRead (faults : S → ℕ) (name : S → List ℕ) (result : Result SenderReport DumpFault) (old new : S) : Type 0 where
     pub same_name : name new ≡ name old
     pub read : IfErr result (λ fault. is_of_source fault.kind ≡ true → Rose (faults old) (faults new))
     pub calm : UnlessOfSource result (faults new ≡ faults old)

@@ -6,11 +6,11 @@ ghost use Rattle.wire_spec.specs.declared.limits.TheConstants.{MOST_RECORDING_OC
 ghost use Rattle.rtt_attend.specs.Counted.{hears_so};
 ghost use Rattle.rtt_attend.specs.Heard.{Hears, HearsAll, IsRead, TellsItem, moment_of, is_rtcp, said_of};
 
-use crate::counting::count_item;
-use crate::said::{Said, hear_rtcp};
+use crate::sums::count_item;
+use crate::sender_reports::{SenderReport, hear_rtcp};
 use rtcp_spec::Events;
 use rtpdump_io::{DumpFault, DumpItem, DumpReader};
-use rtt_base::{Packet, Pts, TextPacket};
+use rtt_base::{Packet, PayloadTypes, TextPacket};
 use rtt_io::Source;
 
 /// The moment of a record; none at the end.
@@ -47,7 +47,7 @@ fn hear_item(
     latest: u32,
     octets: &[u8],
     events: &mut Events,
-    said: &mut Said,
+    said: &mut SenderReport,
 )
     ensures tells { TellsItem ssrc latest item octets.now said.old said.new }
     ensures tally { said.new.tally ≡ said.old.tally }
@@ -58,7 +58,7 @@ fn hear_item(
 }
 
 /// How many senders were heard in an input of which so many packets of text were: one at most.
-fn with_senders(said: Said) -> Said
+fn with_senders(said: SenderReport) -> SenderReport
     ensures said { said_of result ≡ said_of said }
     ensures tally { result.tally ≡ record said.tally { senders = min said.tally.text 1 } }
 {
@@ -71,16 +71,16 @@ fn with_senders(said: Said) -> Said
 fn hear_records<S: Source>(
     reader: &mut DumpReader<S>,
     ssrc: u32,
-    pts: Pts,
+    payload_types: PayloadTypes,
     octets: &mut Packet,
     text: &mut TextPacket,
     events: &mut Events,
-) -> Result<Said, DumpFault>
+) -> Result<SenderReport, DumpFault>
     requires open { is_ended reader.old ≡ Bool.false }
-    ensures hears { S.tells → HearsAll (hears_so ssrc pts) (entries_to_come S.left reader.old) (to_come S.left reader.old) result }
+    ensures hears { S.tells → HearsAll (hears_so ssrc payload_types) (entries_to_come S.left reader.old) (to_come S.left reader.old) result }
     ensures read { IsRead S.faults S.name result (source_of reader.old) (source_of reader.new) }
 {
-    let mut said = Said::new();
+    let mut said = SenderReport::new();
     let mut latest = 0;
     loop {
         let item = match reader.next_all(octets) {
@@ -91,35 +91,35 @@ fn hear_records<S: Source>(
             return Ok(with_senders(said));
         };
         let read = octets.as_slice();
-        count_item(item, read, ssrc, pts, text, &mut said.tally);
+        count_item(item, read, ssrc, payload_types, text, &mut said.tally);
         latest = later(latest, at);
         hear_item(item, ssrc, latest, read, events, &mut said);
     }
 }
 
 /// What an input told, and its source.
-pub(crate) struct Heard<S> {
+pub(crate) struct InputNames<S> {
     pub source: S,
-    pub said: Result<Said, DumpFault>,
+    pub said: Result<SenderReport, DumpFault>,
 }
 
 /// What the recording of at most `limit` octets that this source holds tells of a sender, or why it can't be read to its end.
 pub(crate) fn hear_input<S: Source>(
     source: S,
     ssrc: u32,
-    pts: Pts,
+    payload_types: PayloadTypes,
     limit: u32,
     octets: &mut Packet,
     text: &mut TextPacket,
     events: &mut Events,
-) -> Heard<S>
+) -> InputNames<S>
     requires { limit ≤ MOST_RECORDING_OCTETS }
-    ensures hears { S.tells → Hears limit (hears_so ssrc pts) (S.left source) result.said }
+    ensures hears { S.tells → Hears limit (hears_so ssrc payload_types) (S.left source) result.said }
     ensures read { IsRead S.faults S.name result.said source result.source }
 {
     let mut reader = DumpReader::with_limit(source, limit);
-    let said = hear_records(&mut reader, ssrc, pts, octets, text, events);
-    Heard {
+    let said = hear_records(&mut reader, ssrc, payload_types, octets, text, events);
+    InputNames {
         source: reader.into_source(),
         said,
     }

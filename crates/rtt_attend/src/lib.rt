@@ -1,14 +1,14 @@
 //! What a conference's inputs tell: the names of those who speak, and when they left, by RTCP; and how much came.
 #![tactic(auto)]
 
-mod counting;
-mod hearing;
+mod sums;
+mod input_notes;
 mod inputs;
-mod opening;
-mod said;
-mod telling;
+mod open_inputs;
+mod sender_reports;
+mod reports;
 
-pub use hearing::{count_inputs, hear_names};
+pub use input_notes::{count_inputs, hear_names};
 
 #[cfg(test)]
 mod tests;

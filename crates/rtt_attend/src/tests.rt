@@ -2,7 +2,7 @@
 use crate::hear_names;
 use bridge_run::MixFault;
 use conf_text::read_conf;
-use conference::Conf;
+use conference::Conference;
 use file_spec::Form;
 use rtpdump_io::{DumpFault, write_opening};
 use rtt_base::{Bytes, NoMemory, Path};
@@ -126,9 +126,9 @@ fn recording(alloc: Global, records: &[Record]) -> Result<Bytes, NoMemory> {
     Ok(recording)
 }
 
-fn call(alloc: Global) -> Result<Conf, NoMemory> {
+fn call(alloc: Global) -> Result<Conference, NoMemory> {
     match read_conf(alloc, CALL, Form::Files) {
-        Ok(conf) => Ok(conf),
+        Ok(conference) => Ok(conference),
         Err(_) => Err(NoMemory),
     }
 }
@@ -143,8 +143,8 @@ fn call_world(alloc: Global, ann: &[Record], bob: &[Record]) -> Result<MemWorld,
 }
 
 /// Whether the leg has this name, and its stay this end.
-fn is_known(conf: &Conf, leg: usize, name: &str, until: u32) -> bool {
-    match conf.legs.as_slice().get(leg) {
+fn is_known(conference: &Conference, leg: usize, name: &str, until: u32) -> bool {
+    match conference.legs.as_slice().get(leg) {
         Some(leg) => leg.name.as_str() == name && leg.stay.until.unwrap_or(0) == until,
         None => false,
     }
@@ -155,7 +155,7 @@ fn is_known(conf: &Conf, leg: usize, name: &str, until: u32) -> bool {
 fn count_known(alloc: Global, of_ann: bool, cases: &[Case]) -> Result<usize, NoMemory> {
     match cases {
         [Case(records, name, until), rest @ ..] => {
-            let mut conf = call(alloc)?;
+            let mut conference = call(alloc)?;
             let (mut world, ann, bob) = if of_ann {
                 let world = call_world(alloc, records, NO_RECORDS)?;
                 (world, (*name, *until), ("Bob", 900))
@@ -163,10 +163,10 @@ fn count_known(alloc: Global, of_ann: bool, cases: &[Case]) -> Result<usize, NoM
                 let world = call_world(alloc, NO_RECORDS, records)?;
                 (world, ("Ann", 0), (*name, *until))
             };
-            let Ok(()) = hear_names(alloc, &mut conf, &mut world) else {
+            let Ok(()) = hear_names(alloc, &mut conference, &mut world) else {
                 return Ok(0);
             };
-            if !is_known(&conf, 0, ann.0, ann.1) || !is_known(&conf, 1, bob.0, bob.1) {
+            if !is_known(&conference, 0, ann.0, ann.1) || !is_known(&conference, 1, bob.0, bob.1) {
                 return Ok(0);
             }
             let more = count_known(alloc, of_ann, rest)?;
@@ -178,7 +178,7 @@ fn count_known(alloc: Global, of_ann: bool, cases: &[Case]) -> Result<usize, NoM
 
 /// Why these inputs can't be heard; none is opened where there are no octets.
 fn fault_of(alloc: Global, ann: &[u8], bob: &[u8]) -> Result<Option<MixFault>, NoMemory> {
-    let mut conf = call(alloc)?;
+    let mut conference = call(alloc)?;
     let mut world = MemWorld::new(alloc);
     if !ann.is_empty() {
         world.add_file("ann.rtp", ann)?;
@@ -186,16 +186,16 @@ fn fault_of(alloc: Global, ann: &[u8], bob: &[u8]) -> Result<Option<MixFault>, N
     if !bob.is_empty() {
         world.add_file("bob.rtp", bob)?;
     }
-    Ok(hear_names(alloc, &mut conf, &mut world).err())
+    Ok(hear_names(alloc, &mut conference, &mut world).err())
 }
 
 /// Why Bob's input can't be heard, whose first read fails.
 fn read_fault(alloc: Global) -> Result<Option<MixFault>, NoMemory> {
-    let mut conf = call(alloc)?;
+    let mut conference = call(alloc)?;
     let mut world = call_world(alloc, NO_RECORDS, NO_RECORDS)?;
     let name = Path::from_text(alloc, "bob.rtp")?;
     world.fail(FailingCall::Read(name, 1))?;
-    Ok(hear_names(alloc, &mut conf, &mut world).err())
+    Ok(hear_names(alloc, &mut conference, &mut world).err())
 }
 
 /// That the input of this leg can't be read from its beginning.
@@ -221,15 +221,15 @@ fn what_is_told_of_a_leg(rt: HostRuntime) -> Result<(), Fail> {
 
 #[test]
 fn a_name_that_came_before_is_not_given_again(rt: HostRuntime) -> Result<(), Fail> {
-    let mut conf = call(rt.alloc())?;
+    let mut conference = call(rt.alloc())?;
     let mut world = call_world(
         rt.alloc(),
         &[Named(0, 1001, "Zoe")],
         &[Named(0, 1002, "Zoe")],
     )?;
-    assert!(rt; hear_names(rt.alloc(), &mut conf, &mut world).is_ok());
-    assert!(rt; is_known(&conf, 0, "Zoe", 0));
-    assert!(rt; is_known(&conf, 1, "Bob", 900));
+    assert!(rt; hear_names(rt.alloc(), &mut conference, &mut world).is_ok());
+    assert!(rt; is_known(&conference, 0, "Zoe", 0));
+    assert!(rt; is_known(&conference, 1, "Bob", 900));
     Ok(())
 }
 

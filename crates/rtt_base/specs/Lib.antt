@@ -1,4 +1,4 @@
-pub mod Stamps
+pub mod Timestamps
 pub mod Buffers
 pub mod Steps
 pub mod Lends

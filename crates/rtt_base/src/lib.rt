@@ -4,25 +4,25 @@
 mod blocks;
 mod buffers;
 mod errors;
-mod growing;
+mod long_lists;
 pub mod limits;
 mod names;
 mod octets;
 mod paths;
 mod records;
-mod stamps;
+mod timestamps;
 mod text_packets;
 
 pub use blocks::{Blocks, TextBlock};
 pub use buffers::OctetBuffer;
 pub use errors::{Failed, Full, NoMemory};
-pub use growing::{Bytes, Growing};
+pub use long_lists::{Bytes, GrowingList};
 pub use names::Name;
 pub use octets::{Octets, Packet, Text};
 pub use paths::Path;
 pub use records::{Chunk, Record};
-pub use stamps::after;
-pub use text_packets::{Pts, TextPacket};
+pub use timestamps::after;
+pub use text_packets::{PayloadTypes, TextPacket};
 
 #[cfg(test)]
 mod tests;

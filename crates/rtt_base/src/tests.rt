@@ -1,10 +1,10 @@
 use crate::{
-    Blocks, Bytes, Growing, Name, OctetBuffer, Octets, Packet, Path, Text, TextBlock, after,
+    Blocks, Bytes, GrowingList, Name, OctetBuffer, Octets, Packet, Path, Text, TextBlock, after,
 };
 use std::test::Fail;
 
 #[test]
-fn stamps_are_ordered_within_half_the_circle(rt: HostRuntime) {
+fn timestamps_are_ordered_within_half_the_circle(rt: HostRuntime) {
     let cases = [
         (1, 0, true),
         (0, 0, false),
@@ -63,7 +63,7 @@ fn what_grows_finds_memory(rt: HostRuntime) -> Result<(), Fail> {
     bytes.push(65)?;
     bytes.append(b"nn")?;
     assert_eq!(rt; bytes.as_slice(), b"Ann".as_slice());
-    let mut numbers = Growing::new(rt.alloc());
+    let mut numbers = GrowingList::new(rt.alloc());
     numbers.push(7_u32)?;
     if !numbers.is_empty() {
         *numbers.item_mut(0) = 8;

@@ -4,8 +4,8 @@ use Rattle.std.specs.Prelude.{IsSome, map, unwrap_or}
 use Rattle.wire_spec.specs.Dump.{dump, dump_written, opening, records, records_within}
 use Rattle.wire_spec.specs.Dump as dumps
 use Rattle.wire_spec.specs.declared.faults.DumpKind.{DumpKind}
-use Rattle.file_spec.specs.declared.conf_lines.LegLine.{LegLine}
-use Rattle.file_spec.specs.Conf.{Conf}
+use Rattle.file_spec.specs.declared.conference_lines.LegLine.{LegLine}
+use Rattle.file_spec.specs.Conference.{Conference}
 use Rattle.mixer_spec.specs.Setups.{leg_at, setup}
 use Rattle.mixer_spec.specs.Table.{Table}
 use Rattle.mixer_spec.specs.Plain.{plain}
@@ -114,7 +114,7 @@ leg_input Told held split (l ∷ legs) next (suc k) leg at own lie =
     ))
 
 -- the recording that is read, where nothing is told of it: one without a fault
-pub record IsRead (Told : Type 0) (held : Contents) (file : List ℕ) (c : Conf) (octets : List ℕ) : Type 0 where
+pub record IsRead (Told : Type 0) (held : Contents) (file : List ℕ) (c : Conference) (octets : List ℕ) : Type 0 where
   pub lies : Told → held file ≡ Some octets
   pub whole : (dump (trunk_limit c) octets).fault ≡ None
 
@@ -140,11 +140,11 @@ pick Told limit (Some octets) told = go (dump limit octets).fault refl
     )
 
 -- some recording is read
-pub some_read : (Told : Type 0) (held : Contents) (file : List ℕ) (c : Conf) → (Told → (octets : List ℕ) × (held file ≡ Some octets) × ((dump (trunk_limit c) octets).fault ≡ None))
+pub some_read : (Told : Type 0) (held : Contents) (file : List ℕ) (c : Conference) → (Told → (octets : List ℕ) × (held file ≡ Some octets) × ((dump (trunk_limit c) octets).fault ≡ None))
     → (octets : List ℕ) × IsRead Told held file c octets
 some_read Told held file c told = let p = pick Told (trunk_limit c) (held file) told in (p.0, record { lies = p.1; whole = p.2 })
 
-pub is_input : (Told : Type 0) (held : Contents) (file : List ℕ) (ssrc : ℕ) (c : Conf) (octets : List ℕ) (k : ℕ) (leg : LegLine) → IsRead Told held file c octets → leg_at c.legs k ≡ Some leg
+pub is_input : (Told : Type 0) (held : Contents) (file : List ℕ) (ssrc : ℕ) (c : Conference) (octets : List ℕ) (k : ℕ) (leg : LegLine) → IsRead Told held file c octets → leg_at c.legs k ≡ Some leg
     → is_on_trunk leg ≡ false → (Told → OwnLieBelow k held c.legs) → IsInputBehind Told held (cascades file ssrc c) (input_number c.legs k) leg.input
 is_input Told held file ssrc c octets k leg r at own lie =
     let split = split_of (trunk_of c ssrc) octets in
@@ -169,7 +169,7 @@ chain held split n (l ∷ legs) next lie =
     let more = chain held split (n + 1) legs (then_ (unwrap_or (held l.input) [])) rest in
     (more.0, ap P (some_under (held l.input) (lie 0 l (omega arith) refl f)) ∙ more.1))
 
-pub outcome_is : (held : Contents) (file : List ℕ) (ssrc : ℕ) (c : Conf) (octets : List ℕ) → held file ≡ Some octets → (dump (trunk_limit c) octets).fault ≡ None → AllOwnLie held c.legs
+pub outcome_is : (held : Contents) (file : List ℕ) (ssrc : ℕ) (c : Conference) (octets : List ℕ) → held file ≡ Some octets → (dump (trunk_limit c) octets).fault ≡ None → AllOwnLie held c.legs
     → (m : ℕ) × (outcome_from 1 held (cascades file ssrc c) ≡ outcome_from m held (mixes_over c (texts_of held c.legs (splits_by (split_of (trunk_of c ssrc) octets) c.legs))))
 outcome_is held file ssrc c octets there whole lie =
     let split = split_of (trunk_of c ssrc) octets in
@@ -252,7 +252,7 @@ none_lower held m limit n (l ∷ legs) (o ∷ os) steps (suc k) leg at some w sp
     (none_lower held m limit (suc n) legs os steps k leg at (omega arith) rest (λ j x a on. spared (suc j) x a on) next))
     spared next
 
-none_makes : (held : Contents) (i m : ℕ) (c : Conf) (table : Option Table) → RefusesNoneBefore i (outcome_from m held (makes c table))
+none_makes : (held : Contents) (i m : ℕ) (c : Conference) (table : Option Table) → RefusesNoneBefore i (outcome_from m held (makes c table))
 none_makes held i m c None = tt
 none_makes held i m c (Some table) = tt
 
@@ -288,7 +288,7 @@ unbroken limit n (o ∷ os) steps e = go (dump limit o).fault refl e (unbroken l
         (each_whole limit o os is r.0, ap P is ∙ r.1)
 
 -- a refusal at a byte is that of an input from number n on
-refuses_later : (limit n : ℕ) (inputs : List (List ℕ)) (c : Conf) (table : Option Table) (i byte : ℕ) (kind : DumpKind) → unless_one_broken limit n inputs (makes c table) ≡ Refuses i (AtByte byte kind) → n ≤ i
+refuses_later : (limit n : ℕ) (inputs : List (List ℕ)) (c : Conference) (table : Option Table) (i byte : ℕ) (kind : DumpKind) → unless_one_broken limit n inputs (makes c table) ≡ Refuses i (AtByte byte kind) → n ≤ i
 refuses_later limit n [] c None i byte kind e = absurd (cc e)
 refuses_later limit n [] c (Some table) i byte kind e = absurd (cc e)
 refuses_later limit n (o ∷ os) c table i byte kind e = go (dump limit o).fault e (refuses_later limit (suc n) os c table i byte kind)
@@ -299,7 +299,7 @@ refuses_later limit n (o ∷ os) c table i byte kind e = go (dump limit o).fault
     go (Some fault) e rest = let same : n ≡ i = cc e in omega (arith, same)
 
 -- Where the k texts before it have no fault, the text that is refused at a byte has that fault.
-broken_at : (limit n : ℕ) (inputs : List (List ℕ)) (c : Conf) (table : Option Table) (k byte : ℕ) (kind : DumpKind) → ((i : ℕ) → i < k → fault_at limit inputs i ≡ None)
+broken_at : (limit n : ℕ) (inputs : List (List ℕ)) (c : Conference) (table : Option Table) (k byte : ℕ) (kind : DumpKind) → ((i : ℕ) → i < k → fault_at limit inputs i ≡ None)
     → unless_one_broken limit n inputs (makes c table) ≡ Refuses (k + n) (AtByte byte kind) → (k < length inputs) × (fault_at limit inputs k ≡ Some (record { byte = byte; kind = kind }))
 broken_at limit n [] c None k byte kind w e = absurd (cc e)
 broken_at limit n [] c (Some table) k byte kind w e = absurd (cc e)
@@ -326,17 +326,17 @@ length_texts held (l ∷ legs) [] = ap suc (length_texts held legs [])
 length_texts held (l ∷ legs) (r ∷ rs) = ap suc (length_texts held legs rs)
 
 -- what is made of texts without a fault
-abbrev table_of : Conf → List (List ℕ) → Option Table
+abbrev table_of : Conference → List (List ℕ) → Option Table
 table_of c inputs = plain (setup c) c.tick c.turns (leg_chunks c (input_at inputs))
 
-over_whole : (c : Conf) (inputs : List (List ℕ)) (steps : Steps) → mixes c inputs ≡ steps → by_byte steps ≡ false
+over_whole : (c : Conference) (inputs : List (List ℕ)) (steps : Steps) → mixes c inputs ≡ steps → by_byte steps ≡ false
     → ((k : ℕ) → k < length inputs → fault_at (input_limit c) inputs k ≡ None) × (makes c (table_of c inputs) ≡ steps)
 over_whole c inputs steps e none =
     let r = unbroken (input_limit c) 1 inputs (makes c (table_of c inputs)) (ap by_byte e ∙ none) in
     (r.0, sym r.1 ∙ e)
 
 -- A conference behind another mixer whose recording is read to its end, where something lies under each input of its own.
-module _ (held : Contents) (file : List ℕ) (ssrc : ℕ) (c : Conf) (octets : List ℕ) (there : held file ≡ Some octets) (whole : (dump (trunk_limit c) octets).fault ≡ None) (lie : AllOwnLie held c.legs) where
+module _ (held : Contents) (file : List ℕ) (ssrc : ℕ) (c : Conference) (octets : List ℕ) (there : held file ≡ Some octets) (whole : (dump (trunk_limit c) octets).fault ≡ None) (lie : AllOwnLie held c.legs) where
   abbrev pub texts : List (List ℕ)
   texts = texts_of held c.legs (splits_by (split_of (trunk_of c ssrc) octets) c.legs)
 
@@ -385,7 +385,7 @@ none_others held split n (l ∷ legs) next none =
     read None each = tt
     read (Some octets) each = each octets
 
-pub none_first : (held : Contents) (file : List ℕ) (ssrc : ℕ) (c : Conf) → RefusesNoneBefore 1 (outcome_from 1 held (cascades file ssrc c))
+pub none_first : (held : Contents) (file : List ℕ) (ssrc : ℕ) (c : Conference) → RefusesNoneBefore 1 (outcome_from 1 held (cascades file ssrc c))
 none_first held file ssrc c = go (held file)
   where
     each : (octets : List ℕ) → RefusesNoneBefore 1 (outcome_from 2 held (mixes_splits c ssrc octets))
@@ -400,7 +400,7 @@ none_first held file ssrc c = go (held file)
     go (Some octets) = each octets
 
 -- the recording is refused
-pub recording_refused : (held : Contents) (file : List ℕ) (ssrc : ℕ) (c : Conf) (octets : List ℕ) (fault : dumps.Fault) → held file ≡ Some octets → (dump (trunk_limit c) octets).fault ≡ Some fault
+pub recording_refused : (held : Contents) (file : List ℕ) (ssrc : ℕ) (c : Conference) (octets : List ℕ) (fault : dumps.Fault) → held file ≡ Some octets → (dump (trunk_limit c) octets).fault ≡ Some fault
     → outcome_from 1 held (cascades file ssrc c) ≡ Refused 1 (AtByte fault.byte fault.kind)
 recording_refused held file ssrc c octets fault there is =
     let P : Option (List ℕ) → Outcome = λ o. elim o [ None ↦ Missing 1 | Some octets ↦ outcome_from (1 + 1) held (mixes_splits c ssrc octets) ] in

@@ -8,8 +8,8 @@ use Rattle.rtpdump_io.specs.declared.items.DumpFault.{DumpFault}
 use Rattle.rtpdump_io.specs.declared.items.RecordingFault.{RecordingFault}
 use Rattle.rtpdump_io.specs.declared.items.RecordingFault.TheVariants as recorded
 use Rattle.rtpdump_io.specs.Reading.{is_of_source}
-use Rattle.file_spec.specs.declared.conf_lines.LegLine.{LegLine}
-use Rattle.file_spec.specs.Conf.{Conf}
+use Rattle.file_spec.specs.declared.conference_lines.LegLine.{LegLine}
+use Rattle.file_spec.specs.Conference.{Conference}
 use Rattle.mixer_spec.specs.Setups.{leg_at}
 use Rattle.mixer_spec.specs.Bridged.{input_limit}
 use Rattle.cascade_spec.specs.Splitting.{Trunk, splits}
@@ -21,9 +21,9 @@ use Rattle.command_spec.specs.Mixing.{input_at}
 use Rattle.command_spec.specs.Cascading.{cascades, is_on_trunk, trunk_of}
 use Rattle.cascade.specs.declared.splits.Splits.{Splits}
 use Rattle.cascade.specs.Splits.{recordings_of}
-use Rattle.bridge_run.specs.declared.mixed.MixFault.{MixFault}
-use Rattle.bridge_run.specs.declared.mixed.MixFault.TheVariants as mix
-use Rattle.bridge_run.specs.declared.mixed.Mixed.{Mixed}
+use Rattle.bridge_run.specs.declared.results.MixFault.{MixFault}
+use Rattle.bridge_run.specs.declared.results.MixFault.TheVariants as mix
+use Rattle.bridge_run.specs.declared.results.Mixed.{Mixed}
 use Rattle.sent_files.specs.Files as sent
 use Rattle.bridge_run.specs.Mixes as bridge
 use Rattle.bridge_run.specs.Mixes.{outputs_of}
@@ -39,11 +39,11 @@ use Rattle.rtt_cascade.proofs.Chain.{done_is, fault_at, input_named, is_input, n
 use Rattle.rtt_cascade.proofs.Mixing.{decide, text_at}
 
 -- ---- the recording
-unsplit_input : (Told : Type 0) (held : Contents) (file : List ℕ) (ssrc : ℕ) (c : Conf) (input : ℕ) → input ≡ 1 → IsInputBehind Told held (cascades file ssrc c) input (input_name file c.legs input)
+unsplit_input : (Told : Type 0) (held : Contents) (file : List ℕ) (ssrc : ℕ) (c : Conference) (input : ℕ) → input ≡ 1 → IsInputBehind Told held (cascades file ssrc c) input (input_name file c.legs input)
 unsplit_input Told held file ssrc c input e = subst (λ n. IsInputBehind Told held (cascades file ssrc c) n (input_name file c.legs n)) (sym e) refl
 
 -- where the recording was not split
-pub unsplit_stops : (Told : Type 0) (Call Object : List ℕ → Type 0) (held : Contents) (file : List ℕ) (ssrc : ℕ) (c : Conf) (fault : CascadeFault) → IsUnsplit Told (Call file) (Object file) held file c fault
+pub unsplit_stops : (Told : Type 0) (Call Object : List ℕ → Type 0) (held : Contents) (file : List ℕ) (ssrc : ℕ) (c : Conference) (fault : CascadeFault) → IsUnsplit Told (Call file) (Object file) held file c fault
     → Stops Told Call Object held file ssrc c fault
 unsplit_stops Told Call Object held file ssrc c (Open input) u = (
   unsplit_input Told held file ssrc c input u.0,
@@ -61,7 +61,7 @@ unsplit_stops Told Call Object held file ssrc c (Dump input fault) u = record {
 unsplit_stops Told Call Object held file ssrc c TooLong u = absurd u
 unsplit_stops Told Call Object held file ssrc c NoMemory u = tt
 
-pub unsplit_kept : (Told : Type 0) (held : Contents) (file : List ℕ) (ssrc : ℕ) (c : Conf) (old new : List ℕ → ℕ) (fault : CascadeFault) (Call Object : Type 0) → IsUnsplit Told Call Object held file c fault
+pub unsplit_kept : (Told : Type 0) (held : Contents) (file : List ℕ) (ssrc : ℕ) (c : Conference) (old new : List ℕ → ℕ) (fault : CascadeFault) (Call Object : Type 0) → IsUnsplit Told Call Object held file c fault
     → OthersKept Told file old new (Err fault) → NoneFailed Told held file ssrc c old new (Err fault)
 unsplit_kept Told held file ssrc c old new (Open input) Call Object u k = k
 unsplit_kept Told held file ssrc c old new (Dump input fault) Call Object u k = λ told name none. k told name (λ e. none 1 (let one = u.0 in omega (arith, one)) e)
@@ -77,7 +77,7 @@ map_twice : (split : ℕ → List ℕ) (legs : List LegLine) → map split (map 
 map_twice split [] = refl
 map_twice split (l ∷ legs) = ap (λ (xs : List (List ℕ)). split l.ssrc ∷ xs) (map_twice split legs)
 
-pub are_splits : (held : Contents) (file : List ℕ) (ssrc : ℕ) (c : Conf) (s : Splits) (octets : List ℕ) (t : Trunk) (sources : List ℕ) → t ≡ trunk_of c ssrc → held file ≡ Some octets
+pub are_splits : (held : Contents) (file : List ℕ) (ssrc : ℕ) (c : Conference) (s : Splits) (octets : List ℕ) (t : Trunk) (sources : List ℕ) → t ≡ trunk_of c ssrc → held file ≡ Some octets
     → (dump t.limit octets).fault ≡ None → sources ≡ map (λ (leg : LegLine). leg.ssrc) c.legs → recordings_of s ≡ splits t sources octets → AreSplits held file ssrc c s
 are_splits held file ssrc c s octets t sources same there whole from are = record {
   octets = octets;
@@ -88,7 +88,7 @@ are_splits held file ssrc c s octets t sources same there whole from are = recor
       ∙ (ap (λ (xs : List ℕ). splits (trunk_of c ssrc) xs octets) from ∙ map_twice (split_of (trunk_of c ssrc) octets) c.legs));
 }
 
-pub refused_at : (held : Contents) (file : List ℕ) (ssrc : ℕ) (c : Conf) (octets : List ℕ) (t : Trunk) (fault : DumpFault) → t ≡ trunk_of c ssrc → held file ≡ Some octets
+pub refused_at : (held : Contents) (file : List ℕ) (ssrc : ℕ) (c : Conference) (octets : List ℕ) (t : Trunk) (fault : DumpFault) → t ≡ trunk_of c ssrc → held file ≡ Some octets
     → (dump t.limit octets).fault ≡ Some (record { byte = fault.offset; kind = fault.kind }) → IsRefusedAt held file c fault
 refused_at held file ssrc c octets t fault same there is =
     (octets, there, subst (λ (x : Trunk). (dump x.limit octets).fault ≡ Some (record { byte = fault.offset; kind = fault.kind })) same is)
@@ -127,7 +127,7 @@ first_since Told held mid file legs old own_mid new Call Object mix.TooLong same
 first_since Told held mid file legs old own_mid new Call Object mix.NoMemory same lie is f = tt
 
 -- what lay there is what lies there
-pub fed_since : (held mid : Contents) (recordings : List (List ℕ)) (c : Conf) (result : Result Mixed MixFault) → ((n : List ℕ) → mid n ≡ held n) → MixesFed mid recordings c result → MixesFed held recordings c result
+pub fed_since : (held mid : Contents) (recordings : List (List ℕ)) (c : Conference) (result : Result Mixed MixFault) → ((n : List ℕ) → mid n ≡ held n) → MixesFed mid recordings c result → MixesFed held recordings c result
 fed_since held mid recordings c result same m = subst (λ (h : Contents). MixesFed h recordings c result) (λ i n. same n i) m
 
 -- ---- the legs
@@ -144,7 +144,7 @@ split_at split [] j l at = absurd (cc at)
 split_at split (x ∷ legs) zero l at = let same : x ≡ l = cc at in ap (λ (y : LegLine). split y.ssrc) same
 split_at split (x ∷ legs) (suc j) l at = split_at split legs j l at
 
-module _ (Told : Type 0) (held : Contents) (file : List ℕ) (ssrc : ℕ) (c : Conf) (s : Splits) (are : Told → AreSplits held file ssrc c s) where
+module _ (Told : Type 0) (held : Contents) (file : List ℕ) (ssrc : ℕ) (c : Conference) (s : Splits) (are : Told → AreSplits held file ssrc c s) where
   pub made : (mixed : Mixed) → Told → MixesFed held (recordings_of s) c (Ok mixed) → IsMadeBehind held file ssrc c mixed
   made mixed told m =
       let a = are told in

@@ -4,8 +4,8 @@ use Rattle.std.specs.Prelude.{IsSome}
 use Rattle.rtt_io.specs.Counts.{Rose}
 use Rattle.rtpdump_io.specs.declared.items.DumpFault.{DumpFault}
 use Rattle.rtpdump_io.specs.Reading.{is_of_source}
-use Rattle.file_spec.specs.declared.conf_lines.LegLine.{LegLine}
-use Rattle.file_spec.specs.Conf.{Conf}
+use Rattle.file_spec.specs.declared.conference_lines.LegLine.{LegLine}
+use Rattle.file_spec.specs.Conference.{Conference}
 use Rattle.mixer_spec.specs.Setups.{leg_at, ssrc_of}
 use Rattle.mixer_spec.specs.Bridged.{input_limit}
 use Rattle.command_spec.specs.Work.{Contents}
@@ -15,13 +15,13 @@ use Rattle.leg_core.specs.Gives.{Stands, LegPast}
 use Rattle.mix_loop.proofs.Lists.{lt_or_ge}
 use Rattle.leg_items.specs.declared.inlets.LegInlet.{LegInlet}
 use Rattle.leg_items.specs.Answers.{AllAsked, AllNew, read_well, source_in}
-use Rattle.mixer_posts.specs.Streams.{pts_of}
+use Rattle.mixer_posts.specs.Streams.{payload_types_of}
 use Rattle.cascade.specs.declared.trunk_sources.TrunkSource.{TrunkSource}
 use Rattle.cascade.specs.declared.trunk_sources.TrunkSource.TheVariants.{Split, Below}
 use Rattle.cascade.specs.TrunkSources.{below, faults_in, left_in, name_in}
-use Rattle.bridge_run.specs.declared.mixed.MixFault.{MixFault}
-use Rattle.bridge_run.specs.declared.mixed.MixFault.TheVariants.{Open, Dump, TooLong, NoMemory}
-use Rattle.bridge_run.specs.declared.mixed.Mixed.{Mixed}
+use Rattle.bridge_run.specs.declared.results.MixFault.{MixFault}
+use Rattle.bridge_run.specs.declared.results.MixFault.TheVariants.{Open, Dump, TooLong, NoMemory}
+use Rattle.bridge_run.specs.declared.results.Mixed.{Mixed}
 use Rattle.bridge_run.specs.Answered.{AreKept, IsOfLegs, MixesAsked, MixesTo, WasReadWell, asked_of}
 use Rattle.bridge_run.proofs.Handing.{all_calm, by_reading, leg_before}
 use Rattle.bridge_run.proofs.Opening.{is_there}
@@ -62,7 +62,7 @@ split_calm : {S : Type 0} (faults : S → ℕ) (name : S → List ℕ) (s : Trun
 split_calm faults name (Split own) e = refl
 split_calm faults name (Below b) e = absurd (cc e)
 
-module _ {S : Type 0} (Told Tells : Type 0) (left : S → List ℕ) (faults : S → ℕ) (name : S → List ℕ) (held : Contents) (c : Conf) (recordings : List (List ℕ)) (lines : List LegLine) (limit : ℕ) (inlets : List (LegInlet (TrunkSource S)))
+module _ {S : Type 0} (Told Tells : Type 0) (left : S → List ℕ) (faults : S → ℕ) (name : S → List ℕ) (held : Contents) (c : Conference) (recordings : List (List ℕ)) (lines : List LegLine) (limit : ℕ) (inlets : List (LegInlet (TrunkSource S)))
     (are : lines ≡ c.legs) (fits : limit ≡ input_limit c) (count : length inlets ≡ length lines)
     (fed_of : AllFed Told Tells (left_in left) (faults_in faults) (name_in name) held c.wait limit lines recordings inlets) where
   many : length inlets ≡ length c.legs
@@ -82,7 +82,7 @@ module _ {S : Type 0} (Told Tells : Type 0) (left : S → List ℕ) (faults : S 
   all_asked told tells = λ j p at.
       let o = fed j p at in
       let past : Option LegLine → List ℕ → LegPast = λ leg octets. record {
-        conf = record { ssrc = ssrc_of leg; pts = pts_of leg; wait = c.wait };
+        settings = record { ssrc = ssrc_of leg; payload_types = payload_types_of leg; wait = c.wait };
         limit = input_limit c;
         octets = octets;
         gave = [];
@@ -164,7 +164,7 @@ module _ {S : Type 0} (Told Tells : Type 0) (left : S → List ℕ) (faults : S 
           ]))
 
 -- not all legs were opened
-pub fed_none : (Told : Type 0) (held : Contents) (own own_then : List ℕ → ℕ) (recordings : List (List ℕ)) (c : Conf) (fault : MixFault) → IsNotOpened Told held own own_then c.legs fault
+pub fed_none : (Told : Type 0) (held : Contents) (own own_then : List ℕ → ℕ) (recordings : List (List ℕ)) (c : Conference) (fault : MixFault) → IsNotOpened Told held own own_then c.legs fault
     → Told → MixesFed held recordings c (Err fault)
 fed_none Told held own own_then recordings c (Open k) r told = r.3 told
 fed_none Told held own own_then recordings c (Dump k fault) r told = absurd r

@@ -1,7 +1,7 @@
 -- Legs over splits and inputs, opened one by one and handed back.
 use Rattle.std.proofs.Common.{◌≡◌, ℕ, zero, suc, ◌≤◌, inl, inr, false, cond, Option, Some, List, [], ◌∷◌, ◌++◌, length, ap, subst, sym, ◌∙◌, arith}
 use Rattle.std.specs.Prelude.{IsSome, slice_get, unwrap_or}
-use Rattle.file_spec.specs.declared.conf_lines.LegLine.{LegLine}
+use Rattle.file_spec.specs.declared.conference_lines.LegLine.{LegLine}
 use Rattle.rtt_io.specs.Counts.{Rose}
 use Rattle.leg_core.specs.Gives.{Stands, begins}
 use Rattle.leg_items.specs.declared.inlets.LegInlet.{LegInlet}
@@ -9,26 +9,26 @@ use Rattle.mixer_spec.specs.Setups.{leg_at}
 use Rattle.command_spec.specs.Work.{Contents}
 use Rattle.command_spec.specs.Mixing.{input_at}
 use Rattle.command_spec.specs.Cascading.{is_on_trunk}
-use Rattle.bridge_run.specs.declared.mixed.MixFault.{MixFault}
-use Rattle.bridge_run.specs.declared.mixed.MixFault.TheVariants.{Open, Dump, TooLong, NoMemory}
+use Rattle.bridge_run.specs.declared.results.MixFault.{MixFault}
+use Rattle.bridge_run.specs.declared.results.MixFault.TheVariants.{Open, Dump, TooLong, NoMemory}
 use Rattle.bridge_run.specs.Opened as of_inputs
 use Rattle.bridge_run.specs.Opened.{ear_of}
 use Rattle.mixer_posts.proofs.Backward.{pushed}
 use Rattle.bridge_run.proofs.Opening.{is_there, rose_behind, rose_on}
 use Rattle.rtt_cascade.specs.Texts.{text_of}
-use Rattle.rtt_cascade.specs.Feeding.{Adds, AllFed, IsFedLeg, IsNotOpened, IsRefused, LeavesCount, RisesFor}
+use Rattle.rtt_cascade.specs.Feeding.{AddsFaults, AllFed, IsFedLeg, IsNotOpened, FeedIsRefused, LeavesCount, RisesFor}
 
 -- ---- sources
 -- a source that leaves the count of this name was handed back
 pub left_by : {S : Type 0} (Told : Type 0) (faults : S → ℕ) (name : S → List ℕ) (held held_now : Contents) (before after : List ℕ → ℕ) (s : S) (n : List ℕ) → Told
-    → ((m : List ℕ) → held_now m ≡ held m) → Adds Told held_now before after (faults s) (name s) → LeavesCount faults name held n s → after n ≡ before n
+    → ((m : List ℕ) → held_now m ≡ held m) → AddsFaults Told held_now before after (faults s) (name s) → LeavesCount faults name held n s → after n ≡ before n
 left_by Told faults name held held_now before after s n told same adds (inl z) = adds.calm z n
 left_by Told faults name held held_now before after s n told same adds (inr r) =
     adds.others told r.0 r.1 (subst (λ (o : Option (List ℕ)). IsSome o) (sym (same r.0)) r.3) n r.2
 
 -- and one whose reading failed: its count rose
 pub risen_by : {S : Type 0} (Told : Type 0) (faults : S → ℕ) (name : S → List ℕ) (held_now : Contents) (first before after : List ℕ → ℕ) (s : S)
-    → ((n : List ℕ) → first n ≤ before n) → Adds Told held_now before after (faults s) (name s) → RisesFor faults name first after s
+    → ((n : List ℕ) → first n ≤ before n) → AddsFaults Told held_now before after (faults s) (name s) → RisesFor faults name first after s
 risen_by Told faults name held_now first before after s low adds = λ own named rose.
     rose_behind (first own) (before own) (after own) (faults s) (low own) (adds.added own named) rose
 
@@ -74,7 +74,7 @@ module _ {S : Type 0} (Told Tells : Type 0) (left : S → List ℕ) (faults : S 
   -- the leg behind these was refused
   pub not_opened : (held : Contents) (wait limit j : ℕ) (legs : List LegLine) (recordings : List (List ℕ)) (leg : LegLine) (ps : List (LegInlet S)) (before now after last : List ℕ → ℕ) (fault : MixFault)
       → AllFed Told Tells left faults name held wait limit legs recordings ps → length ps ≡ j → leg_at legs j ≡ Some leg → ((n : List ℕ) → now n ≡ before n) → ((n : List ℕ) → last n ≡ after n)
-      → IsRefused now after j leg fault → IsNotOpened Told held before last legs fault
+      → FeedIsRefused now after j leg fault → IsNotOpened Told held before last legs fault
   not_opened held wait limit j legs recordings leg ps before now after last (Open k) h l g b a r = (
     leg,
     ap (λ (i : ℕ). leg_at legs i) r.0 ∙ g,
@@ -90,7 +90,7 @@ module _ {S : Type 0} (Told Tells : Type 0) (left : S → List ℕ) (faults : S 
   not_opened held wait limit j legs recordings leg ps before now after last NoMemory h l g b a r = r
 
 -- it was refused as one over its input is
-pub refused : (now after : List ℕ → ℕ) (j : ℕ) (leg : LegLine) (fault : MixFault) → IsRefused now after j leg fault → of_inputs.IsRefused now after j leg fault
+pub refused : (now after : List ℕ → ℕ) (j : ℕ) (leg : LegLine) (fault : MixFault) → FeedIsRefused now after j leg fault → of_inputs.OpeningIsRefused now after j leg fault
 refused now after j leg (Open k) r = (r.0, r.1.1)
 refused now after j leg (Dump k fault) r = absurd r
 refused now after j leg TooLong r = absurd r

@@ -7,8 +7,8 @@ use Rattle.wire_spec.specs.Dump.{dump}
 use Rattle.rtpdump_io.specs.declared.items.RecordingFault.{RecordingFault}
 use Rattle.rtpdump_io.specs.declared.items.RecordingFault.TheVariants.{Dump, NoMemory}
 use Rattle.rtpdump_io.specs.Faults.{FaultOf, IsSourceFault}
-use Rattle.file_spec.specs.declared.conf_lines.LegLine.{LegLine}
-use Rattle.file_spec.specs.Conf.{Conf}
+use Rattle.file_spec.specs.declared.conference_lines.LegLine.{LegLine}
+use Rattle.file_spec.specs.Conference.{Conference}
 use Rattle.file_spec.specs.Kept.{Differ}
 use Rattle.command_spec.specs.Work.{Contents}
 use Rattle.cascade_spec.specs.Splitting.{Trunk}
@@ -26,7 +26,7 @@ ssrcs_differ (x ∷ xs) q i j d low high =
     λ same. (q i j x low (omega (arith, size))).ssrcs
     (sym (get_or-map (λ (leg : LegLine). leg.ssrc) (x ∷ xs) i x d (omega (arith, size))) ∙ (same ∙ get_or-map (λ (leg : LegLine). leg.ssrc) (x ∷ xs) j x d (omega (arith, size))))
 
-pub limit_fits : (c : Conf) → trunk_limit c ≤ 4194304
+pub limit_fits : (c : Conference) → trunk_limit c ≤ 4194304
 limit_fits c = by_bool (λ b. cond b 524288 2097152 ≤ 4194304) (nat_lt 16 (length c.legs)) (λ t. omega arith) (λ f. omega arith)
 
 -- the count of its name rose, where its reading failed
@@ -37,7 +37,7 @@ risen old mid new file name before after same named fresh added rose =
     (rose_behind (old name) (mid name) (new name) after (omega (arith, same name)) added (subst (λ x. Rose x after) fresh rose))
 
 -- ---- what is told of its fault
-pub unsplit : (Told Call Object : Type 0) (held : Contents) (file : List ℕ) (ssrc : ℕ) (c : Conf) (octets : List ℕ) (t : Trunk) (fault : RecordingFault) → t ≡ trunk_of c ssrc → (Told → held file ≡ Some octets)
+pub unsplit : (Told Call Object : Type 0) (held : Contents) (file : List ℕ) (ssrc : ℕ) (c : Conference) (octets : List ℕ) (t : Trunk) (fault : RecordingFault) → t ≡ trunk_of c ssrc → (Told → held file ≡ Some octets)
     → (IsSourceFault fault → Object) → (Told → FaultOf (dump t.limit octets) fault) → IsUnsplit Told Call Object held file c (trunk_fault fault)
 unsplit Told Call Object held file ssrc c octets t (Dump fault) same there failed of =
     (refl, failed, λ none told. refused_at held file ssrc c octets t fault same (there told) (of told none))

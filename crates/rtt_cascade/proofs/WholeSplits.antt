@@ -1,8 +1,8 @@
 -- The splits of a recording are read to their ends.
 use Rattle.std.proofs.Common.{sym, arith}
 use Rattle.std.proofs.lemmas.Bool.{true≢false, eq-eqb}
-use Rattle.file_spec.specs.declared.conf_lines.Form.TheVariants.{Files}
-use Rattle.file_spec.specs.Conf.{usual_types}
+use Rattle.file_spec.specs.declared.conference_lines.Form.TheVariants.{Files}
+use Rattle.file_spec.specs.Conference.{usual_types}
 use Rattle.mixer_spec.specs.Bridged.{input_limit}
 use Rattle.cascade_spec.specs.Laws.{IsStream}
 use Rattle.cascade_spec.proofs.Recordings.{recordings_read}

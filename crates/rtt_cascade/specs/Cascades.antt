@@ -6,8 +6,8 @@ use Rattle.rtpdump_io.specs.declared.items.DumpFault.{DumpFault}
 use Rattle.rtpdump_io.specs.declared.items.RecordingFault.{RecordingFault}
 use Rattle.rtpdump_io.specs.declared.items.RecordingFault.TheVariants as recorded
 use Rattle.rtpdump_io.specs.Reading.{is_of_source}
-use Rattle.file_spec.specs.declared.conf_lines.LegLine.{LegLine}
-use Rattle.file_spec.specs.Conf.{Conf}
+use Rattle.file_spec.specs.declared.conference_lines.LegLine.{LegLine}
+use Rattle.file_spec.specs.Conference.{Conference}
 use Rattle.cascade_spec.specs.Laws.{split_of}
 use Rattle.command_spec.specs.declared.faults.Refusal.TheVariants.{AtByte, AfterTurns}
 use Rattle.command_spec.specs.Work.{Contents}
@@ -15,9 +15,9 @@ use Rattle.command_spec.specs.Outcomes.{Outcome, Done, Refused, outcome_from}
 use Rattle.command_spec.specs.Cascading.{cascades, trunk_limit, trunk_of}
 use Rattle.cascade.specs.declared.splits.Splits.{Splits}
 use Rattle.cascade.specs.Splits.{recordings_of}
-use Rattle.bridge_run.specs.declared.mixed.MixFault.{MixFault}
-use Rattle.bridge_run.specs.declared.mixed.MixFault.TheVariants as mix
-use Rattle.bridge_run.specs.declared.mixed.Mixed.{Mixed}
+use Rattle.bridge_run.specs.declared.results.MixFault.{MixFault}
+use Rattle.bridge_run.specs.declared.results.MixFault.TheVariants as mix
+use Rattle.bridge_run.specs.declared.results.Mixed.{Mixed}
 use Rattle.sent_files.specs.Files as sent
 use Rattle.bridge_run.specs.Mixes.{NoOtherFailed, RoseAt, outputs_of}
 use Rattle.rtt_cascade.specs.declared.faults.CascadeFault.{CascadeFault}
@@ -28,7 +28,7 @@ use Rattle.rtt_cascade.specs.Mixes.{AllKept}
 
 -- ---- the recording
 -- The split of the SSRC of each leg, in leg order, out of the recording that lies there, which is read to its end.
-pub record AreSplits (held : Contents) (file : List ℕ) (ssrc : ℕ) (c : Conf) (s : Splits) : Type 0 where
+pub record AreSplits (held : Contents) (file : List ℕ) (ssrc : ℕ) (c : Conference) (s : Splits) : Type 0 where
   pub octets : List ℕ
   pub lies : held file ≡ Some octets
   pub whole : (dump (trunk_limit c) octets).fault ≡ None
@@ -40,12 +40,12 @@ trunk_fault (recorded.Dump fault) = Dump 1 fault
 trunk_fault recorded.NoMemory = NoMemory
 
 -- what lies there is refused at the byte of this fault
-abbrev pub IsRefusedAt : Contents → List ℕ → Conf → DumpFault → Type 0
+abbrev pub IsRefusedAt : Contents → List ℕ → Conference → DumpFault → Type 0
 IsRefusedAt held file c fault =
     (octets : List ℕ) × (held file ≡ Some octets) × ((dump (trunk_limit c) octets).fault ≡ Some (record { byte = fault.offset; kind = fault.kind }))
 
 -- Why it was not split; `Call` and `Object` tell that a call or an object of its name failed.
-abbrev pub IsUnsplit : (Told Call Object : Type 0) → Contents → List ℕ → Conf → CascadeFault → Type 0
+abbrev pub IsUnsplit : (Told Call Object : Type 0) → Contents → List ℕ → Conference → CascadeFault → Type 0
 IsUnsplit Told Call Object held file c (Open input) = (input ≡ 1) × Call
 IsUnsplit Told Call Object held file c (Dump input fault) =
     (input ≡ 1) × (is_of_source fault.kind ≡ true → Object) × (is_of_source fault.kind ≡ false → Told → IsRefusedAt held file c fault)
@@ -69,23 +69,23 @@ fault_of legs mix.TooLong = TooLong
 fault_of legs mix.NoMemory = NoMemory
 
 -- what it comes to
-abbrev pub outcome_behind : Contents → List ℕ → ℕ → Conf → Outcome
+abbrev pub outcome_behind : Contents → List ℕ → ℕ → Conference → Outcome
 outcome_behind held file ssrc c = outcome_from 1 held (cascades file ssrc c)
 
 -- These are the views and the outputs that it comes to.
-abbrev pub IsMadeBehind : Contents → List ℕ → ℕ → Conf → Mixed → Type 0
+abbrev pub IsMadeBehind : Contents → List ℕ → ℕ → Conference → Mixed → Type 0
 IsMadeBehind held file ssrc c mixed =
     outcome_behind held file ssrc c ≡ Done (concat mixed.views.items) (outputs_of c.legs (sent.recordings_of mixed.outs))
 
 -- The input of this number and name is refused at the byte of this fault, or its source failed. None before it is refused.
-pub record IsBroken (Told : Type 0) (Object : List ℕ → Type 0) (held : Contents) (file : List ℕ) (ssrc : ℕ) (c : Conf) (input : ℕ) (name : List ℕ) (fault : DumpFault) : Type 0 where
+pub record IsBroken (Told : Type 0) (Object : List ℕ → Type 0) (held : Contents) (file : List ℕ) (ssrc : ℕ) (c : Conference) (input : ℕ) (name : List ℕ) (fault : DumpFault) : Type 0 where
   pub is_input : IsInputBehind Told held (cascades file ssrc c) input name
   pub read : is_of_source fault.kind ≡ true → Object name
   pub lowest : Told → SplitsAreWhole held file ssrc c → RefusesNoneBefore input (outcome_behind held file ssrc c)
   pub refused : is_of_source fault.kind ≡ false → Told → outcome_behind held file ssrc c ≡ Refused input (AtByte fault.offset fault.kind)
 
 -- Why nothing is made; `Call` and `Object` tell of which names a call or an object failed. Want of memory is free.
-abbrev pub Stops : (Told : Type 0) → (Call Object : List ℕ → Type 0) → Contents → List ℕ → ℕ → Conf → CascadeFault → Type 0
+abbrev pub Stops : (Told : Type 0) → (Call Object : List ℕ → Type 0) → Contents → List ℕ → ℕ → Conference → CascadeFault → Type 0
 Stops Told Call Object held file ssrc c (Open input) =
     IsInputBehind Told held (cascades file ssrc c) input (input_name file c.legs input) × Call (input_name file c.legs input)
 Stops Told Call Object held file ssrc c (Dump input fault) = IsBroken Told Object held file ssrc c input (input_name file c.legs input) fault
@@ -94,7 +94,7 @@ Stops Told Call Object held file ssrc c NoMemory = Unit {0}
 
 -- Which readings did not fail: none did but where an input has a fault, or memory ran out. Where one has a fault, none of a name did
 -- that neither that input nor a later one has, as far as counts are told of each name.
-abbrev pub NoneFailed : Type 0 → Contents → List ℕ → ℕ → Conf → (List ℕ → ℕ) → (List ℕ → ℕ) → Result Mixed CascadeFault → Type 0
+abbrev pub NoneFailed : Type 0 → Contents → List ℕ → ℕ → Conference → (List ℕ → ℕ) → (List ℕ → ℕ) → Result Mixed CascadeFault → Type 0
 NoneFailed Told held file ssrc c old new (Ok mixed) = AllKept old new
 NoneFailed Told held file ssrc c old new (Err (Open input)) = AllKept old new
 NoneFailed Told held file ssrc c old new (Err (Dump input fault)) =
@@ -116,7 +116,7 @@ module _ {W : Type 0} where
   IsFirstIn Told contents own old new file legs fault = IsFirst Told (contents old) file legs (own old) (own new) fault
 
   -- Why the recording was not split. No call for another input failed.
-  pub record IsUnsplitIn (Told : Type 0) (contents : W → Contents) (own objects : W → List ℕ → ℕ) (old new : W) (file : List ℕ) (c : Conf) (fault : CascadeFault) : Type 0 where
+  pub record IsUnsplitIn (Told : Type 0) (contents : W → Contents) (own objects : W → List ℕ → ℕ) (old new : W) (file : List ℕ) (c : Conference) (fault : CascadeFault) : Type 0 where
     pub cause : IsUnsplit Told (RoseAt (own old) (own new) file) (RoseAt (objects old) (objects new) file) (contents old) file c fault
     pub first : IsFirstIn Told contents own old new file c.legs fault
 
@@ -124,10 +124,10 @@ module _ {W : Type 0} where
   OthersKeptIn Told objects old new file result = OthersKept Told file (objects old) (objects new) result
 
   -- why nothing is made
-  abbrev pub StopsIn : Type 0 → (W → Contents) → (W → List ℕ → ℕ) → (W → List ℕ → ℕ) → W → W → List ℕ → ℕ → Conf → CascadeFault → Type 0
+  abbrev pub StopsIn : Type 0 → (W → Contents) → (W → List ℕ → ℕ) → (W → List ℕ → ℕ) → W → W → List ℕ → ℕ → Conference → CascadeFault → Type 0
   StopsIn Told contents own objects old new file ssrc c =
       Stops Told (RoseAt (own old) (own new)) (RoseAt (objects old) (objects new)) (contents old) file ssrc c
 
-  abbrev pub NoneFailedIn : Type 0 → (W → Contents) → (W → List ℕ → ℕ) → W → W → List ℕ → ℕ → Conf → Result Mixed CascadeFault → Type 0
+  abbrev pub NoneFailedIn : Type 0 → (W → Contents) → (W → List ℕ → ℕ) → W → W → List ℕ → ℕ → Conference → Result Mixed CascadeFault → Type 0
   NoneFailedIn Told contents objects old new file ssrc c result =
       NoneFailed Told (contents old) file ssrc c (objects old) (objects new) result

@@ -3,7 +3,7 @@
 use Rattle.std.specs.Prelude.{◌≡◌, ◌≢◌, ◌⊎◌, ℕ, false, IsSome, Some, List, [], slice_get, if◌then◌else◌}
 use Rattle.std.specs.Global.{Vec}
 use Rattle.rtt_io.specs.Counts.{Rose, counted}
-use Rattle.file_spec.specs.declared.conf_lines.LegLine.{LegLine}
+use Rattle.file_spec.specs.declared.conference_lines.LegLine.{LegLine}
 use Rattle.leg_core.specs.Gives.{Stands, begins, is_over}
 use Rattle.leg_items.specs.declared.inlets.LegInlet.{LegInlet}
 use Rattle.leg_items.specs.Answers.{source_in}
@@ -13,8 +13,8 @@ use Rattle.command_spec.specs.Mixing.{input_at}
 use Rattle.command_spec.specs.Cascading.{is_on_trunk}
 use Rattle.cascade.specs.TrunkSources.{below}
 use Rattle.bridge_run.specs.Opened.{ear_of}
-use Rattle.bridge_run.specs.declared.mixed.MixFault.{MixFault}
-use Rattle.bridge_run.specs.declared.mixed.MixFault.TheVariants.{Open, Dump, TooLong, NoMemory}
+use Rattle.bridge_run.specs.declared.results.MixFault.{MixFault}
+use Rattle.bridge_run.specs.declared.results.MixFault.TheVariants.{Open, Dump, TooLong, NoMemory}
 use Rattle.rtt_cascade.specs.Texts.{OwnLieBelow, text_of}
 
 -- the name of the source that has the text of a leg
@@ -66,11 +66,11 @@ module _ {S : Type 0} where
   RisesFor faults name old new s = (own : List ℕ) → name s ≡ below own → Rose 0 (faults s) → Rose (old own) (new own)
 
 -- Why the leg j was not opened: the count of its input rose, or memory ran out.
-abbrev pub IsRefused : (List ℕ → ℕ) → (List ℕ → ℕ) → ℕ → LegLine → MixFault → Type 0
-IsRefused before after j leg (Open k) = (k ≡ j) × OfOwn (λ name. Rose (before name) (after name)) leg
-IsRefused before after j leg (Dump k fault) = ⊥
-IsRefused before after j leg TooLong = ⊥
-IsRefused before after j leg NoMemory = Unit {0}
+abbrev pub FeedIsRefused : (List ℕ → ℕ) → (List ℕ → ℕ) → ℕ → LegLine → MixFault → Type 0
+FeedIsRefused before after j leg (Open k) = (k ≡ j) × OfOwn (λ name. Rose (before name) (after name)) leg
+FeedIsRefused before after j leg (Dump k fault) = ⊥
+FeedIsRefused before after j leg TooLong = ⊥
+FeedIsRefused before after j leg NoMemory = Unit {0}
 
 -- Why not all legs were: the count of an input rose, and something lies under those before it; or memory ran out.
 abbrev pub IsNotOpened : Type 0 → Contents → (List ℕ → ℕ) → (List ℕ → ℕ) → List LegLine → MixFault → Type 0
@@ -81,7 +81,7 @@ IsNotOpened Told held before after legs TooLong = ⊥
 IsNotOpened Told held before after legs NoMemory = Unit {0}
 
 -- A source with so many faults and this name was handed back: they are added to the count of its name, where it is one of the world.
-pub record Adds (Told : Type 0) (held : Contents) (old new : List ℕ → ℕ) (faults : ℕ) (name : List ℕ) : Type 0 where
+pub record AddsFaults (Told : Type 0) (held : Contents) (old new : List ℕ → ℕ) (faults : ℕ) (name : List ℕ) : Type 0 where
   pub calm : faults ≡ 0 → (n : List ℕ) → new n ≡ old n
   pub added : (own : List ℕ) → name ≡ below own → new own ≡ counted (old own) faults
   pub others : Told → (own : List ℕ) → name ≡ below own → IsSome (held own) → (n : List ℕ) → n ≢ own → new n ≡ old n
@@ -94,7 +94,7 @@ module _ {W : Type 0} where
 
   -- why the leg j was not opened
   abbrev pub IsOwnOpen : (W → List ℕ → ℕ) → W → W → ℕ → LegLine → MixFault → Type 0
-  IsOwnOpen own old new j leg fault = IsRefused (own old) (own new) j leg fault
+  IsOwnOpen own old new j leg fault = FeedIsRefused (own old) (own new) j leg fault
 
   -- why not all legs were
   abbrev pub IsUnopened : Type 0 → (W → Contents) → (W → List ℕ → ℕ) → W → W → List LegLine → MixFault → Type 0
@@ -102,7 +102,7 @@ module _ {W : Type 0} where
 
   -- a source with so many faults and this name was handed back
   abbrev pub HandsBack : Type 0 → (W → Contents) → (W → List ℕ → ℕ) → ℕ → List ℕ → W → W → Type 0
-  HandsBack Told contents objects faults name old new = Adds Told (contents old) (objects old) (objects new) faults name
+  HandsBack Told contents objects faults name old new = AddsFaults Told (contents old) (objects old) (objects new) faults name
 
   -- where the reading of a source failed, the count of its name rose
   abbrev pub FaultsRose : {S : Type 0} → (S → ℕ) → (S → List ℕ) → (W → List ℕ → ℕ) → List (LegInlet S) → W → W → Type 0

@@ -1,7 +1,7 @@
 -- The inputs of a conference behind another mixer, by number and name, as for a command: 0 is the conference, 1 is the recording of
 -- what that mixer sent, and then come those of the legs that don't stand behind it, in leg order.
 use Rattle.std.specs.Prelude.{◌≤◌, ℕ, zero, suc, List, [], ◌∷◌, if◌then◌else◌}
-use Rattle.file_spec.specs.declared.conf_lines.LegLine.{LegLine}
+use Rattle.file_spec.specs.declared.conference_lines.LegLine.{LegLine}
 use Rattle.command_spec.specs.declared.faults.Refusal.TheVariants.{AtByte, AtFrame, AtLine, AtTrunk, AfterTurns}
 use Rattle.command_spec.specs.Work.{Contents, Steps, IsInput}
 use Rattle.command_spec.specs.Outcomes.{Outcome, Done, Missing, Refused, Served}

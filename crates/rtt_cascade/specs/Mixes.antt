@@ -1,21 +1,21 @@
 -- What mixing a conference comes to of which some legs are read from splits. Legs are counted from 0.
 use Rattle.std.specs.Prelude.{◌≡◌, ◌≤◌, ℕ, false, true, Some, Result, Ok, Err, List}
 use Rattle.rtpdump_io.specs.Reading.{is_of_source}
-use Rattle.file_spec.specs.declared.conf_lines.LegLine.{LegLine}
-use Rattle.file_spec.specs.Conf.{Conf}
+use Rattle.file_spec.specs.declared.conference_lines.LegLine.{LegLine}
+use Rattle.file_spec.specs.Conference.{Conference}
 use Rattle.mixer_spec.specs.Setups.{leg_at}
 use Rattle.command_spec.specs.Work.{Contents}
 use Rattle.command_spec.specs.Cascading.{is_on_trunk}
-use Rattle.bridge_run.specs.declared.mixed.MixFault.{MixFault}
-use Rattle.bridge_run.specs.declared.mixed.MixFault.TheVariants.{Open, Dump, TooLong, NoMemory}
-use Rattle.bridge_run.specs.declared.mixed.Mixed.{Mixed}
+use Rattle.bridge_run.specs.declared.results.MixFault.{MixFault}
+use Rattle.bridge_run.specs.declared.results.MixFault.TheVariants.{Open, Dump, TooLong, NoMemory}
+use Rattle.bridge_run.specs.declared.results.Mixed.{Mixed}
 use Rattle.bridge_run.specs.Answered.{AreMixed, MixesTo}
 use Rattle.bridge_run.specs.Mixes.{RoseAt}
 use Rattle.rtt_cascade.specs.Texts.{AllOwnLie, OwnLieBelow, texts_of}
 use Rattle.rtt_cascade.specs.Feeding.{OfOwn}
 
 -- it is what the conference comes to of these splits and of what lies there
-abbrev pub MixesFed : Contents → List (List ℕ) → Conf → Result Mixed MixFault → Type 0
+abbrev pub MixesFed : Contents → List (List ℕ) → Conference → Result Mixed MixFault → Type 0
 MixesFed held recordings c (Ok mixed) = AllOwnLie held c.legs × AreMixed c (texts_of held c.legs recordings) mixed
 MixesFed held recordings c (Err (Open leg)) = OwnLieBelow leg held c.legs
 MixesFed held recordings c (Err (Dump leg fault)) = AllOwnLie held c.legs × MixesTo c (texts_of held c.legs recordings) (Err (Dump leg fault))

@@ -2,9 +2,9 @@
 -- their inputs.
 use Rattle.std.specs.Prelude.{◌≡◌, ◌<◌, ℕ, false, IsSome, None, Some, Ok, List, [], ◌∷◌, length, unwrap_or, if◌then◌else◌}
 use Rattle.wire_spec.specs.Dump.{dump}
-use Rattle.file_spec.specs.declared.conf_lines.Form.TheVariants.{Files}
-use Rattle.file_spec.specs.declared.conf_lines.LegLine.{LegLine}
-use Rattle.file_spec.specs.Conf.{Conf, conf}
+use Rattle.file_spec.specs.declared.conference_lines.Form.TheVariants.{Files}
+use Rattle.file_spec.specs.declared.conference_lines.LegLine.{LegLine}
+use Rattle.file_spec.specs.Conference.{Conference, conference_from}
 use Rattle.mixer_spec.specs.Setups.{leg_at}
 use Rattle.command_spec.specs.Work.{Contents}
 use Rattle.mixer_spec.specs.Bridged.{input_limit}
@@ -30,10 +30,10 @@ abbrev pub AllOwnLie : Contents → List LegLine → Type 0
 AllOwnLie held legs = OwnLieBelow (length legs) held legs
 
 -- each split of the recording that lies there is read to its end
-abbrev pub SplitsAreWhole : Contents → List ℕ → ℕ → Conf → Type 0
+abbrev pub SplitsAreWhole : Contents → List ℕ → ℕ → Conference → Type 0
 SplitsAreWhole held file ssrc c = (octets : List ℕ) → held file ≡ Some octets
     → (k : ℕ) (leg : LegLine) → leg_at c.legs k ≡ Some leg → (dump (input_limit c) (split_of (trunk_of c ssrc) octets leg.ssrc)).fault ≡ None
 
 -- so it is of each recording, whatever lies there, for a conference that was read
 abbrev pub AllSplitsAreWhole : Type 0
-AllSplitsAreWhole = (read : List ℕ) (c : Conf) → conf Files read ≡ Ok c → (held : Contents) (file : List ℕ) (ssrc : ℕ) → SplitsAreWhole held file ssrc c
+AllSplitsAreWhole = (read : List ℕ) (c : Conference) → conference_from Files read ≡ Ok c → (held : Contents) (file : List ℕ) (ssrc : ℕ) → SplitsAreWhole held file ssrc c

@@ -1,7 +1,7 @@
 //! A conference behind another mixer is mixed.
 ghost use Rattle.std.specs.Prelude.{◌≡◌, ◌≤◌, ℕ, length, IfOk, IfErr, OnOk};
 ghost use Rattle.rtt_io.specs.Names.{NoneFalls, Same};
-ghost use Rattle.conference.specs.Conferences.{conf_of};
+ghost use Rattle.conference.specs.Conferences.{meaning_of};
 ghost use Rattle.command_spec.specs.Cascading.{trunk_limit, trunk_of};
 ghost use Rattle.cascade.specs.Splits.{recordings_of};
 ghost use Rattle.cascade.specs.Splits as splitting;
@@ -10,28 +10,28 @@ ghost use Rattle.rtt_cascade.specs.Cascades.{AreSplits, IsFirstIn, IsMadeBehind,
 ghost use Rattle.file_spec.specs.declared.limits.TheConstants.{MOST_LEGS};
 
 use crate::CascadeFault;
-use crate::feeding::mix_fed;
+use crate::feeds::mix_fed;
 use crate::inputs::input_number;
 use bridge_run::{MixFault, Mixed};
-use cascade::{Splits, TrunkConf, split};
+use cascade::{Splits, DemuxSettings, split};
 use command_spec::limits::{MOST_TRUNK_OCTETS, MOST_TRUNK_OF_MANY};
-use conference::Conf;
+use conference::Conference;
 use file_spec::LegLine;
 use file_spec::limits::{USUAL_RED, USUAL_T140};
 use mixer_posts::ssrcs_of;
 use mixer_spec::limits::PLACES;
 use rtpdump_io::RecordingFault;
-use rtt_base::Pts;
+use rtt_base::PayloadTypes;
 use rtt_io::{Gate, World};
 use std::alloc::Global;
 use std::sync::Wait;
 use std::thread::Threads;
 
 /// The most octets that the recording may have.
-fn trunk_limit(conf: &Conf) -> u32
-    ensures { result ≡ trunk_limit (conf_of conf.now) }
+fn trunk_limit(conference: &Conference) -> u32
+    ensures { result ≡ trunk_limit (meaning_of conference.now) }
 {
-    if conf.legs.len() > PLACES {
+    if conference.legs.len() > PLACES {
         MOST_TRUNK_OF_MANY
     } else {
         MOST_TRUNK_OCTETS
@@ -39,16 +39,16 @@ fn trunk_limit(conf: &Conf) -> u32
 }
 
 /// How the recording is read.
-fn trunk_conf(conf: &Conf) -> TrunkConf
-    ensures { (ssrc : ℕ) → splitting.trunk_of ssrc result ≡ trunk_of (conf_of conf.now) ssrc }
+fn demux_settings(conference: &Conference) -> DemuxSettings
+    ensures { (ssrc : ℕ) → splitting.trunk_of ssrc result ≡ trunk_of (meaning_of conference.now) ssrc }
 {
-    TrunkConf {
-        pts: Pts {
+    DemuxSettings {
+        payload_types: PayloadTypes {
             t140: USUAL_T140,
             red: USUAL_RED,
         },
-        wait: u64::from(conf.wait),
-        limit: trunk_limit(conf),
+        wait: u64::from(conference.wait),
+        limit: trunk_limit(conference),
     }
 }
 
@@ -68,27 +68,28 @@ fn split_recording<W: World>(
     alloc: Global,
     file: &str,
     ssrc: u32,
-    conf: &Conf,
+    conference: &Conference,
     world: &mut W,
 ) -> Result<Splits, CascadeFault>
-    ensures splits { W.tells → IfOk result (AreSplits (W.contents world.old) file.now ssrc (conf_of conf.now)) }
-    ensures each { IfOk result (λ splits. length (recordings_of splits) ≡ length conf.now.legs) }
+    ensures splits { W.tells → IfOk result (AreSplits (W.contents world.old) file.now ssrc (meaning_of conference.now))
+        }
+    ensures each { IfOk result (λ splits. length (recordings_of splits) ≡ length conference.now.legs) }
     ensures told { W.tells → OnOk result W.Src.tells }
     ensures unsplit { IfErr result (IsUnsplitIn W.tells W.contents W.own_faults W.object_faults
-        world.old world.new file.now (conf_of conf.now)) }
+        world.old world.new file.now (meaning_of conference.now)) }
     ensures kept { OthersKeptIn W.tells W.object_faults world.old world.new file.now result }
     ensures opened { OnOk result (Same W.own_faults world.old world.new) }
     ensures same_contents { W.tells → Same W.contents world.old world.new }
     ensures calls_never_fall { NoneFalls W.own_faults world.old world.new }
     ensures objects_never_fall { NoneFalls W.object_faults world.old world.new }
 {
-    let Ok(sources) = ssrcs_of(alloc, conf.legs.as_slice()) else {
+    let Ok(sources) = ssrcs_of(alloc, conference.legs.as_slice()) else {
         return Err(CascadeFault::NoMemory);
     };
     let Ok(source) = world.open_source(file) else {
         return Err(CascadeFault::Open { input: 1 });
     };
-    let (source, splits) = split(alloc, source, ssrc, sources.as_slice(), trunk_conf(conf));
+    let (source, splits) = split(alloc, source, ssrc, sources.as_slice(), demux_settings(conference));
     world.done_src(source);
     match splits {
         Ok(splits) => Ok(splits),
@@ -122,29 +123,30 @@ pub fn cascade<R: Threads + Wait + Sync, W: World, G: Gate + Sync>(
     alloc: Global,
     file: &str,
     ssrc: u32,
-    conf: &Conf,
+    conference: &Conference,
     world: &mut W,
     gate: &G,
 ) -> Result<Mixed, CascadeFault>
-    ensures made { W.tells → IfOk result (IsMadeBehind (W.contents world.old) file.now ssrc (conf_of conf.now)) }
-    ensures outs { IfOk result (HasOutputs (length conf.now.legs)) }
+    ensures made { W.tells → IfOk result (IsMadeBehind (W.contents world.old) file.now ssrc
+        (meaning_of conference.now)) }
+    ensures outs { IfOk result (HasOutputs (length conference.now.legs)) }
     ensures stops { IfErr result (StopsIn W.tells W.contents W.own_faults W.object_faults
-        world.old world.new file.now ssrc (conf_of conf.now)) }
+        world.old world.new file.now ssrc (meaning_of conference.now)) }
     ensures none_failed { NoneFailedIn W.tells W.contents W.object_faults
-        world.old world.new file.now ssrc (conf_of conf.now) result }
+        world.old world.new file.now ssrc (meaning_of conference.now) result }
     ensures first { IfErr result (IsFirstIn W.tells W.contents W.own_faults
-        world.old world.new file.now conf.now.legs) }
+        world.old world.new file.now conference.now.legs) }
     ensures opened { OnOk result (Same W.own_faults world.old world.new) }
     ensures same_contents { W.tells → Same W.contents world.old world.new }
     ensures calls_never_fall { NoneFalls W.own_faults world.old world.new }
     ensures objects_never_fall { NoneFalls W.object_faults world.old world.new }
 {
-    let splits = match split_recording(alloc, file, ssrc, conf, world) {
+    let splits = match split_recording(alloc, file, ssrc, conference, world) {
         Ok(splits) => splits,
         Err(fault) => return Err(fault),
     };
-    match mix_fed(rt, alloc, conf, &splits, world, gate) {
+    match mix_fed(rt, alloc, conference, &splits, world, gate) {
         Ok(mixed) => Ok(mixed),
-        Err(fault) => Err(fault_of(conf.legs.as_slice(), fault)),
+        Err(fault) => Err(fault_of(conference.legs.as_slice(), fault)),
     }
 }

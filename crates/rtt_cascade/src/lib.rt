@@ -4,7 +4,7 @@
 
 mod cascades;
 mod faults;
-mod feeding;
+mod feeds;
 mod inputs;
 mod laws;
 mod trunks;

@@ -1,7 +1,7 @@
 use crate::{CascadeFault, cascade};
 use bridge_run::Piece;
 use conf_text::read_conf;
-use conference::Conf;
+use conference::Conference;
 use file_spec::Form;
 use rtpdump_io::DumpFault;
 use rtt_base::{Bytes, NoMemory};
@@ -12,7 +12,7 @@ use std::test::Fail;
 use std::thread::Threads;
 use wire_spec::DumpKind;
 
-const CONF: &[u8] = b"mixer 9001 0 0
+const CONFERENCE: &[u8] = b"mixer 9001 0 0
 leg Ann aware 1001 trunk x.out
 leg Cy aware 2001 cy.in y.out
 ";
@@ -40,7 +40,7 @@ Ann: He
 
 // What lies under the names of the recording and of Cy's input, in pieces, if anything does.
 #[derive(Clone, Copy)]
-struct Lying<'a>(Option<&'a [&'a [u8]]>, Option<&'a [&'a [u8]]>);
+struct LyingOctets<'a>(Option<&'a [&'a [u8]]>, Option<&'a [&'a [u8]]>);
 
 const SENT: Option<&[&[u8]]> = Some(&[OPENING, FIRST, SECOND]);
 
@@ -64,9 +64,9 @@ fn add(
     world.add_file(name, octets.as_slice())
 }
 
-fn conf_of(alloc: Global) -> Result<Conf, NoMemory> {
-    match read_conf(alloc, CONF, Form::Files) {
-        Ok(conf) => Ok(conf),
+fn conference_of(alloc: Global) -> Result<Conference, NoMemory> {
+    match read_conf(alloc, CONFERENCE, Form::Files) {
+        Ok(conference) => Ok(conference),
         Err(_) => Err(NoMemory),
     }
 }
@@ -84,13 +84,13 @@ fn joined(alloc: Global, views: &[Piece]) -> Result<Bytes, NoMemory> {
 fn seen<R: Threads + Wait + Sync>(
     rt: &R,
     alloc: Global,
-    lying: &Lying<'_>,
+    lying: &LyingOctets<'_>,
 ) -> Result<Result<Bytes, CascadeFault>, NoMemory> {
-    let conf = conf_of(alloc)?;
+    let conference = conference_of(alloc)?;
     let mut world = MemWorld::new(alloc);
     add(alloc, &mut world, "b.out", lying.0)?;
     add(alloc, &mut world, "cy.in", lying.1)?;
-    match cascade(rt, alloc, "b.out", 9000, &conf, &mut world, &StillGate) {
+    match cascade(rt, alloc, "b.out", 9000, &conference, &mut world, &StillGate) {
         Ok(mixed) => Ok(Ok(joined(alloc, mixed.views.as_slice())?)),
         Err(fault) => Ok(Err(fault)),
     }
@@ -99,7 +99,7 @@ fn seen<R: Threads + Wait + Sync>(
 fn shows<R: Threads + Wait + Sync>(
     rt: &R,
     alloc: Global,
-    lying: &Lying<'_>,
+    lying: &LyingOctets<'_>,
     view: &[u8],
 ) -> Result<bool, NoMemory> {
     match seen(rt, alloc, lying)? {
@@ -111,7 +111,7 @@ fn shows<R: Threads + Wait + Sync>(
 fn stops<R: Threads + Wait + Sync>(
     rt: &R,
     alloc: Global,
-    lying: &Lying<'_>,
+    lying: &LyingOctets<'_>,
     stop: CascadeFault,
 ) -> Result<bool, NoMemory> {
     match seen(rt, alloc, lying)? {
@@ -133,7 +133,7 @@ fn no_dump(input: u32) -> CascadeFault {
 
 #[test]
 fn what_was_sent_to_bob_is_seen_behind_his_mixer(rt: HostRuntime) -> Result<(), Fail> {
-    assert!(rt; shows(&rt, rt.alloc(), &Lying(SENT, EMPTY), SEEN)?);
+    assert!(rt; shows(&rt, rt.alloc(), &LyingOctets(SENT, EMPTY), SEEN)?);
     Ok(())
 }
 
@@ -142,10 +142,10 @@ fn the_recording_is_the_first_input_and_the_others_come_behind_it(
     rt: HostRuntime,
 ) -> Result<(), Fail> {
     let first = CascadeFault::Open { input: 1 };
-    assert!(rt; stops(&rt, rt.alloc(), &Lying(None, None), first)?);
-    assert!(rt; stops(&rt, rt.alloc(), &Lying(BROKEN, BROKEN), no_dump(1))?);
+    assert!(rt; stops(&rt, rt.alloc(), &LyingOctets(None, None), first)?);
+    assert!(rt; stops(&rt, rt.alloc(), &LyingOctets(BROKEN, BROKEN), no_dump(1))?);
     let second = CascadeFault::Open { input: 2 };
-    assert!(rt; stops(&rt, rt.alloc(), &Lying(EMPTY, None), second)?);
-    assert!(rt; stops(&rt, rt.alloc(), &Lying(EMPTY, BROKEN), no_dump(2))?);
+    assert!(rt; stops(&rt, rt.alloc(), &LyingOctets(EMPTY, None), second)?);
+    assert!(rt; stops(&rt, rt.alloc(), &LyingOctets(EMPTY, BROKEN), no_dump(2))?);
     Ok(())
 }

@@ -2,7 +2,7 @@
 use Rattle.std.proofs.Common.{◌≡◌, ◌≤◌, ℕ, Bool, true, false, ◌||◌, List, [], ◌∷◌, ◌++◌, Option, Some, None, refl, ap, sym, ◌∙◌}
 use Rattle.std.specs.List.{list_any}
 use Rattle.wire_spec.specs.Dump.{Item}
-use Rattle.file_spec.specs.declared.conf_lines.LegLine.{LegLine}
+use Rattle.file_spec.specs.declared.conference_lines.LegLine.{LegLine}
 use Rattle.rtpdump_io.specs.declared.readers.DumpReader.{DumpReader}
 use Rattle.rtpdump_io.proofs.Records.{ReadSome}
 use Rattle.check_spec.specs.declared.streams.Stream.{Stream}

@@ -7,8 +7,8 @@ ghost use Rattle.check_spec.specs.Checking.{line_at};
 ghost use Rattle.check_spec.specs.Inputs as inputs;
 ghost use Rattle.check_spec.specs.Looks.{legs_as, legs_in, legs_read, legs_unless};
 ghost use Rattle.command_spec.specs.Cascading.{odd_line};
-ghost use Rattle.file_spec.specs.Conf.{conf};
-ghost use Rattle.file_spec.specs.declared.conf_lines.Form.TheVariants.{Files};
+ghost use Rattle.file_spec.specs.Conference.{conference_from};
+ghost use Rattle.file_spec.specs.declared.conference_lines.Form.TheVariants.{Files};
 ghost use Rattle.rtt_check.specs.Reports.{as_told, dump_fault};
 
 use crate::forms::{foreign, form_of};
@@ -16,8 +16,8 @@ use crate::lines::line_at;
 use crate::refusals::{append_dump, append_shown, append_shown_at};
 use crate::reports::{Report, begin, copy_of, end};
 use crate::sentences::{STREAM_SENTENCE, form_name, input_dump_sentence, input_sentence};
-use crate::streams::{Heard, hear_leg};
-use crate::told::append_told;
+use crate::streams::{LegContent, hear_leg};
+use crate::name_texts::append_told;
 use crate::trunks::odd_line;
 use check_spec::limits::MOST_CHECKED_OCTETS;
 use check_spec::{FileForm, Stream};
@@ -180,7 +180,7 @@ fn not_heard(
 /// A recording that has this for its leg.
 fn unless_heard(
     alloc: Global,
-    heard: Heard,
+    heard: LegContent,
     leg: &LegLine,
     line: Option<&[u8]>,
 ) -> Result<Option<Report>, NoMemory>
@@ -234,19 +234,20 @@ fn input_told(
     recording_told(alloc, limit, leg, line, octets)
 }
 
-/// What is told of the IN of a leg of the conference with the octets `conf`, where it may have `limit` octets and has these. Nothing
+/// What is told of the IN of a leg of the conference with the octets `conference`, where it may have `limit` octets and has these. Nothing
 /// is where all is well.
 pub fn leg_told(
     alloc: Global,
     limit: u32,
-    conf: &[u8],
+    conference: &[u8],
     leg: &LegLine,
     octets: &[u8],
 ) -> Result<Option<Report>, NoMemory>
     requires { limit ≤ MOST_RECORDING_OCTETS }
-    ensures { IfOk result (λ found. option_map as_told found ≡ inputs.leg_told limit conf.now leg.now octets.now) }
+    ensures { IfOk result (λ found. option_map as_told found ≡ inputs.leg_told limit conference.now leg.now octets.now)
+        }
 {
-    input_told(alloc, limit, leg, line_at(conf, leg.line), octets)
+    input_told(alloc, limit, leg, line_at(conference, leg.line), octets)
 }
 
 /// The legs of a conference whose INs are looked at.
@@ -260,12 +261,12 @@ fn legs_unless(alloc: Global, odd: Option<u32>, legs: Legs) -> Legs
 }
 
 fn legs_read(alloc: Global, octets: &[u8]) -> Result<Legs, NoMemory>
-    ensures { IfOk result (λ legs. legs ≡ legs_read (conf Files octets.now)) }
+    ensures { IfOk result (λ legs. legs ≡ legs_read (conference_from Files octets.now)) }
 {
     match read_conf(alloc, octets, Form::Files) {
-        Ok(conf) => {
-            let odd = odd_line(conf.legs.as_slice());
-            Ok(legs_unless(alloc, odd, conf.legs))
+        Ok(conference) => {
+            let odd = odd_line(conference.legs.as_slice());
+            Ok(legs_unless(alloc, odd, conference.legs))
         }
         Err(ConfFault::Refused { .. }) => Ok(Legs::new(alloc)),
         Err(ConfFault::NoMemory) => Err(NoMemory),

@@ -11,14 +11,14 @@ mod refusals;
 mod reports;
 mod sentences;
 mod streams;
-mod told;
+mod name_texts;
 mod trunks;
 
 pub use inputs::{leg_told, legs_in, most_of_input};
 pub use names::{conf_kind_name, frame_kind_name};
 pub use ports::{links_in, ports_told};
 pub use reports::{Report, report_of};
-pub use told::told_character;
+pub use name_texts::told_character;
 pub use trunks::{is_on_trunk, odd_line};
 
 #[cfg(test)]

@@ -3,7 +3,7 @@ ghost use Rattle.std.specs.Prelude.{◌≡◌, ◌==◌, not, map, option_map, I
 ghost use Rattle.std.specs.Char.{is_ascii_digit};
 ghost use Rattle.std.specs.List.{list_all, list_any};
 ghost use Rattle.std.specs.Str.Lines.{lines};
-ghost use Rattle.file_spec.specs.Conf.{is_blank};
+ghost use Rattle.file_spec.specs.Conference.{is_blank};
 ghost use Rattle.file_spec.specs.Lines.{words};
 ghost use Rattle.file_spec.specs.Numbers.{is_number};
 ghost use Rattle.check_spec.specs.Checking.{line_at, word_in};
@@ -192,7 +192,7 @@ fn line_word(word: &str) -> LineWord
     match word {
         "leg" => LineWord::Leg,
         "mixer" => LineWord::Mixer,
-        "gens" => LineWord::Gens,
+        "gens" => LineWord::Generations,
         "stay" => LineWord::Stay,
         other => time_word(other),
     }

@@ -3,9 +3,9 @@ ghost use Rattle.std.specs.Prelude.{◌≡◌, ◌++◌, None, option_map, OnOk,
 ghost use Rattle.check_spec.specs.Checking as checking;
 ghost use Rattle.check_spec.specs.Ports as told;
 ghost use Rattle.check_spec.specs.Looks.{links_as, links_in, links_read};
-ghost use Rattle.conference.specs.Conferences.{conf_of};
-ghost use Rattle.file_spec.specs.Conf.{conf};
-ghost use Rattle.file_spec.specs.declared.conf_lines.Form.TheVariants as of;
+ghost use Rattle.conference.specs.Conferences.{meaning_of};
+ghost use Rattle.file_spec.specs.Conference.{conference_from};
+ghost use Rattle.file_spec.specs.declared.conference_lines.Form.TheVariants as of;
 ghost use Rattle.rtt_check.specs.Reports.{as_told, told_of};
 
 use crate::forms::{foreign, form_of};
@@ -13,11 +13,11 @@ use crate::inputs::fault_ended;
 use crate::lines::line_at;
 use crate::reports::{Report, begin};
 use crate::sentences::port_sentence;
-use crate::told::append_told;
+use crate::name_texts::append_told;
 use check_spec::limits::MOST_CHECKED_OCTETS;
 use check_spec::{FileForm, PortFault};
 use conf_text::{ConfFault, read_conf};
-use conference::Conf;
+use conference::Conference;
 use file_lines::number_from;
 use file_spec::{Form, LegLine, OperatorLine};
 use itoa::Buffer;
@@ -63,18 +63,18 @@ fn append_had(text: &mut Bytes, fault: PortFault, leg: &LegLine) -> Result<(), N
     }
 }
 
-/// A leg of the conference with the octets `conf` whose port can't be had.
+/// A leg of the conference with the octets `conference` whose port can't be had.
 fn link_told(
     alloc: Global,
-    conf: &[u8],
+    conference: &[u8],
     leg: &LegLine,
     fault: PortFault,
 ) -> Result<Report, NoMemory>
-    ensures { IfOk result (λ report. as_told report ≡ told.link_told conf.now leg.now fault) }
+    ensures { IfOk result (λ report. as_told report ≡ told.link_told conference.now leg.now fault) }
 {
     let mut text = begin(alloc, FileForm::Links)?;
     append_had(&mut text, fault, leg)?;
-    port_refused(text, fault, line_at(conf, leg.line))
+    port_refused(text, fault, line_at(conference, leg.line))
 }
 
 /// An operator whose port can't be had.
@@ -156,13 +156,13 @@ fn operator_told<P: Ports>(
 /// What is told of the ports of these legs, and of the operator's behind them.
 fn links_told<P: Ports>(
     alloc: Global,
-    conf: &[u8],
+    conference: &[u8],
     legs: &[LegLine],
     operator: &Option<OperatorLine>,
     ports: &mut P,
 ) -> Result<Option<Report>, NoMemory>
     ensures told { P.tells → IfOk result (λ found. (whole : checking.Report)
-        → told_of found whole ≡ told.links_told (P.answers ports.old) conf.now legs.now (told.operator_told (P.answers ports.old) operator.now whole)) }
+        → told_of found whole ≡ told.links_told (P.answers ports.old) conference.now legs.now (told.operator_told (P.answers ports.old) operator.now whole)) }
     ensures same { P.tells → P.answers ports.new ≡ P.answers ports.old }
 {
     let [leg, more @ ..] = legs else {
@@ -173,11 +173,11 @@ fn links_told<P: Ports>(
         Err(NoMemory) => return Err(NoMemory),
     };
     match found {
-        Some(fault) => match link_told(alloc, conf, leg, fault) {
+        Some(fault) => match link_told(alloc, conference, leg, fault) {
             Ok(report) => Ok(Some(report)),
             Err(NoMemory) => Err(NoMemory),
         },
-        None => links_told(alloc, conf, more, operator, ports),
+        None => links_told(alloc, conference, more, operator, ports),
     }
 }
 
@@ -185,32 +185,32 @@ fn links_told<P: Ports>(
 pub fn ports_told<P: Ports>(
     alloc: Global,
     octets: &[u8],
-    conf: &Conf,
+    conference: &Conference,
     ports: &mut P,
 ) -> Result<Option<Report>, NoMemory>
     ensures told { P.tells → IfOk result (λ found. (whole : checking.Report)
-        → told_of found whole ≡ told.ports_told (P.answers ports.old) octets.now (conf_of conf.now) whole) }
+        → told_of found whole ≡ told.ports_told (P.answers ports.old) octets.now (meaning_of conference.now) whole) }
     ensures same { P.tells → P.answers ports.new ≡ P.answers ports.old }
     ensures none_kept { P.kept ports.new ≡ 0 }
 {
-    let operator = &conf.service.operator;
-    let found = links_told(alloc, octets, conf.legs.as_slice(), operator, ports);
+    let operator = &conference.service.operator;
+    let found = links_told(alloc, octets, conference.legs.as_slice(), operator, ports);
     ports.let_go();
     found
 }
 
-fn links_read(alloc: Global, octets: &[u8]) -> Result<Option<Conf>, NoMemory>
-    ensures { IfOk result (λ found. option_map conf_of found ≡ links_read (conf of.Links octets.now)) }
+fn links_read(alloc: Global, octets: &[u8]) -> Result<Option<Conference>, NoMemory>
+    ensures { IfOk result (λ found. option_map meaning_of found ≡ links_read (conference_from of.Links octets.now)) }
 {
     match read_conf(alloc, octets, Form::Links) {
-        Ok(conf) => Ok(Some(conf)),
+        Ok(conference) => Ok(Some(conference)),
         Err(ConfFault::Refused { .. }) => Ok(None),
         Err(ConfFault::NoMemory) => Err(NoMemory),
     }
 }
 
-fn links_as(alloc: Global, form: FileForm, octets: &[u8]) -> Result<Option<Conf>, NoMemory>
-    ensures { IfOk result (λ found. option_map conf_of found ≡ links_as form octets.now) }
+fn links_as(alloc: Global, form: FileForm, octets: &[u8]) -> Result<Option<Conference>, NoMemory>
+    ensures { IfOk result (λ found. option_map meaning_of found ≡ links_as form octets.now) }
 {
     match form {
         FileForm::Links => links_read(alloc, octets),
@@ -219,8 +219,8 @@ fn links_as(alloc: Global, form: FileForm, octets: &[u8]) -> Result<Option<Conf>
 }
 
 /// The conference of links that has these octets, where they are one and it is whole.
-pub fn links_in(alloc: Global, octets: &[u8]) -> Result<Option<Conf>, NoMemory>
-    ensures { IfOk result (λ found. option_map conf_of found ≡ links_in octets.now) }
+pub fn links_in(alloc: Global, octets: &[u8]) -> Result<Option<Conference>, NoMemory>
+    ensures { IfOk result (λ found. option_map meaning_of found ≡ links_in octets.now) }
 {
     if let Some(_) = foreign(octets) {
         return Ok(None);

@@ -6,7 +6,7 @@ ghost use Rattle.check_spec.specs.Checking.{hex_digit, hex_octet, shown, shown_a
 ghost use Rattle.check_spec.specs.Told.{told_name};
 
 use crate::names::{conf_kind_name, frame_kind_name};
-use crate::told::append_told;
+use crate::name_texts::append_told;
 use check_spec::limits::{MOST_SHOWN_AT_BYTE, MOST_SHOWN_OCTETS};
 use command_spec::dump_kind_name;
 use file_spec::ConfKind;

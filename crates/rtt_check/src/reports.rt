@@ -17,7 +17,7 @@ use crate::refusals::{
     append_dump, append_frame, append_line, append_shown, append_shown_at, append_trunk,
 };
 use crate::sentences::{
-    CASCADE_NAME, MARK_SENTENCE, conf_sentence, dump_sentence, form_name, form_sentence,
+    CASCADE_NAME, MARK_SENTENCE, conference_sentence, dump_sentence, form_name, form_sentence,
     frame_sentence, script_sentence, trunk_sentence,
 };
 use crate::trunks::{is_on_trunk, odd_line};
@@ -25,13 +25,13 @@ use check_spec::FileForm;
 use check_spec::limits::MOST_CHECKED_OCTETS;
 use conf_text::{ConfFault, read_conf};
 use file_spec::{ConfKind, Form, LegLine};
-use frame_spec::FrameFault;
+use frame_spec::FrameRefusal;
 use itoa::Buffer;
 use rtpdump_io::{DumpFault, DumpReader, RecordingFault};
 use rtt_base::{Bytes, NoMemory};
 use rtt_io::SteadySource;
 use rtt_relay::{RelayFault, relay_frames};
-use rtt_send::{SendFault, send_script, usual_conf};
+use rtt_send::{SendFault, send_script, usual_settings};
 use script_text::{Script, read_script};
 use std::alloc::Global;
 
@@ -184,7 +184,7 @@ fn script_sent(
     requires { AreTyped script.now }
     ensures { IfOk result (λ report. as_told report ≡ checking.unless_full name.now octets.now script.now (full_line checking.any_sending script.now)) }
 {
-    match send_script(alloc, script, usual_conf(0, 0, 0)) {
+    match send_script(alloc, script, usual_settings(0, 0, 0)) {
         Ok(_) => whole(alloc, FileForm::Script, script.len() as u64, b" lines"),
         Err(SendFault::Full { line }) => {
             script_refused(alloc, name, octets, line, ConfKind::Full)
@@ -272,14 +272,14 @@ fn unless_odd(
 }
 
 /// A conference that was read.
-fn conf_whole(
+fn conference_whole(
     alloc: Global,
     form: Form,
     name: &str,
     octets: &[u8],
     legs: &[LegLine],
 ) -> Result<Report, NoMemory>
-    ensures { IfOk result (λ report. as_told report ≡ checking.conf_whole form name.now octets.now legs.now) }
+    ensures { IfOk result (λ report. as_told report ≡ checking.conference_whole form name.now octets.now legs.now) }
 {
     match form {
         Form::Files => unless_odd(alloc, name, octets, legs),
@@ -287,14 +287,14 @@ fn conf_whole(
     }
 }
 
-fn conf_report(alloc: Global, form: Form, name: &str, octets: &[u8]) -> Result<Report, NoMemory>
-    ensures { IfOk result (λ report. as_told report ≡ checking.conf_report form name.now octets.now) }
+fn conference_report(alloc: Global, form: Form, name: &str, octets: &[u8]) -> Result<Report, NoMemory>
+    ensures { IfOk result (λ report. as_told report ≡ checking.conference_report form name.now octets.now) }
 {
     match read_conf(alloc, octets, form) {
-        Ok(conf) => conf_whole(alloc, form, name, octets, conf.legs.as_slice()),
+        Ok(conference) => conference_whole(alloc, form, name, octets, conference.legs.as_slice()),
         Err(ConfFault::Refused { line, kind }) => {
             let word = word_in(alloc, line_at(octets, line))?;
-            let sentence = conf_sentence(form, word, kind);
+            let sentence = conference_sentence(form, word, kind);
             line_refused(alloc, form_in(form), name, octets, line, kind, sentence)
         }
         Err(ConfFault::NoMemory) => Err(NoMemory),
@@ -306,7 +306,7 @@ fn frame_refused(
     alloc: Global,
     name: &str,
     octets: &[u8],
-    fault: FrameFault,
+    fault: FrameRefusal,
 ) -> Result<Report, NoMemory>
     ensures { IfOk result (λ report. as_told report ≡ checking.refused form.Frames name.now (AtFrame fault.offset fault.kind)
         (checking.shown_at octets.now fault.offset) (frame_sentence fault.kind)) }
@@ -320,7 +320,7 @@ fn frame_refused(
 fn frames_report(alloc: Global, name: &str, octets: &[u8]) -> Result<Report, NoMemory>
     ensures { IfOk result (λ report. as_told report ≡ checking.frames_report name.now octets.now) }
 {
-    match relay_frames(alloc, octets, usual_conf(0, 0, 0)) {
+    match relay_frames(alloc, octets, usual_settings(0, 0, 0)) {
         Ok(_) => whole(alloc, FileForm::Frames, octets.len() as u64, b" octets"),
         Err(RelayFault::Refused(fault)) => frame_refused(alloc, name, octets, fault),
         Err(RelayFault::NoMemory) => Err(NoMemory),
@@ -334,8 +334,8 @@ fn report_as(alloc: Global, form: FileForm, name: &str, octets: &[u8]) -> Result
         FileForm::Recording => recording_report(alloc, name, octets),
         FileForm::Frames => frames_report(alloc, name, octets),
         FileForm::Script => script_report(alloc, name, octets),
-        FileForm::Recordings => conf_report(alloc, Form::Files, name, octets),
-        FileForm::Links => conf_report(alloc, Form::Links, name, octets),
+        FileForm::Recordings => conference_report(alloc, Form::Files, name, octets),
+        FileForm::Links => conference_report(alloc, Form::Links, name, octets),
         FileForm::Gzip
         | FileForm::Pcap
         | FileForm::PcapNg

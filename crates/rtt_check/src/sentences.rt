@@ -1,6 +1,6 @@
 //! What is wrong with a file, and what to do.
 ghost use Rattle.std.specs.Prelude.{◌≡◌};
-ghost use Rattle.check_spec.specs.Sentences.{clash_sentence, conf_sentence, count_sentence, dump_sentence, form_name, form_sentence, frame_sentence, input_dump_sentence, input_sentence, many_sentence, name_sentence, number_sentence, port_sentence, script_sentence, trunk_sentence, twice_sentence, word_sentence};
+ghost use Rattle.check_spec.specs.Sentences.{clash_sentence, conference_sentence, count_sentence, dump_sentence, form_name, form_sentence, frame_sentence, input_dump_sentence, input_sentence, many_sentence, name_sentence, number_sentence, port_sentence, script_sentence, trunk_sentence, twice_sentence, word_sentence};
 
 use check_spec::{FileForm, LineWord, PortFault};
 use file_spec::{ConfKind, Form};
@@ -128,7 +128,7 @@ fn word_sentence(form: Form, word: LineWord) -> &'static [u8]
             b"behind the name of a leg stands aware or unaware, in small letters",
         (Form::Files, LineWord::Mixer) =>
             b"a line begins with mixer, leg, gens, stay, tick, spacing, wait, turns, relabel, counts, lose, delay or twice, in small letters, or with # as its first octet: correct the word, and part words by spaces, not by tabs",
-        (Form::Files, LineWord::Gens) =>
+        (Form::Files, LineWord::Generations) =>
             b"a line begins with mixer, leg, gens, stay, tick, spacing, wait, turns, relabel, counts, lose, delay or twice, in small letters, or with # as its first octet: correct the word, and part words by spaces, not by tabs",
         (Form::Files, LineWord::Stay) =>
             b"a line begins with mixer, leg, gens, stay, tick, spacing, wait, turns, relabel, counts, lose, delay or twice, in small letters, or with # as its first octet: correct the word, and part words by spaces, not by tabs",
@@ -164,7 +164,7 @@ fn word_sentence(form: Form, word: LineWord) -> &'static [u8]
             b"behind the name of a leg stands aware or unaware, in small letters",
         (Form::Links, LineWord::Mixer) =>
             b"a line begins with mixer, leg, gens, tick, spacing, wait, turns, relabel, counts, gone, operator, record or follow, in small letters, or with # as its first octet: correct the word, and part words by spaces, not by tabs",
-        (Form::Links, LineWord::Gens) =>
+        (Form::Links, LineWord::Generations) =>
             b"a line begins with mixer, leg, gens, tick, spacing, wait, turns, relabel, counts, gone, operator, record or follow, in small letters, or with # as its first octet: correct the word, and part words by spaces, not by tabs",
         (Form::Links, LineWord::Stay) =>
             b"a conference of links has no lines stay, lose, delay and twice: leave the line out",
@@ -208,7 +208,7 @@ fn count_sentence(word: LineWord) -> &'static [u8]
             b"a leg has the words NAME MODE SSRC IN OUT, and two payload types behind them or none: no name has a space, and a comment needs a line of its own",
         LineWord::Mixer =>
             b"a mixer has the words SSRC SEQ STAMP, and no other: a comment needs a line of its own",
-        LineWord::Gens => b"gens has the words NAME N, and no other",
+        LineWord::Generations => b"gens has the words NAME N, and no other",
         LineWord::Stay => b"stay has the words NAME FROM UNTIL, and no other",
         LineWord::Tick =>
             b"one number stands behind the word, and nothing else: a comment needs a line of its own",
@@ -243,7 +243,7 @@ fn name_sentence(word: LineWord) -> &'static [u8]
             b"the name of a leg has 1 to 32 letters A to Z and a to z, digits, ., _ and -, and those of files have 1 to 255 octets",
         LineWord::Mixer =>
             b"no leg above has this name: correct it, or move the line below that of the leg",
-        LineWord::Gens =>
+        LineWord::Generations =>
             b"no leg above has this name: correct it, or move the line below that of the leg",
         LineWord::Stay =>
             b"no leg above has this name: correct it, or move the line below that of the leg",
@@ -285,7 +285,7 @@ fn number_sentence(form: Form, word: LineWord) -> &'static [u8]
             b"SSRC is a number up to 4294967295, in decimal digits, and T140 and RED are numbers from 96 to 127",
         (Form::Files, LineWord::Mixer) =>
             b"SSRC and STAMP are numbers up to 4294967295, and SEQ is one up to 65535, in decimal digits",
-        (Form::Files, LineWord::Gens) => b"gens is a number from 0 to 3",
+        (Form::Files, LineWord::Generations) => b"gens is a number from 0 to 3",
         (Form::Files, LineWord::Stay) =>
             b"FROM and UNTIL are numbers of milliseconds up to 14400000, and UNTIL is the greater one",
         (Form::Files, LineWord::Tick) => b"tick is a number of milliseconds from 20 to 200",
@@ -308,7 +308,7 @@ fn number_sentence(form: Form, word: LineWord) -> &'static [u8]
             b"SSRC is a number up to 4294967295, in decimal digits, IN is a port from 1 to 65535, and T140 and RED are numbers from 96 to 127",
         (Form::Links, LineWord::Mixer) =>
             b"SSRC and STAMP are numbers up to 4294967295, and SEQ is one up to 65535, in decimal digits",
-        (Form::Links, LineWord::Gens) => b"gens is a number from 0 to 3",
+        (Form::Links, LineWord::Generations) => b"gens is a number from 0 to 3",
         (Form::Links, LineWord::Stay) =>
             b"FROM and UNTIL are numbers of milliseconds up to 14400000, and UNTIL is the greater one",
         (Form::Links, LineWord::Tick) => b"tick is a number of milliseconds from 20 to 200",
@@ -337,7 +337,7 @@ fn twice_sentence(word: LineWord) -> &'static [u8]
     match word {
         LineWord::Leg => b"a leg above has this name: give each its own",
         LineWord::Mixer => b"a line above says it: leave one of them out",
-        LineWord::Gens => b"a line above says it of this leg: leave one of them out",
+        LineWord::Generations => b"a line above says it of this leg: leave one of them out",
         LineWord::Stay => b"a line above says it of this leg: leave one of them out",
         LineWord::Tick => b"a line above says it: leave one of them out",
         LineWord::Spacing => b"a line above says it: leave one of them out",
@@ -364,7 +364,7 @@ fn clash_sentence(form: Form, word: LineWord) -> &'static [u8]
         (Form::Files, LineWord::Leg) =>
             b"the SSRC is that of a leg or the mixer above, the OUT is that of a leg above, an OUT is an IN, or the two payload types are the same: give each its own",
         (Form::Files, LineWord::Mixer) => b"a leg above has this SSRC: give the mixer its own",
-        (Form::Files, LineWord::Gens) => b"a leg above has this SSRC: give the mixer its own",
+        (Form::Files, LineWord::Generations) => b"a leg above has this SSRC: give the mixer its own",
         (Form::Files, LineWord::Stay) => b"a leg above has this SSRC: give the mixer its own",
         (Form::Files, LineWord::Tick) => b"a leg above has this SSRC: give the mixer its own",
         (Form::Files, LineWord::Spacing) => b"a leg above has this SSRC: give the mixer its own",
@@ -384,7 +384,7 @@ fn clash_sentence(form: Form, word: LineWord) -> &'static [u8]
         (Form::Links, LineWord::Leg) =>
             b"the SSRC is that of a leg or the mixer above, the IN is that of a leg or the operator above, the OUT is that of a leg above, or the two payload types are the same: give each its own",
         (Form::Links, LineWord::Mixer) => b"a leg above has this SSRC: give the mixer its own",
-        (Form::Links, LineWord::Gens) => b"a leg above has this SSRC: give the mixer its own",
+        (Form::Links, LineWord::Generations) => b"a leg above has this SSRC: give the mixer its own",
         (Form::Links, LineWord::Stay) => b"a leg above has this SSRC: give the mixer its own",
         (Form::Links, LineWord::Tick) => b"a leg above has this SSRC: give the mixer its own",
         (Form::Links, LineWord::Spacing) => b"a leg above has this SSRC: give the mixer its own",
@@ -415,8 +415,8 @@ fn many_sentence(form: Form) -> &'static [u8]
 }
 
 /// What is wrong with a line of a conference of this form that begins with this word.
-pub(crate) fn conf_sentence(form: Form, word: LineWord, kind: ConfKind) -> &'static [u8]
-    ensures { result.now ≡ conf_sentence form word kind }
+pub(crate) fn conference_sentence(form: Form, word: LineWord, kind: ConfKind) -> &'static [u8]
+    ensures { result.now ≡ conference_sentence form word kind }
 {
     match kind {
         ConfKind::NotText => b"the line is not UTF-8: save the file as UTF-8",

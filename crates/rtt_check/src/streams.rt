@@ -43,7 +43,7 @@ fn stream_of(item: DumpItem, octets: &[u8]) -> Option<Stream>
 fn is_stream_of(leg: &LegLine, stream: Stream) -> bool
     ensures { result ≡ is_stream_of leg.now stream }
 {
-    stream.ssrc == leg.ssrc && (stream.pt == leg.pts.t140 || stream.pt == leg.pts.red)
+    stream.ssrc == leg.ssrc && (stream.pt == leg.payload_types.t140 || stream.pt == leg.payload_types.red)
 }
 
 /// Whether there is one, and it is.
@@ -67,7 +67,7 @@ fn or_later(first: Option<Stream>, later: Option<Stream>) -> Option<Stream>
 
 /// What a recording has for a leg.
 #[derive(Clone, Copy, Debug)]
-pub(crate) struct Heard {
+pub(crate) struct LegContent {
     /// A packet is of the leg.
     pub heard: bool,
     /// The stream of the first packet whose header can be read.
@@ -75,11 +75,11 @@ pub(crate) struct Heard {
 }
 
 /// The same with one record more, of this stream.
-fn and_stream(leg: &LegLine, so_far: Heard, stream: Option<Stream>) -> Heard
+fn and_stream(leg: &LegLine, so_far: LegContent, stream: Option<Stream>) -> LegContent
     ensures heard { result.heard ≡ (so_far.heard || option_map_or (is_stream_of leg.now) stream false) }
     ensures first { result.first ≡ or_later so_far.first stream }
 {
-    Heard {
+    LegContent {
         heard: so_far.heard || is_of_leg(leg, stream),
         first: or_later(so_far.first, stream),
     }
@@ -89,13 +89,13 @@ fn and_stream(leg: &LegLine, so_far: Heard, stream: Option<Stream>) -> Heard
 pub(crate) fn hear_leg<S: Source>(
     reader: &mut DumpReader<S>,
     leg: &LegLine,
-) -> Result<Heard, RecordingFault>
+) -> Result<LegContent, RecordingFault>
     ensures heard { S.tells → IfOk result (λ h. h.heard ≡ list_any (is_of_leg leg.now) (to_come S.left reader.old).items) }
     ensures first { S.tells → IfOk result (λ h. h.first ≡ first_stream (to_come S.left reader.old).items) }
     ensures reads { ReadsToEnd S.tells S.left S.faults S.name reader.old reader.new result }
 {
     let mut octets = Packet::new();
-    let mut so_far = Heard {
+    let mut so_far = LegContent {
         heard: false,
         first: None,
     };

@@ -371,12 +371,12 @@ const CALL_OF_LINKS: &[u8] =
 
 // What is told of the ports of that call where this one can't be had: nothing where it is none of them. None is kept.
 fn tells_port(alloc: Global, port: u16, fault: PortFault, wanted: &[u8]) -> Result<bool, NoMemory> {
-    let Some(conf) = links_in(alloc, CALL_OF_LINKS)? else {
+    let Some(conference) = links_in(alloc, CALL_OF_LINKS)? else {
         return Ok(false);
     };
     let mut ports = MemPorts::new(alloc);
     ports.refuse(port, fault)?;
-    let found = ports_told(alloc, CALL_OF_LINKS, &conf, &mut ports)?;
+    let found = ports_told(alloc, CALL_OF_LINKS, &conference, &mut ports)?;
     let kept = ports.kept();
     match found {
         Some(report) => Ok(report.text.as_slice() == wanted && !report.taken && kept == 0),

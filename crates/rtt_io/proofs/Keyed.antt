@@ -2,7 +2,7 @@
 use Rattle.std.proofs.Common.{◌≡◌, ◌≢◌, ◌⊎◌, inl, inr, ℕ, zero, suc, ◌<◌, ◌≤◌, ◌+◌, Bool, true, false, List, [], ◌∷◌, ◌++◌, length, set, get_or, refl, ap, sym, ◌∙◌, arith, Option, Some, None, cond, not, nat_lt}
 use Rattle.std.specs.List.{position, position_or_len}
 use Rattle.std.proofs.lemmas.Bool.{ltb-false}
-use Rattle.rtt_io.specs.Counts.{Rose, counted, Adds}
+use Rattle.rtt_io.specs.Counts.{Rose, counted, AddsCount}
 
 -- ---- the first element that passes
 module _ {X : Type 0} (first : List X → Option X) (p : X → Bool) (none : first [] ≡ None) (step : (x : X) (xs : List X) → first (x ∷ xs) ≡ cond (p x) (Some x) (first xs)) where
@@ -57,7 +57,7 @@ to_all_one : (a b n more : ℕ) → b ≡ counted a more → more ≡ 1 → Rose
 to_all_one a b n more e one = grind arith
 
 -- where the key has no count of its own, the count for all keys has more
-pub adds_to_all : {K : Type 0} {there : Type 0} (key : K) (more a b : ℕ) (count : K → ℕ) → (there → ⊥) → b ≡ counted a more → Adds there key more (λ k. counted a (count k)) (λ k. counted b (count k))
+pub adds_to_all : {K : Type 0} {there : Type 0} (key : K) (more a b : ℕ) (count : K → ℕ) → (there → ⊥) → b ≡ counted a more → AddsCount there key more (λ k. counted a (count k)) (λ k. counted b (count k))
 adds_to_all key more a b count none e = record {
   added = omega arith;
   rose = λ one. to_all_one a b (count key) more e one;
@@ -82,7 +82,7 @@ module _ {X K : Type 0} {at : List X → K → Option X} {old new : List X} {key
   becomes_part part = ap part c.becomes
 
   -- and what a count of it comes to
-  pub adds_to_one : {there : Type 0} (count : Option X → ℕ) (more : ℕ) → count (Some after) ≡ counted (count before) more → (o : ℕ) → Adds there key more (λ k. counted o (count (at old k))) (λ k. counted o (count (at new k)))
+  pub adds_to_one : {there : Type 0} (count : Option X → ℕ) (more : ℕ) → count (Some after) ≡ counted (count before) more → (o : ℕ) → AddsCount there key more (λ k. counted o (count (at old k))) (λ k. counted o (count (at new k)))
   adds_to_one count more e o = record {
     added = rw (c.becomes, c.was) (counted_more o _ _ more e);
     rose = λ one. rw (c.becomes, c.was) (counted_one o _ _ more e one);

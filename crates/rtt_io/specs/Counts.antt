@@ -15,7 +15,7 @@ counted count more = min last_count (count + more)
 
 -- so many more faults of a key came between these counts of all keys; where the key has a count of its own (is there), no other's
 -- changes
-pub record Adds {K : Type 0} (there : Type 0) (key : K) (more : ℕ) (old new : K → ℕ) : Type 0 where
+pub record AddsCount {K : Type 0} (there : Type 0) (key : K) (more : ℕ) (old new : K → ℕ) : Type 0 where
   pub added : new key ≡ counted (old key) more
   pub rose : more ≡ 1 → Rose (old key) (new key)
   pub calm : more ≡ 0 → (k : K) → new k ≡ old k

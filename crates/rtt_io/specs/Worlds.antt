@@ -2,7 +2,7 @@
 use Rattle.std.specs.Prelude.{ℕ, List, Option, IsSome}
 use Rattle.rtt_io.specs.declared.mem_worlds.MemWorld.{MemWorld}
 use Rattle.rtt_io.specs.declared.faults.Faults.{Faults}
-use Rattle.rtt_io.specs.Counts.{Adds}
+use Rattle.rtt_io.specs.Counts.{AddsCount}
 use Rattle.rtt_io.specs.Names.{Same, SameBut, Replaces}
 use Rattle.rtt_io.specs.Files.{octets_of, own_of, objects_of}
 
@@ -27,6 +27,6 @@ pub record Stores (name octets : List ℕ) (old new : MemWorld) : Type 0 where
 
 -- so many more faults of the name came
 pub record Counts (name : List ℕ) (more : Faults) (old new : MemWorld) : Type 0 where
-  pub own : Adds (IsSome (octets_held old name)) name more.own (own_counted old) (own_counted new)
-  pub objects : Adds (IsSome (octets_held old name)) name more.objects (objects_counted old) (objects_counted new)
+  pub own : AddsCount (IsSome (octets_held old name)) name more.own (own_counted old) (own_counted new)
+  pub objects : AddsCount (IsSome (octets_held old name)) name more.objects (objects_counted old) (objects_counted new)
   pub same_contents : Same octets_held old new

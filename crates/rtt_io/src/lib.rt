@@ -27,7 +27,7 @@ pub use new_files::NewFile;
 pub use real::{FileSink, FileSource, RealWorld, StandardError, StandardOutput, StreamSink};
 pub use sinks::Sink;
 pub use sources::Source;
-pub use streams::Stored;
+pub use streams::StoredWriter;
 pub use whole::{ReadFault, read_whole};
 pub use worlds::World;
 

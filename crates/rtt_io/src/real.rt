@@ -3,7 +3,7 @@ ghost use Rattle.std.specs.Prelude.{◌≡◌, ℕ, ◌≤◌, List, [], None, O
 ghost use Rattle.rtt_io.specs.Counts.{Rose};
 
 use crate::new_files::{FileId, NewFile, file_to_write, id_in, id_under};
-use crate::streams::{Stored, read_once, write_stored, write_whole};
+use crate::streams::{StoredWriter, read_once, write_stored, write_whole};
 use crate::{Sink, Source, World};
 use rtt_base::{Failed, Path};
 use std::alloc::Global;
@@ -79,7 +79,7 @@ pub struct FileSink<F = File> {
     pub(crate) faults: u64,
 }
 
-impl<F: Stored> Sink for FileSink<F> {
+impl<F: StoredWriter> Sink for FileSink<F> {
     ghost use Rattle.std.specs.Prelude.{IsSome, unwrap_or};
 
     ghost tells = { (f : F) → IsSome (F.contents f) };
@@ -103,7 +103,7 @@ impl<F: Stored> Sink for FileSink<F> {
     }
 }
 
-impl<F: Stored> FileSink<F> {
+impl<F: StoredWriter> FileSink<F> {
     /// A sink over this writer, which did not fail yet.
     pub fn new(file: F, name: Path) -> FileSink<F>
         ensures holds { ⟦<FileSink<F> as Sink>⟧.took result ≡ unwrap_or (F.contents file) [] }

@@ -41,12 +41,12 @@ pub(crate) fn write_whole<W: Write>(to: &mut W, octets: &[u8]) -> Result<(), Fai
 }
 
 /// A writer whose octets are stored behind it.
-pub trait Stored: Write {
+pub trait StoredWriter: Write {
     /// Waits until what was written is stored. What stores nothing, as a pipe, answers `Ok`.
     fn store(&self) -> Result<(), Failed>;
 }
 
-impl Stored for File {
+impl StoredWriter for File {
     fn store(&self) -> Result<(), Failed> {
         match self.sync_data() {
             Ok(()) => Ok(()),
@@ -57,14 +57,14 @@ impl Stored for File {
     }
 }
 
-impl Stored for Vec<u8> {
+impl StoredWriter for Vec<u8> {
     fn store(&self) -> Result<(), Failed> {
         Ok(())
     }
 }
 
 /// Writes all octets, and waits until they are stored.
-pub(crate) fn write_stored<W: Stored>(to: &mut W, octets: &[u8]) -> Result<(), Failed>
+pub(crate) fn write_stored<W: StoredWriter>(to: &mut W, octets: &[u8]) -> Result<(), Failed>
     ensures whole { OnOk result (Appends (W.contents to.old) (W.contents to.new) octets.now) }
     ensures partly { OnErr result (AppendsFront (W.contents to.old) (W.contents to.new) octets.now) }
 {

@@ -1,6 +1,6 @@
 use crate::{
     FailingCall, FailingWrite, FileSink, FileSource, MemSink, MemSource, MemWorld, ReadFault,
-    RealWorld, Sink, Source, SteadySource, Stored, StreamSink, World, read_whole,
+    RealWorld, Sink, Source, SteadySource, StoredWriter, StreamSink, World, read_whole,
 };
 use rtt_base::{Bytes, Failed, NoMemory, Path};
 use std::alloc::Global;
@@ -276,7 +276,7 @@ impl Write for NeverStored {
     }
 }
 
-impl Stored for NeverStored {
+impl StoredWriter for NeverStored {
     fn store(&self) -> Result<(), Failed> {
         Err(Failed)
     }

@@ -3,14 +3,14 @@ use Rattle.std.proofs.Common.{◌≡◌, [], ◌∷◌, refl, codes}
 use Rattle.std.specs.Str.{chars, is_utf8}
 use Rattle.std.specs.Char.{encode_utf8}
 use Rattle.std.specs.Fmt.{digits}
-use Rattle.rtt_base.specs.declared.text_packets.Pts.{Pts}
+use Rattle.rtt_base.specs.declared.text_packets.PayloadTypes.{PayloadTypes}
 use Rattle.wire_spec.specs.Rtp.{rtp, rtp_of_header}
 use Rattle.wire_spec.specs.Red.{red, headers_at, texts_at}
 use Rattle.wire_spec.specs.Text.{text_of, text_of_short}
 use Rattle.wire_spec.specs.Dump.{Item, Whole, Rtcp, Cut, Large}
 use Rattle.command_spec.specs.Listing.{packet_line, list_view}
 
-abbrev usual : Pts
+abbrev usual : PayloadTypes
 usual = record { t140 = 98; red = 100 }
 
 -- a packet of text/red with the letter A behind two blocks that have no text

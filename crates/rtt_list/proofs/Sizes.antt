@@ -53,8 +53,8 @@ one_length v left before h line more is l e at so_far =
 
 -- the line of a packet, in front of the lengths of its blocks
 pub packet_is : (at : ℕ) (p : Packet) (lengths line : List ℕ) → lengths ≡ flat_map block_length (blocks_of p) ++ codes "\n"
-    → line ≡ head_line (record { at = at; mark = p.mark; seq = p.seq; stamp = p.stamp; ssrc = p.ssrc; source = p.source }) ++ lengths → line ≡ packet_line at p
+    → line ≡ head_line (record { at = at; marker_bit = p.marker_bit; seq = p.seq; timestamp = p.timestamp; ssrc = p.ssrc; source = p.source }) ++ lengths → line ≡ packet_line at p
 unfolding packet_line
 packet_is at p lengths line e h =
-    let head : Head = record { at = at; mark = p.mark; seq = p.seq; stamp = p.stamp; ssrc = p.ssrc; source = p.source } in
+    let head : Head = record { at = at; marker_bit = p.marker_bit; seq = p.seq; timestamp = p.timestamp; ssrc = p.ssrc; source = p.source } in
     h ∙ (ap (λ (o : List ℕ). head_line head ++ o) e ∙ simp append_assoc (cc))

@@ -5,7 +5,7 @@ use Rattle.rtt_list.specs.declared.records.Head.{Head}
 
 -- what stands before the lengths of the blocks
 abbrev pub head_line : Head → List ℕ
-head_line h = decimal h.at ++ codes " " ++ decimal h.seq ++ codes " mark " ++ bit h.mark
-    ++ codes " stamp " ++ decimal h.stamp
+head_line h = decimal h.at ++ codes " " ++ decimal h.seq ++ codes " mark " ++ bit h.marker_bit
+    ++ codes " stamp " ++ decimal h.timestamp
     ++ codes " ssrc " ++ decimal h.ssrc ++ codes " source " ++ decimal h.source
     ++ codes " texts"

@@ -22,13 +22,13 @@ fn write_text(text: &[u8], octets: &mut [u8], end: usize) -> usize
 
 /// A line of at most 256 octets (126 are the most that one has), written from its end to its front, as the digits of a number come.
 #[derive(Drop)]
-pub(crate) struct Line {
+pub(crate) struct PrintLine {
     octets: [u8; 256],
     // where what was written starts
     start: usize,
 }
 
-impl Model for Line {
+impl Model for PrintLine {
     ghost use Rattle.std.specs.Prelude.{ℕ, List, ◌≤◌, drop};
 
     ghost Value = { List ℕ };
@@ -38,11 +38,11 @@ impl Model for Line {
     ghost invariant = { λ l. l.start ≤ 256 };
 }
 
-impl Line {
-    pub(crate) fn new() -> Line
+impl PrintLine {
+    pub(crate) fn new() -> PrintLine
         ensures { result ≡ [] }
     {
-        Line {
+        PrintLine {
             octets: [0; 256],
             start: 256,
         }

@@ -7,22 +7,22 @@ ghost use Rattle.command_spec.specs.Listing.{bit, block_length, packet_line, ref
 ghost use Rattle.rtt_list.specs.Lines.{head_line};
 ghost use Rattle.rtpdump_io.specs.Answers.{record_of, is_end};
 
-use crate::lines::Line;
+use crate::lines::PrintLine;
 use command_spec::fault_name;
 use red_blocks::{TextView, read_text, view_text};
 use rtpdump_io::DumpItem;
-use rtt_base::{Pts, TextBlock, TextPacket};
+use rtt_base::{PayloadTypes, TextBlock, TextPacket};
 use wire_spec::TextFault;
 
-fn digit_of(mark: bool) -> &'static [u8]
-    ensures digit { result.now ≡ bit mark }
+fn digit_of(marker_bit: bool) -> &'static [u8]
+    ensures digit { result.now ≡ bit marker_bit }
     ensures short { length result.now ≡ 1 }
 {
-    if mark { b"1" } else { b"0" }
+    if marker_bit { b"1" } else { b"0" }
 }
 
 /// Writes the lengths of the blocks in front of the line, each behind a space.
-fn write_lengths(line: &mut Line, blocks: &[TextBlock])
+fn write_lengths(line: &mut PrintLine, blocks: &[TextBlock])
     requires room { length line.old ≤ 100 }
     requires few { length blocks.now ≤ 9 }
     ensures lengths { line.new ≡ flat_map block_length blocks.now ++ line.old }
@@ -35,7 +35,7 @@ fn write_lengths(line: &mut Line, blocks: &[TextBlock])
 }
 
 /// Writes the lengths of the blocks of a packet that is looked at where it lies, as `write_lengths` does.
-fn write_sizes(line: &mut Line, view: &TextView<'_>)
+fn write_sizes(line: &mut PrintLine, view: &TextView<'_>)
     requires room { length line.old ≤ 100 }
     requires view { IsView view.now }
     ensures lengths { line.new ≡ flat_map block_length (blocks_in view.now) ++ line.old }
@@ -57,16 +57,16 @@ fn write_sizes(line: &mut Line, view: &TextView<'_>)
 struct Head {
     /// When it came.
     at: u32,
-    mark: bool,
+    marker_bit: bool,
     seq: u16,
-    stamp: u32,
+    timestamp: u32,
     ssrc: u32,
     source: u32,
 }
 
 /// Writes a packet's numbers in front of the lengths of its blocks.
 #[inline(always)]
-fn write_head(line: &mut Line, head: &Head)
+fn write_head(line: &mut PrintLine, head: &Head)
     requires { length line.old ≤ 100 }
     ensures { line.new ≡ head_line head.now ++ line.old }
 {
@@ -75,9 +75,9 @@ fn write_head(line: &mut Line, head: &Head)
     line.prepend(b" source ");
     line.prepend_number(head.ssrc);
     line.prepend(b" ssrc ");
-    line.prepend_number(head.stamp);
+    line.prepend_number(head.timestamp);
     line.prepend(b" stamp ");
-    line.prepend(digit_of(head.mark));
+    line.prepend(digit_of(head.marker_bit));
     line.prepend(b" mark ");
     line.prepend_number(u32::from(head.seq));
     line.prepend(b" ");
@@ -85,7 +85,7 @@ fn write_head(line: &mut Line, head: &Head)
 }
 
 /// Writes the line of a packet, which came at `at`.
-fn write_packet(line: &mut Line, at: u32, packet: &TextPacket)
+fn write_packet(line: &mut PrintLine, at: u32, packet: &TextPacket)
     requires { packet.now.blocks ≡ blocks_of (packet_of packet.now) }
     ensures { line.new ≡ packet_line at (packet_of packet.now) }
 {
@@ -94,9 +94,9 @@ fn write_packet(line: &mut Line, at: u32, packet: &TextPacket)
     write_lengths(line, packet.blocks.as_slice());
     let head = Head {
         at,
-        mark: packet.mark,
+        marker_bit: packet.marker_bit,
         seq: packet.seq,
-        stamp: packet.stamp,
+        timestamp: packet.timestamp,
         ssrc: packet.ssrc,
         source: packet.source,
     };
@@ -104,7 +104,7 @@ fn write_packet(line: &mut Line, at: u32, packet: &TextPacket)
 }
 
 /// Writes the line of a packet that is looked at where it lies, as `write_packet` does.
-fn write_view(line: &mut Line, at: u32, view: &TextView<'_>)
+fn write_view(line: &mut PrintLine, at: u32, view: &TextView<'_>)
     requires { IsView view.now }
     ensures { line.new ≡ packet_line at (packet_in view.now) }
 {
@@ -113,9 +113,9 @@ fn write_view(line: &mut Line, at: u32, view: &TextView<'_>)
     write_sizes(line, view);
     let head = Head {
         at,
-        mark: view.marker_bit,
+        marker_bit: view.marker_bit,
         seq: view.seq,
-        stamp: view.stamp,
+        timestamp: view.timestamp,
         ssrc: view.ssrc,
         source: view.source,
     };
@@ -123,7 +123,7 @@ fn write_view(line: &mut Line, at: u32, view: &TextView<'_>)
 }
 
 /// Writes the line of a packet that is refused.
-fn write_refused(line: &mut Line, at: u32, fault: TextFault)
+fn write_refused(line: &mut PrintLine, at: u32, fault: TextFault)
     ensures { line.new ≡ refused_line at fault }
 {
     line.clear();
@@ -134,7 +134,7 @@ fn write_refused(line: &mut Line, at: u32, fault: TextFault)
 }
 
 /// Writes the line of a record that is no whole packet: its time, and what it is with LF behind it.
-fn write_word(line: &mut Line, at: u32, word: &[u8])
+fn write_word(line: &mut PrintLine, at: u32, word: &[u8])
     requires { length word.now ≤ 100 }
     ensures { line.new ≡ decimal at ++ word.now }
 {
@@ -146,19 +146,19 @@ fn write_word(line: &mut Line, at: u32, word: &[u8])
 /// Makes the lines of records, one after another, over one packet and one line.
 #[derive(Drop)]
 pub(crate) struct RecordLines {
-    pts: Pts,
+    payload_types: PayloadTypes,
     packet: TextPacket,
-    line: Line,
+    line: PrintLine,
 }
 
 impl RecordLines {
-    pub(crate) fn new(pts: Pts) -> RecordLines
-        ensures { result.pts ≡ pts }
+    pub(crate) fn new(payload_types: PayloadTypes) -> RecordLines
+        ensures { result.payload_types ≡ payload_types }
     {
         RecordLines {
-            pts,
+            payload_types,
             packet: TextPacket::default(),
-            line: Line::new(),
+            line: PrintLine::new(),
         }
     }
 
@@ -173,10 +173,10 @@ impl RecordLines {
     /// way of the others.
     #[inline(never)]
     fn make_read(&mut self, at: u32, octets: &[u8])
-        ensures line { self.new.line ≡ sent_line at (text_of octets.now None self.old.pts) }
-        ensures same_pts { self.new.pts ≡ self.old.pts }
+        ensures line { self.new.line ≡ sent_line at (text_of octets.now None self.old.payload_types) }
+        ensures same_payload_types { self.new.payload_types ≡ self.old.payload_types }
     {
-        match read_text(octets, None, self.pts, &mut self.packet) {
+        match read_text(octets, None, self.payload_types, &mut self.packet) {
             Ok(()) => write_packet(&mut self.line, at, &self.packet),
             Err(fault) => write_refused(&mut self.line, at, fault),
         }
@@ -185,11 +185,11 @@ impl RecordLines {
     /// Makes the line of a record, whose octets are these where it is a packet.
     pub(crate) fn make(&mut self, item: DumpItem, octets: &[u8])
         requires { is_end item ≡ Bool.false }
-        ensures line { self.new.line ≡ record_line self.old.pts (record_of item octets.now) }
-        ensures same_pts { self.new.pts ≡ self.old.pts }
+        ensures line { self.new.line ≡ record_line self.old.payload_types (record_of item octets.now) }
+        ensures same_payload_types { self.new.payload_types ≡ self.old.payload_types }
     {
         match item {
-            DumpItem::Packet { at } => match view_text(octets, None, self.pts) {
+            DumpItem::Packet { at } => match view_text(octets, None, self.payload_types) {
                 Some(view) => write_view(&mut self.line, at, &view),
                 None => self.make_read(at, octets),
             },

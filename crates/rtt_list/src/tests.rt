@@ -1,6 +1,6 @@
 use crate::list_records;
 use rtpdump_io::{DumpFault, DumpReader, RecordingFault};
-use rtt_base::{Bytes, NoMemory, Path, Pts};
+use rtt_base::{Bytes, NoMemory, Path, PayloadTypes};
 use rtt_io::{MemSource, Source, SteadySource};
 use std::alloc::Global;
 use std::process::Abort;
@@ -10,7 +10,7 @@ use wire_spec::DumpKind;
 // The line and the head of a recording.
 const OPENING: [u8; 44] = *b"#!rtpplay1.0 127.0.0.1/5004\n\0\0\0\0\0\0\0\0\x7F\0\0\x01\x13\x8C\0\0";
 
-const USUAL: Pts = Pts { t140: 98, red: 100 };
+const USUAL: PayloadTypes = PayloadTypes { t140: 98, red: 100 };
 
 // A packet of text/red with the letter A, behind eight redundant blocks without text.
 const NINE_BLOCKS: [u8; 46] = *b"\x80\x64\0\0\0\0\0\0\0\0\x03\xE9\
@@ -44,9 +44,9 @@ fn append_part(recording: &mut Bytes, at: u32, size: u16, part: &[u8]) -> Result
 }
 
 // Expects that these lines are listed of a recording.
-fn expect_lines(rt: &impl Abort, alloc: Global, recording: Bytes, pts: Pts, lines: &str) {
+fn expect_lines(rt: &impl Abort, alloc: Global, recording: Bytes, payload_types: PayloadTypes, lines: &str) {
     let mut reader = DumpReader::new(SteadySource::new(recording));
-    match list_records(alloc, &mut reader, pts) {
+    match list_records(alloc, &mut reader, payload_types) {
         Ok(listed) => assert!(rt; listed.as_slice() == lines.as_bytes()),
         Err(_) => panic!(rt; "the recording is not listed"),
     }
@@ -173,7 +173,7 @@ fn other_payload_types_are_listed(rt: HostRuntime) -> Result<(), Fail> {
     let mut recording = opening(rt.alloc())?;
     append_packet(&mut recording, 0, b"\x80\x60\0\0\0\0\0\0\0\0\x03\xE9A")?;
     append_packet(&mut recording, 0, b"\x80\x62\0\0\0\0\0\0\0\0\x03\xE9A")?;
-    let types = Pts { t140: 96, red: 97 };
+    let types = PayloadTypes { t140: 96, red: 97 };
     let lines =
         "0 0 mark 0 stamp 0 ssrc 1001 source 1001 texts 1\n0 refused WrongType\n-- records 2\n";
     expect_lines(&rt, rt.alloc(), recording, types, lines);

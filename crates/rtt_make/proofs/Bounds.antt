@@ -9,7 +9,7 @@ use Rattle.file_spec.specs.Script.{ScriptLine}
 use Rattle.command_spec.specs.Generated.{Generated, generated}
 use Rattle.command_spec.specs.Scripts.{Sending, full_line, text_of_lines}
 use Rattle.command_spec.proofs.Generating.{IsMade, IsSaid, generated_is}
-use Rattle.rtt_make.specs.declared.made.Made.{Made}
+use Rattle.rtt_make.specs.declared.conferences.Made.{Made}
 use Rattle.rtt_make.proofs.NeverFull.{never_full}
 use Rattle.rtt_make.specs.Mades.{made_of, IsGenerated}
 

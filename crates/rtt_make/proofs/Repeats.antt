@@ -5,10 +5,10 @@ use Rattle.std.specs.List.{list_any}
 use Rattle.std.proofs.lemmas.Bool.{and_parts, cases_Bool, eqb-true, eq-eqb, or_parts, or_cases}
 use Rattle.std.proofs.lemmas.List.{append-nil}
 use Rattle.std.proofs.lemmas.List.Elements.{filter-append}
-use Rattle.file_spec.specs.declared.conf_lines.PlanLine.{PlanLine}
-use Rattle.file_spec.specs.declared.conf_lines.What.{What}
-use Rattle.file_spec.specs.declared.conf_lines.What.TheVariants.{Lose, Delay, Twice}
-use Rattle.file_spec.specs.Conf.{is_same_packet, is_same_word}
+use Rattle.file_spec.specs.declared.conference_lines.PlanLine.{PlanLine}
+use Rattle.file_spec.specs.declared.conference_lines.What.{What}
+use Rattle.file_spec.specs.declared.conference_lines.What.TheVariants.{Lose, Delay, Twice}
+use Rattle.file_spec.specs.Conference.{is_same_packet, is_same_word}
 use Rattle.command_spec.specs.Generated.{without_repeats}
 
 -- ---- what is the same as the same is the same

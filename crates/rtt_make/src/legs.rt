@@ -4,8 +4,8 @@ ghost use Rattle.std.specs.List.{range_with_len};
 ghost use Rattle.command_spec.specs.Generated.{leg};
 
 use conference::{LegLine, Legs, Stay, name_of};
-use file_spec::limits::{USUAL_GENS, USUAL_RED, USUAL_T140};
-use rtt_base::{Name, NoMemory, Path, Pts};
+use file_spec::limits::{USUAL_GENERATIONS, USUAL_RED, USUAL_T140};
+use rtt_base::{Name, NoMemory, Path, PayloadTypes};
 use std::alloc::Global;
 
 /// The SSRC of the first leg: each later one has the next.
@@ -65,11 +65,11 @@ fn leg_of(alloc: Global, number: u32) -> Result<LegLine, NoMemory>
         ssrc: leg_ssrc(number),
         input,
         output,
-        pts: Pts {
+        payload_types: PayloadTypes {
             t140: USUAL_T140,
             red: USUAL_RED,
         },
-        gens: USUAL_GENS,
+        generations: USUAL_GENERATIONS,
         stay: Stay {
             from: 0,
             until: None,

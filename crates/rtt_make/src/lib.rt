@@ -4,16 +4,16 @@
 mod counts;
 mod draws;
 mod legs;
-mod made;
+mod conferences;
 mod plans;
 mod scripts;
-mod sending;
+mod senders;
 mod summaries;
 mod texts;
 
-pub use made::{Made, Scripts, Seqs, make_conf};
-pub use sending::recordings_of;
-pub use summaries::{Heard, summary_of};
+pub use conferences::{Made, Scripts, Seqs, make_conf};
+pub use senders::recordings_of;
+pub use summaries::{Totals, summary_of};
 
 #[cfg(test)]
 mod tests;

@@ -1,7 +1,7 @@
 //! What becomes of packets.
 ghost use Rattle.std.specs.Prelude.{◌≡◌, ◌<◌, ◌≤◌, ◌++◌, ◌∷◌, [], IfOk, OnOk, if◌then◌else◌};
 ghost use Rattle.std.specs.List.{list_any};
-ghost use Rattle.file_spec.specs.Conf.{is_same_packet};
+ghost use Rattle.file_spec.specs.Conference.{is_same_packet};
 ghost use Rattle.command_spec.specs.Draws.{times};
 ghost use Rattle.command_spec.specs.Generated.{plan_line, what, without_repeats};
 

@@ -11,10 +11,10 @@ use std::alloc::Global;
 
 /// How many packets came to the terminals, how many of them were used, and how many markers are heard there.
 #[derive(Clone, Copy, Debug, PartialEq, Eq)]
-pub struct Heard {
+pub struct Totals {
     pub packets: u64,
     pub used: u64,
-    pub marks: u64,
+    pub markers: u64,
 }
 
 /// Appends a number and what stands before it.
@@ -28,12 +28,12 @@ fn append_number(line: &mut Bytes, before: &[u8], number: u64) -> Result<(), NoM
 
 /// The line that is printed of the conference of this number, where that was heard of it.
 #[tactic(auto, unfolding(command_spec::specs::Making::summary))]
-pub fn summary_of(alloc: Global, number: u32, made: &Made, heard: Heard) -> Result<Bytes, NoMemory>
+pub fn summary_of(alloc: Global, number: u32, made: &Made, heard: Totals) -> Result<Bytes, NoMemory>
     requires { IsGenerated made.now }
     ensures { IfOk result (λ line. line
-        ≡ summary number (made_of made.now) (record { packets = heard.packets; used = heard.used; marks = heard.marks })) }
+        ≡ summary number (made_of made.now) (record { packets = heard.packets; used = heard.used; markers = heard.markers })) }
 {
-    let legs = made.conf.legs.len() as u64;
+    let legs = made.conference.legs.len() as u64;
     let lines = lines_in(made.scripts.as_slice());
     let typed = octets_in(made.scripts.as_slice());
     let mut line = Bytes::new(alloc);
@@ -43,7 +43,7 @@ pub fn summary_of(alloc: Global, number: u32, made: &Made, heard: Heard) -> Resu
     append_number(&mut line, b" typed ", typed)?;
     append_number(&mut line, b" packets ", heard.packets)?;
     append_number(&mut line, b" used ", heard.used)?;
-    append_number(&mut line, b" marks ", heard.marks)?;
+    append_number(&mut line, b" marks ", heard.markers)?;
     line.append(b"\n")?;
     Ok(line)
 }

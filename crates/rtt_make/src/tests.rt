@@ -1,6 +1,6 @@
 //! Conferences that another program made from the same numbers.
 use crate::draws::Draws;
-use crate::{Heard, Made, make_conf, recordings_of, summary_of};
+use crate::{Totals, Made, make_conf, recordings_of, summary_of};
 use conference::{PlanLine, What};
 use std::test::Fail;
 
@@ -27,7 +27,7 @@ fn types(made: &Made, leg: usize, line: usize, at: u32, text: &[u8]) -> bool {
 
 /// Whether the plan has this line at this place.
 fn plans(made: &Made, place: usize, wanted: PlanLine) -> bool {
-    match made.conf.plan.as_slice().get(place) {
+    match made.conference.plan.as_slice().get(place) {
         Some(line) => *line == wanted,
         None => false,
     }
@@ -35,7 +35,7 @@ fn plans(made: &Made, place: usize, wanted: PlanLine) -> bool {
 
 /// Whether the leg has this name and these paths.
 fn is_named(made: &Made, leg: usize, name: &str, input: &str, output: &str) -> bool {
-    match made.conf.legs.as_slice().get(leg) {
+    match made.conference.legs.as_slice().get(leg) {
         Some(line) => {
             line.name.as_str() == name
                 && line.input.as_str() == input
@@ -48,7 +48,7 @@ fn is_named(made: &Made, leg: usize, name: &str, input: &str, output: &str) -> b
 /// Whether the leg has this SSRC, is aware or not, and begins with this sequence number.
 fn sends(made: &Made, leg: usize, ssrc: u32, aware: bool, first: u16) -> bool {
     match (
-        made.conf.legs.as_slice().get(leg),
+        made.conference.legs.as_slice().get(leg),
         made.seqs.as_slice().get(leg),
     ) {
         (Some(line), Some(seq)) => line.ssrc == ssrc && line.aware == aware && *seq == first,
@@ -59,7 +59,7 @@ fn sends(made: &Made, leg: usize, ssrc: u32, aware: bool, first: u16) -> bool {
 #[test]
 fn the_first_conference_has_ten_legs(rt: HostRuntime) -> Result<(), Fail> {
     let made = make_conf(rt.alloc(), 1)?;
-    assert_eq!(rt; made.conf.legs.len(), 10);
+    assert_eq!(rt; made.conference.legs.len(), 10);
     assert!(rt; is_named(&made, 0, "L0", "0.in", "0.out"));
     assert!(rt; is_named(&made, 9, "L9", "9.in", "9.out"));
     assert!(rt; sends(&made, 0, 1000, true, 5758));
@@ -83,7 +83,7 @@ fn scripts_have_forty_lines(rt: HostRuntime) -> Result<(), Fail> {
 #[test]
 fn repeated_plan_lines_are_left_out(rt: HostRuntime) -> Result<(), Fail> {
     let made = make_conf(rt.alloc(), 2)?;
-    assert_eq!(rt; made.conf.plan.len(), 197);
+    assert_eq!(rt; made.conference.plan.len(), 197);
     let twice = PlanLine {
         terminal: 0,
         packet: 302,
@@ -108,10 +108,10 @@ fn repeated_plan_lines_are_left_out(rt: HostRuntime) -> Result<(), Fail> {
 #[test]
 fn conferences_have_two_to_sixteen_legs(rt: HostRuntime) -> Result<(), Fail> {
     let fewest = make_conf(rt.alloc(), 13)?;
-    assert_eq!(rt; fewest.conf.legs.len(), 2);
+    assert_eq!(rt; fewest.conference.legs.len(), 2);
     assert!(rt; sends(&fewest, 1, 1001, true, 4750));
     let most = make_conf(rt.alloc(), 39)?;
-    assert_eq!(rt; most.conf.legs.len(), 16);
+    assert_eq!(rt; most.conference.legs.len(), 16);
     assert!(rt; is_named(&most, 15, "L15", "15.in", "15.out"));
     assert!(rt; sends(&most, 15, 1015, false, 15_395));
     Ok(())
@@ -120,10 +120,10 @@ fn conferences_have_two_to_sixteen_legs(rt: HostRuntime) -> Result<(), Fail> {
 #[test]
 fn the_line_tells_how_much_was_typed_and_heard(rt: HostRuntime) -> Result<(), Fail> {
     let made = make_conf(rt.alloc(), 1)?;
-    let heard = Heard {
+    let heard = Totals {
         packets: 3412,
         used: 3390,
-        marks: 7,
+        markers: 7,
     };
     let line = summary_of(rt.alloc(), 1, &made, heard)?;
     assert_eq!(rt;

@@ -1,11 +1,11 @@
 //! What the conference of a live call says of its links, of an operator and of recordings, before the call begins.
 use conf_text::{ConfFault, Form, read_conf};
-use conference::Conf;
-use file_spec::limits::MOST_CONF_OCTETS;
+use conference::Conference;
+use file_spec::limits::MOST_CONFERENCE_OCTETS;
 use journal_io::Journals;
 use link_io::Links;
 use operated_links::{Desk, Operator, RealPort};
-use recorded_links::{BeginFault, Recorded, start_of};
+use recorded_links::{BeginFault, RecordedLinks, start_of};
 use rtt_base::NoMemory;
 use rtt_io::{ReadFault, World, read_whole};
 use rtt_words::{Command, WordFault, command_of};
@@ -26,7 +26,7 @@ pub(crate) struct CallService<L: Links, J: Journals, R> {
     pub(crate) gone: Option<u32>,
     pub(crate) operator: Operator<RealPort>,
     /// Its links, which are recorded where its conference says so.
-    pub(crate) links: Recorded<L, J, R>,
+    pub(crate) links: RecordedLinks<L, J, R>,
 }
 
 /// Why no command is begun.
@@ -48,8 +48,8 @@ impl From<NoMemory> for CallFault {
 /// The name of the conference of the live call that these words ask for, where they do.
 fn name_of(alloc: Global, words: &[String]) -> Result<Option<&str>, NoMemory> {
     match command_of(alloc, words) {
-        Ok(Command::Live(call)) => Ok(Some(call.conf)),
-        Ok(Command::Watch(call)) => Ok(Some(call.conf)),
+        Ok(Command::Live(call)) => Ok(Some(call.conference)),
+        Ok(Command::Watch(call)) => Ok(Some(call.conference)),
         Err(WordFault::NoMemory) => Err(NoMemory),
         _ => Ok(None),
     }
@@ -64,15 +64,15 @@ fn is_ordinary<R: Files<File = File>>(rt: &R, name: &str) -> bool {
 }
 
 /// The conference of links under this name, where one can be read.
-fn conf_under<W: World>(
+fn conference_under<W: World>(
     alloc: Global,
     name: &str,
     world: &mut W,
-) -> Result<Option<Conf>, NoMemory> {
+) -> Result<Option<Conference>, NoMemory> {
     let Ok(mut source) = world.open_source(name) else {
         return Ok(None);
     };
-    let read = read_whole(alloc, &mut source, MOST_CONF_OCTETS);
+    let read = read_whole(alloc, &mut source, MOST_CONFERENCE_OCTETS);
     world.done_src(source);
     let octets = match read {
         Ok(octets) => octets,
@@ -80,34 +80,34 @@ fn conf_under<W: World>(
         Err(ReadFault::NoMemory) => return Err(NoMemory),
     };
     match read_conf(alloc, octets.as_slice(), Form::Links) {
-        Ok(conf) => Ok(Some(conf)),
+        Ok(conference) => Ok(Some(conference)),
         Err(ConfFault::NoMemory) => Err(NoMemory),
         Err(_) => Ok(None),
     }
 }
 
 /// The operator of the call of this conference, at the port that it says. Where the system does not give the port, nobody can be heard.
-fn operator_of<R: Net>(rt: &R, alloc: Global, conf: Conf) -> Result<Operator<RealPort>, NoMemory> {
-    let port = match &conf.service.operator {
+fn operator_of<R: Net>(rt: &R, alloc: Global, conference: Conference) -> Result<Operator<RealPort>, NoMemory> {
+    let port = match &conference.service.operator {
         Some(operator) => operator.port,
         None => return Ok(Operator::Nobody),
     };
     let Some(port) = RealPort::new(rt, port) else {
         return Ok(Operator::Unheard);
     };
-    let desk = Desk::new(alloc, conf, port)?;
+    let desk = Desk::new(alloc, conference, port)?;
     Ok(Operator::At(desk))
 }
 
 /// The conference of the live call that these words ask for, where they do, and it can be read from an ordinary file.
-fn conf_of_call<R: Files<File = File>, W: World>(
+fn conference_of_call<R: Files<File = File>, W: World>(
     rt: &R,
     alloc: Global,
     words: &[String],
     world: &mut W,
-) -> Result<Option<Conf>, NoMemory> {
+) -> Result<Option<Conference>, NoMemory> {
     match name_of(alloc, words)? {
-        Some(name) if is_ordinary(rt, name) => conf_under(alloc, name, world),
+        Some(name) if is_ordinary(rt, name) => conference_under(alloc, name, world),
         _ => Ok(None),
     }
 }
@@ -120,19 +120,19 @@ fn links_of<
 >(
     rt: R,
     alloc: Global,
-    conf: &Conf,
+    conference: &Conference,
     mut links: L,
     journals: J,
-) -> Result<Recorded<L, J, R>, CallFault>
+) -> Result<RecordedLinks<L, J, R>, CallFault>
 where
     J::File: 'static,
 {
-    let Some(prefix) = &conf.service.recorded else {
-        return Ok(Recorded::plain(rt, alloc, links, journals)?);
+    let Some(prefix) = &conference.service.recorded else {
+        return Ok(RecordedLinks::plain(rt, alloc, links, journals)?);
     };
     let start = start_of(&rt, &mut links);
-    let legs = conf.legs.as_slice();
-    match Recorded::begin(
+    let legs = conference.legs.as_slice();
+    match RecordedLinks::begin(
         rt,
         alloc,
         links,
@@ -140,7 +140,7 @@ where
         prefix.as_str(),
         legs,
         start,
-        conf.tick,
+        conference.tick,
     ) {
         Ok(links) => Ok(links),
         Err(BeginFault::Failed(name)) => Err(CallFault::Unwritten(name)),
@@ -174,19 +174,19 @@ pub(crate) fn service_of<
 where
     J::File: 'static,
 {
-    let Some(conf) = conf_of_call(&rt, alloc, words, world)? else {
+    let Some(conference) = conference_of_call(&rt, alloc, words, world)? else {
         return Ok(CallService {
             gone: None,
             operator: Operator::Nobody,
-            links: Recorded::plain(rt, alloc, links, journals)?,
+            links: RecordedLinks::plain(rt, alloc, links, journals)?,
         });
     };
     if !is_open(out) {
         return Err(CallFault::Unprinted);
     }
-    let links = links_of(rt, alloc, &conf, links, journals)?;
-    let gone = conf.service.gone;
-    let operator = operator_of(&rt, alloc, conf)?;
+    let links = links_of(rt, alloc, &conference, links, journals)?;
+    let gone = conference.service.gone;
+    let operator = operator_of(&rt, alloc, conference)?;
     Ok(CallService {
         gone,
         operator,

@@ -17,11 +17,11 @@ ghost use Rattle.rtt_top.specs.Trials.{RunsLook, tries_no_port};
 use calls::{CallFault, CallService, service_of};
 use command_spec::Fault;
 use journal_io::{Journals, RealJournals};
-use leaving_links::{Leaving, Silence};
+use leaving_links::{LeavingLinks, Silence};
 use link_io::{Links, RealLinks};
-use operated_links::{Operated, Operator, OperatorPort};
+use operated_links::{OperatedLinks, Operator, OperatorPort};
 use port_io::{Ports, RealPorts};
-use recorded_links::{Finished, Recorded};
+use recorded_links::{LinksReturn, RecordedLinks};
 use rtt_base::NoMemory;
 use rtt_io::{RealWorld, Sink, StandardError, StandardOutput, StillGate, World};
 use rtt_top::{finish_with, run};
@@ -174,7 +174,7 @@ fn program_over<
     gone: Option<u32>,
     operator: Operator<P>,
     world: &mut W,
-    links: Recorded<L, J, R>,
+    links: RecordedLinks<L, J, R>,
     ports: &mut T,
     out: &mut K,
     err: &mut E,
@@ -183,10 +183,10 @@ where
     J::File: 'static,
     requires { gone ≡ S.longest }
 {
-    let leaving: Leaving<Recorded<L, J, R>, S> = Leaving::new(links, gone);
-    let mut links = Operated::new(leaving, operator);
+    let leaving: LeavingLinks<RecordedLinks<L, J, R>, S> = LeavingLinks::new(links, gone);
+    let mut links = OperatedLinks::new(leaving, operator);
     let exit = program(rt, alloc, words, world, &mut links, ports, out, err);
-    let Finished {
+    let LinksReturn {
         links: _,
         journals: _,
         failed,
@@ -211,7 +211,7 @@ fn program_for<
     gone: Option<u32>,
     operator: Operator<P>,
     world: &mut W,
-    links: Recorded<L, J, R>,
+    links: RecordedLinks<L, J, R>,
     ports: &mut T,
     out: &mut K,
     err: &mut E,

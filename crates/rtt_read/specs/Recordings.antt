@@ -4,22 +4,22 @@ use Rattle.wire_spec.specs.Dump.{Item, Recording, dump, usual_limit}
 use Rattle.rtpdump_io.specs.Calls.{SomeCame}
 use Rattle.command_spec.specs.declared.requests.ReadRequest.{ReadRequest}
 use Rattle.command_spec.specs.Reading.{usual_wait}
-use Rattle.terminal.specs.declared.confs.TermConf.{TermConf}
+use Rattle.terminal.specs.declared.settings.TerminalSettings.{TerminalSettings}
 use Rattle.terminal.specs.declared.terminals.Terminal.{Terminal}
 use Rattle.terminal.specs.Terminals.{Heard, Listens}
 use Rattle.terminal.specs.Told.{Takes}
 
 -- what a terminal is asked for
-abbrev pub asked_of : ReadRequest → TermConf
-asked_of r = record { ssrc = r.ssrc; pts = r.pts; wait = usual_wait }
+abbrev pub asked_of : ReadRequest → TerminalSettings
+asked_of r = record { ssrc = r.ssrc; payload_types = r.payload_types; wait = usual_wait }
 
 -- something came to a terminal that hears one source
 abbrev pub HearsOne : Terminal → Type 0
-HearsOne t = (c : TermConf) × (source : ℕ) × (came : List Item) × Listens t c (source ∷ []) came
+HearsOne t = (c : TerminalSettings) × (source : ℕ) × (came : List Item) × Listens t c (source ∷ []) came
 
 -- it was heard to its end
 abbrev pub HasHeardOne : Terminal → Type 0
-HasHeardOne t = (c : TermConf) × (source : ℕ) × (came : List Item) × Heard t c (source ∷ []) came
+HasHeardOne t = (c : TerminalSettings) × (source : ℕ) × (came : List Item) × Heard t c (source ∷ []) came
 
 -- all that is asked for of the recording with these octets was heard
 abbrev pub HasHeard : ReadRequest → List ℕ → Terminal → Type 0

@@ -16,19 +16,19 @@ use rtt_base::limits::USUAL_WAIT;
 use rtt_base::{NoMemory as OutOfMemory, Packet};
 use rtt_io::Source;
 use std::alloc::Global;
-use terminal::{TermConf, Terminal};
+use terminal::{TerminalSettings, Terminal};
 
 /// A terminal that hears what is asked for, to which nothing came yet.
-fn terminal_for(alloc: Global, conf: ReadRequest) -> Result<Terminal, OutOfMemory>
-    ensures listens { IfOk result (λ terminal. Listens terminal (asked_of conf) (conf.source ∷ []) []) }
+fn terminal_for(alloc: Global, request: ReadRequest) -> Result<Terminal, OutOfMemory>
+    ensures listens { IfOk result (λ terminal. Listens terminal (asked_of request) (request.source ∷ []) []) }
     ensures packets { IfOk result (λ terminal. (counts_of terminal).packets ≡ 0) }
 {
-    let asked = TermConf {
-        ssrc: conf.ssrc,
-        pts: conf.pts,
+    let asked = TerminalSettings {
+        ssrc: request.ssrc,
+        payload_types: request.payload_types,
         wait: u64::from(USUAL_WAIT),
     };
-    Terminal::new(alloc, asked, &[conf.source])
+    Terminal::new(alloc, asked, &[request.source])
 }
 
 /// Tells the terminal of a record, whose octets are these.
@@ -84,14 +84,14 @@ fn finished(mut terminal: Terminal) -> Result<Terminal, OutOfMemory>
 pub fn hear_recording<S: Source>(
     alloc: Global,
     reader: &mut DumpReader<S>,
-    conf: ReadRequest,
+    request: ReadRequest,
 ) -> Result<Terminal, RecordingFault>
     ensures heard { S.tells → IfOk result (λ terminal. (octets : List ℕ) → to_come S.left reader.old ≡ dump usual_limit octets
-        → HasHeard conf octets terminal) }
+        → HasHeard request octets terminal) }
     ensures one { IfOk result HasHeardOne }
     ensures reads { ReadsToEnd S.tells S.left S.faults S.name reader.old reader.new result }
 {
-    let mut terminal = terminal_for(alloc, conf)?;
+    let mut terminal = terminal_for(alloc, request)?;
     listen(reader, &mut terminal)?;
     Ok(finished(terminal)?)
 }

@@ -4,7 +4,7 @@ ghost use Rattle.rtpdump_io.specs.Reading.{is_ended};
 use crate::hear_recording;
 use command_spec::ReadRequest;
 use rtpdump_io::{DumpReader, RecordingFault};
-use rtt_base::{Bytes, NoMemory, Pts};
+use rtt_base::{Bytes, NoMemory, PayloadTypes};
 use rtt_io::SteadySource;
 use std::alloc::Global;
 use std::process::Abort;
@@ -14,7 +14,7 @@ use wire_spec::DumpKind;
 const ANN: ReadRequest = ReadRequest {
     ssrc: 1001,
     source: 1001,
-    pts: Pts { t140: 98, red: 100 },
+    payload_types: PayloadTypes { t140: 98, red: 100 },
 };
 
 // The line and the head of a recording.

@@ -1,18 +1,18 @@
 -- The text of frames that are relayed and heard again.
 use Rattle.std.proofs.Common.{◌≡◌, ℕ, ◌+◌, length, List, [], ◌∷◌, ◌++◌, map, refl, ap, sym, ◌∙◌}
 use Rattle.std.specs.List.{concat, flat_map}
-use Rattle.rtt_base.specs.declared.text_packets.Pts.{Pts}
+use Rattle.rtt_base.specs.declared.text_packets.PayloadTypes.{PayloadTypes}
 use Rattle.wire_spec.specs.Dump.{arrivals}
 use Rattle.stream_spec.specs.Hearing.{heard}
 use Rattle.stream_spec.specs.Ready.{Chunk}
 use Rattle.stream_spec.proofs.ChunkTexts.{chunk_texts}
 use Rattle.frame_spec.specs.declared.limits.TheConstants.{FRAME_HEAD_OCTETS}
 use Rattle.frame_spec.specs.declared.frames.Frame.{Frame}
-use Rattle.text_sender.specs.declared.senders.SendConf.{SendConf}
+use Rattle.text_sender.specs.declared.senders.SenderSettings.{SenderSettings}
 use Rattle.command_spec.specs.Scripts.{text_of_lines}
 use Rattle.command_spec.specs.Frames.{chunk_frame, channel_chunks, channel_frames, lines_from, lines_of}
 use Rattle.command_spec.specs.Reading.{usual_wait}
-use Rattle.command_spec.specs.Usual.{usual_pts}
+use Rattle.command_spec.specs.Usual.{usual_payload_types}
 use Rattle.rtt_send.specs.Scripts.{IsEnd, recording_sent}
 use Rattle.rtt_send.specs.Recordings.{IsReadable}
 use Rattle.rtt_send.proofs.Heard.{script_heard}
@@ -25,11 +25,11 @@ frames_text : (cs : List Chunk) → flat_map (λ f. f.text) (map chunk_frame cs)
 frames_text [] = refl
 frames_text (c ∷ cs) = ap (λ text. c.text ++ text) (frames_text cs)
 
-pub given_back : (conf : SendConf) (fs : List Frame) (t : ℕ) → conf.pts ≡ usual_pts → IsReadable conf (lines_of fs) t → IsEnd conf (lines_of fs) t
-    → flat_map (λ f. f.text) (channel_frames conf.ssrc (recording_sent conf (lines_of fs) t)) ≡ flat_map (λ f. f.text) fs
-given_back conf fs t p r e =
-    frames_text (channel_chunks conf.ssrc (recording_sent conf (lines_of fs) t))
-    ∙ ap concat (chunk_texts usual_wait 0 (arrivals (recording_sent conf (lines_of fs) t) conf.ssrc usual_pts) conf.ssrc)
-    ∙ ap (λ (pts : Pts). concat (heard usual_wait (arrivals (recording_sent conf (lines_of fs) t) conf.ssrc pts) conf.ssrc)) (sym p)
-    ∙ script_heard conf (lines_of fs) t usual_wait r.conf_is r.ssrc r.lines_are r.until e r.moments r.size
+pub given_back : (settings : SenderSettings) (fs : List Frame) (t : ℕ) → settings.payload_types ≡ usual_payload_types → IsReadable settings (lines_of fs) t → IsEnd settings (lines_of fs) t
+    → flat_map (λ f. f.text) (channel_frames settings.ssrc (recording_sent settings (lines_of fs) t)) ≡ flat_map (λ f. f.text) fs
+given_back settings fs t p r e =
+    frames_text (channel_chunks settings.ssrc (recording_sent settings (lines_of fs) t))
+    ∙ ap concat (chunk_texts usual_wait 0 (arrivals (recording_sent settings (lines_of fs) t) settings.ssrc usual_payload_types) settings.ssrc)
+    ∙ ap (λ (payload_types : PayloadTypes). concat (heard usual_wait (arrivals (recording_sent settings (lines_of fs) t) settings.ssrc payload_types) settings.ssrc)) (sym p)
+    ∙ script_heard settings (lines_of fs) t usual_wait r.settings_is r.ssrc r.lines_are r.until e r.moments r.size
     ∙ lines_text 0 fs

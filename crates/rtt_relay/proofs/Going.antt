@@ -4,7 +4,7 @@ use Rattle.std.specs.Int.{w32, to_be_bytes}
 use Rattle.std.proofs.lemmas.Bool.{lt-ltb, le-ltb}
 use Rattle.wire_spec.specs.Dump.{usual_limit, arrivals}
 use Rattle.stream_spec.specs.Ready.{Chunk}
-use Rattle.frame_spec.specs.declared.frames.FrameFault.{FrameFault}
+use Rattle.frame_spec.specs.declared.frames.FrameRefusal.{FrameRefusal}
 use Rattle.frame_spec.specs.declared.kinds.FrameKind.TheVariants.{ManyFrames}
 use Rattle.frame_spec.specs.declared.limits.TheConstants.{MOST_FRAMES_OCTETS}
 use Rattle.frame_spec.specs.Frames.{frame_written, frames_written}
@@ -16,7 +16,7 @@ use Rattle.rtt_io.specs.Counts.{Rose}
 use Rattle.leg_core.specs.declared.steps.LegStep.{LegStep}
 use Rattle.rtt_relay.specs.declared.faults.ChannelFault.{ChannelFault}
 use Rattle.rtt_relay.specs.declared.faults.ChannelFault.TheVariants.{Dump, Refused, NoMemory}
-use Rattle.rtt_relay.specs.Channels.{IsAt, IsWritten, IsReadCause, IsChannelCause, channel_conf}
+use Rattle.rtt_relay.specs.Channels.{IsAt, IsWritten, IsReadCause, IsChannelCause, channel_settings}
 
 -- ---- the time of a frame
 pub same_time : (n : ℕ) → to_be_bytes w32 (n % 4294967296) ≡ to_be_bytes w32 n
@@ -30,7 +30,7 @@ same_time n =
 -- ---- text after text
 -- a past of this stream, in which these chunks were given
 abbrev pub past_of : ℕ → List ℕ → List Chunk → LegPast
-past_of ssrc octets gave = record { conf = channel_conf ssrc; limit = usual_limit; octets = octets; gave = gave }
+past_of ssrc octets gave = record { settings = channel_settings ssrc; limit = usual_limit; octets = octets; gave = gave }
 
 -- what was given is written
 pub record Wrote {S : Type 0} (left : S → List ℕ) (leg : Leg S) (ssrc : ℕ) (octets old new : List ℕ) : Type 0 where
@@ -104,7 +104,7 @@ few_frames ssrc octets out n e few w =
     ap (λ (file : List ℕ). unless (ltb MOST_FRAMES_OCTETS (length file)) file) (sym w.out)
     ∙ ap (λ b. unless b out) (le-ltb MOST_FRAMES_OCTETS (length out) (omega (arith, e, few)))
   where
-    unless : Bool → List ℕ → Result (List ℕ) FrameFault
+    unless : Bool → List ℕ → Result (List ℕ) FrameRefusal
     unless b file = cond b (Err (record { offset = length file; kind = ManyFrames })) (Ok file)
 
 pub many_frames : (ssrc : ℕ) (octets out : List ℕ) (n : ℕ) → n ≡ length out → MOST_FRAMES_OCTETS < n → IsWritten ssrc octets [] out → channel ssrc octets ≡ Err (record { offset = n; kind = ManyFrames })
@@ -113,10 +113,10 @@ many_frames ssrc octets out n e many w =
     ∙ ap (λ b. unless b out) (lt-ltb MOST_FRAMES_OCTETS (length out) (omega (arith, e, many)))
     ∙ ap (λ (k : ℕ). fault k) (sym e)
   where
-    fault : ℕ → Result (List ℕ) FrameFault
+    fault : ℕ → Result (List ℕ) FrameRefusal
     fault k = Err (record { offset = k; kind = ManyFrames })
 
-    unless : Bool → List ℕ → Result (List ℕ) FrameFault
+    unless : Bool → List ℕ → Result (List ℕ) FrameRefusal
     unless b file = cond b (Err (record { offset = length file; kind = ManyFrames })) (Ok file)
 
 -- ---- what a leg answers

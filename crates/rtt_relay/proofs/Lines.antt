@@ -12,7 +12,7 @@ use Rattle.frame_spec.specs.Frames.{IsFrame, AreFrames, InOrder, Reading, read_f
 use Rattle.frame_spec.proofs.Readings.{whole, passes, read_on, read_no_further, nothing_left}
 use Rattle.frame_spec.proofs.Sound.{read_are_frames}
 use Rattle.reliable_leg.specs.Fronts.{place_of, view_of}
-use Rattle.reliable_leg.specs.declared.fronts.Place.{Place}
+use Rattle.reliable_leg.specs.declared.fronts.FramePosition.{FramePosition}
 use Rattle.reliable_leg.specs.declared.fronts.FrameView.{FrameView}
 use Rattle.command_spec.specs.Frames.{AreTyped, lines_from, lines_of}
 use Rattle.std.proofs.lemmas.Bool.{eqb-true, eqb-false}
@@ -38,7 +38,7 @@ frames_typed octets = let a = read_are_frames octets in typed_from 0 (read_frame
 
 -- ---- frame after frame
 -- these lines were read, and what is read from here on are the others
-pub record Reads (octets : List ℕ) (lines : List ScriptLine) (place : Place) (rest : List ℕ) : Type 0 where
+pub record Reads (octets : List ℕ) (lines : List ScriptLine) (place : FramePosition) (rest : List ℕ) : Type 0 where
   pub lines_are : lines_of (read_frames octets).frames ≡ lines ++ lines_from place.byte (reading_from (place_of place) rest).frames
   pub fault_is : (read_frames octets).fault ≡ (reading_from (place_of place) rest).fault
   pub within : place.byte ≤ MOST_FRAMES_OCTETS
@@ -47,12 +47,12 @@ pub reads_first : (octets : List ℕ) → Reads octets [] (record { byte = 0; la
 reads_first octets = record { lines_are = refl; fault_is = refl; within = omega arith }
 
 -- what a whole frame in front takes
-pub record Takes (place : Place) (rest : List ℕ) (view : FrameView) : Type 0 where
+pub record Takes (place : FramePosition) (rest : List ℕ) (view : FrameView) : Type 0 where
   pub there : FRAME_HEAD_OCTETS + length view.text.now ≤ length rest
   pub some : 0 < length rest
   pub within : place.byte + (FRAME_HEAD_OCTETS + length view.text.now) ≤ MOST_FRAMES_OCTETS
 
-pub takes : (place : Place) (rest : List ℕ) (view : FrameView) → frame_fault (place_of place) rest ≡ None → length view.text.now ≡ length_of rest → Takes place rest view
+pub takes : (place : FramePosition) (rest : List ℕ) (view : FrameView) → frame_fault (place_of place) rest ≡ None → length view.text.now ≡ length_of rest → Takes place rest view
 takes place rest view e n =
     let w = whole (place_of place) rest e in
     let t = passes (place_of place) (frames.time_of rest) (length_of rest) w.tests in
@@ -61,7 +61,7 @@ takes place rest view e n =
     let head = w.head in
     record { there = omega (arith, there, n); some = omega (arith, head); within = omega (arith, small, n) }
 
-pub reads_more : (octets : List ℕ) (lines new : List ScriptLine) (place next : Place) (rest behind : List ℕ) (view : FrameView) → Reads octets lines place rest
+pub reads_more : (octets : List ℕ) (lines new : List ScriptLine) (place next : FramePosition) (rest behind : List ℕ) (view : FrameView) → Reads octets lines place rest
     → frame_fault (place_of place) rest ≡ None → view_of view ≡ frame_of rest → length view.text.now ≡ length_of rest
     → new ≡ lines ++ record { line = place.byte; at = view.at; text = view.text.now } ∷ []
     → place_of next ≡ place_behind (place_of place) (view_of view)
@@ -89,12 +89,12 @@ reads_more octets lines new place next rest behind view r e v n p q b =
     }
 
 -- a fault
-pub reads_fault : (octets : List ℕ) (lines : List ScriptLine) (place : Place) (rest : List ℕ) (kind : FrameKind) → Reads octets lines place rest → 0 < length rest → frame_fault (place_of place) rest ≡ Some kind
+pub reads_fault : (octets : List ℕ) (lines : List ScriptLine) (place : FramePosition) (rest : List ℕ) (kind : FrameKind) → Reads octets lines place rest → 0 < length rest → frame_fault (place_of place) rest ≡ Some kind
     → (read_frames octets).fault ≡ Some (record { offset = place.byte; kind = kind })
 reads_fault octets lines place rest kind r some e = r.fault_is ∙ ap (λ (reading : Reading). reading.fault) (read_no_further (place_of place) rest kind some e)
 
 -- the end
-pub reads_end : (octets : List ℕ) (lines : List ScriptLine) (place : Place) (rest : List ℕ) → Reads octets lines place rest → length rest ≡ 0 → (lines ≡ lines_of (read_frames octets).frames) × ((read_frames octets).fault ≡ None)
+pub reads_end : (octets : List ℕ) (lines : List ScriptLine) (place : FramePosition) (rest : List ℕ) → Reads octets lines place rest → length rest ≡ 0 → (lines ≡ lines_of (read_frames octets).frames) × ((read_frames octets).fault ≡ None)
 reads_end octets lines place [] r z = (
   sym (r.lines_are ∙ ap (λ (reading : Reading). lines ++ lines_from place.byte reading.frames) (nothing_left (place_of place)) ∙ append-nil lines),
   r.fault_is ∙ ap (λ (reading : Reading). reading.fault) (nothing_left (place_of place)),
@@ -112,7 +112,7 @@ some_left rest b e f = let n = eqb-false (length rest) 0 (sym e ∙ f) in more_t
 pub none_left : (rest : List ℕ) (b : Bool) → b ≡ eqb (length rest) 0 → b ≡ true → length rest ≡ 0
 none_left rest b e t = eqb-true (length rest) 0 (sym e ∙ t)
 
-pub smaller : (place : Place) (rest : List ℕ) (view : FrameView) → frame_fault (place_of place) rest ≡ None → length view.text.now ≡ length_of rest
+pub smaller : (place : FramePosition) (rest : List ℕ) (view : FrameView) → frame_fault (place_of place) rest ≡ None → length view.text.now ≡ length_of rest
     → length (take (length rest - (FRAME_HEAD_OCTETS + length view.text.now)) (drop (FRAME_HEAD_OCTETS + length view.text.now) rest)) < length rest
 smaller place rest view e n =
     let t = takes place rest view e n in

@@ -1,15 +1,15 @@
 -- The causes of frames that are not sent. Want of memory alone is free.
 use Rattle.std.specs.Prelude.{◌≡◌, ℕ, List, Option, Some, Result, Err}
-use Rattle.frame_spec.specs.declared.frames.FrameFault.{FrameFault}
+use Rattle.frame_spec.specs.declared.frames.FrameRefusal.{FrameRefusal}
 use Rattle.rtt_relay.specs.declared.faults.RelayFault.{RelayFault}
 use Rattle.rtt_relay.specs.declared.faults.RelayFault.TheVariants.{Refused, NoMemory}
 
 -- the frames have this fault
-abbrev pub IsFrameCause : RelayFault → Option FrameFault → Type 0
+abbrev pub IsFrameCause : RelayFault → Option FrameRefusal → Type 0
 IsFrameCause (Refused fault) found = found ≡ Some fault
 IsFrameCause NoMemory found = Unit {0}
 
 -- they are not sent for this fault
-abbrev pub IsRelayCause : RelayFault → Result (List ℕ) FrameFault → Type 0
+abbrev pub IsRelayCause : RelayFault → Result (List ℕ) FrameRefusal → Type 0
 IsRelayCause (Refused fault) relayed = relayed ≡ Err fault
 IsRelayCause NoMemory relayed = Unit {0}

@@ -3,19 +3,19 @@ use Rattle.std.specs.Prelude.{◌≡◌, ℕ, ◌≤◌, ◌++◌, List, None, R
 use Rattle.wire_spec.specs.Dump.{dump, usual_limit}
 use Rattle.rtpdump_io.specs.Reading.{IsFaultOf}
 use Rattle.rtt_io.specs.Counts.{Rose}
-use Rattle.ear.specs.declared.confs.EarConf.{EarConf}
+use Rattle.ear.specs.declared.settings.EarSettings.{EarSettings}
 use Rattle.leg_core.specs.declared.legs.Leg.{Leg}
 use Rattle.leg_core.specs.Gives.{Stands, begins}
 use Rattle.command_spec.specs.Frames.{channel, channel_file}
 use Rattle.command_spec.specs.Reading.{usual_wait}
-use Rattle.command_spec.specs.Usual.{usual_pts}
+use Rattle.command_spec.specs.Usual.{usual_payload_types}
 use Rattle.wire_spec.specs.declared.faults.DumpKind.TheVariants.{Read}
 use Rattle.rtt_relay.specs.declared.faults.ChannelFault.{ChannelFault}
 use Rattle.rtt_relay.specs.declared.faults.ChannelFault.TheVariants.{Dump, Refused, NoMemory}
 
 -- the stream of this SSRC, with the usual payload types and wait
-abbrev pub channel_conf : ℕ → EarConf
-channel_conf ssrc = record { ssrc = ssrc; pts = usual_pts; wait = usual_wait }
+abbrev pub channel_settings : ℕ → EarSettings
+channel_settings ssrc = record { ssrc = ssrc; payload_types = usual_payload_types; wait = usual_wait }
 
 -- all frames of the recording were appended, and it was read to its end
 pub record IsWritten (ssrc : ℕ) (octets old new : List ℕ) : Type 0 where
@@ -45,7 +45,7 @@ IsChannelCause NoMemory ssrc octets = Unit {0}
 module _ {S : Type 0} where
   -- nothing was heard yet of this stream of a recording of these octets
   abbrev pub IsAt : (S → List ℕ) → Leg S → ℕ → List ℕ → Type 0
-  IsAt left leg ssrc octets = Stands left leg (begins (channel_conf ssrc) usual_limit octets)
+  IsAt left leg ssrc octets = Stands left leg (begins (channel_settings ssrc) usual_limit octets)
 
   -- so it is of the stream and the recording that the leg is over, where nothing was heard yet
   abbrev pub ForRecording : (S → List ℕ) → Leg S → (ℕ → List ℕ → Type 0) → Type 0

@@ -7,14 +7,14 @@ ghost use Rattle.leg_core.specs.Gives.{is_over, source_of};
 ghost use Rattle.rtt_relay.specs.Channels.{AreFramesOf, ForRecording, HasSource, IsAt, IsChannelCause, IsReadCause, IsWhole, IsWritten};
 
 use crate::ChannelFault;
-use ear::EarConf;
+use ear::EarSettings;
 use file_spec::limits::{USUAL_RED, USUAL_T140};
 use frame_spec::limits::MOST_FRAMES_OCTETS;
-use frame_spec::{FrameFault, FrameKind};
+use frame_spec::{FrameRefusal, FrameKind};
 use leg_core::{Leg, LegLost, LegStep};
 use reliable_leg::write_frame;
 use rtt_base::limits::USUAL_WAIT;
-use rtt_base::{Bytes, Chunk, NoMemory as OutOfMemory, Pts};
+use rtt_base::{Bytes, Chunk, NoMemory as OutOfMemory, PayloadTypes};
 use rtt_io::Source;
 use std::alloc::Global;
 
@@ -28,15 +28,15 @@ pub fn channel_leg<S: Source>(alloc: Global, source: S, ssrc: u32) -> Result<Leg
     ensures source { IfOk result (λ leg. source_of leg ≡ source) }
     ensures lost { IfErr result (λ lost. lost.source ≡ source) }
 {
-    let conf = EarConf {
+    let settings = EarSettings {
         ssrc,
-        pts: Pts {
+        payload_types: PayloadTypes {
             t140: USUAL_T140,
             red: USUAL_RED,
         },
         wait: u64::from(USUAL_WAIT),
     };
-    Leg::new(alloc, source, conf)
+    Leg::new(alloc, source, settings)
 }
 
 /// Appends a heard text as a frame.
@@ -88,7 +88,7 @@ pub fn channel_file<S: Source>(alloc: Global, leg: &mut Leg<S>) -> Result<Bytes,
     }
     let octets = out.len() as u64;
     if octets > MOST_FRAMES_OCTETS {
-        return Err(ChannelFault::Refused(FrameFault {
+        return Err(ChannelFault::Refused(FrameRefusal {
             offset: octets,
             kind: FrameKind::ManyFrames,
         }));

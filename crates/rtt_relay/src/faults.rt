@@ -1,5 +1,5 @@
 //! Why frames are not sent, and why a recording is not written as frames.
-use frame_spec::FrameFault;
+use frame_spec::FrameRefusal;
 use rtpdump_io::DumpFault;
 use thiserror::Error;
 
@@ -8,7 +8,7 @@ use thiserror::Error;
 pub enum RelayFault {
     /// The octets are no frames, or the sender does not take a frame since too much waits: kind `Full`.
     #[error("{0}")]
-    Refused(FrameFault),
+    Refused(FrameRefusal),
     /// Memory ran out.
     #[error("out of memory")]
     NoMemory,
@@ -22,7 +22,7 @@ pub enum ChannelFault {
     Dump(DumpFault),
     /// The frames have more than 1048576 octets: kind `ManyFrames`.
     #[error("{0}")]
-    Refused(FrameFault),
+    Refused(FrameRefusal),
     /// Memory ran out.
     #[error("out of memory")]
     NoMemory,

@@ -1,10 +1,10 @@
 //! What holds of frames that are relayed and heard again. No code stands here.
 ghost use Rattle.std.specs.Prelude.{ℕ, List};
 ghost use Rattle.frame_spec.specs.declared.frames.Frame.{Frame};
-ghost use Rattle.text_sender.specs.declared.senders.SendConf.{SendConf};
+ghost use Rattle.text_sender.specs.declared.senders.SenderSettings.{SenderSettings};
 ghost use Rattle.rtt_relay.specs.Laws.{ComesBack};
 
 /// A channel behind a relay gives the text of all frames back, in order.
 pub fn channels_give_back()
-    ensures { (conf : SendConf) (fs : List Frame) (t : ℕ) → ComesBack conf fs t }
+    ensures { (settings : SenderSettings) (fs : List Frame) (t : ℕ) → ComesBack settings fs t }
 {}

@@ -4,12 +4,12 @@
 mod channels;
 mod faults;
 mod laws;
-mod relaying;
+mod relays;
 
 pub use channels::{channel_file, channel_leg};
 pub use faults::{ChannelFault, RelayFault};
 pub use laws::channels_give_back;
-pub use relaying::relay_frames;
+pub use relays::relay_frames;
 
 #[cfg(test)]
 mod tests;

@@ -1,10 +1,10 @@
 //! Frames and recordings with octets by hand.
 use crate::{ChannelFault, RelayFault, channel_file, channel_leg, relay_frames};
-use frame_spec::{FrameFault, FrameKind};
+use frame_spec::{FrameRefusal, FrameKind};
 use rtpdump_io::DumpFault;
 use rtt_base::{Bytes, NoMemory};
 use rtt_io::SteadySource;
-use rtt_send::usual_conf;
+use rtt_send::usual_settings;
 use std::alloc::Global;
 use std::process::Abort;
 use std::test::Fail;
@@ -24,8 +24,8 @@ const RECORDS: [u8; 122] =
 
 // Expects that these frames are not sent, for this fault.
 fn expect_refused(rt: &impl Abort, alloc: Global, frames: &[u8], offset: u64, kind: FrameKind) {
-    let answer = relay_frames(alloc, frames, usual_conf(1001, 0, 0));
-    assert!(rt; answer.err() == Some(RelayFault::Refused(FrameFault { offset, kind })));
+    let answer = relay_frames(alloc, frames, usual_settings(1001, 0, 0));
+    assert!(rt; answer.err() == Some(RelayFault::Refused(FrameRefusal { offset, kind })));
 }
 
 // What is heard in a recording with these records.
@@ -41,7 +41,7 @@ fn channel_of(alloc: Global, records: &[u8]) -> Result<Result<Bytes, ChannelFaul
 
 #[test]
 fn two_letters_are_relayed(rt: HostRuntime) -> Result<(), Fail> {
-    let recording = relay_frames(rt.alloc(), &LETTERS, usual_conf(1001, 0, 0))?;
+    let recording = relay_frames(rt.alloc(), &LETTERS, usual_settings(1001, 0, 0))?;
     assert!(rt; recording.as_slice().get(..44) == Some(OPENING.as_slice()));
     assert!(rt; recording.as_slice().get(44..) == Some(RECORDS.as_slice()));
     Ok(())

@@ -19,7 +19,7 @@ use Rattle.rtt_script.specs.Laws.{IsSayable, script_lines}
 use Rattle.rtt_script.proofs.Reading.{is_script}
 
 abbrev asked : ReadRequest
-asked = record { ssrc = 1001; source = 1001; pts = record { t140 = 98; red = 100 } }
+asked = record { ssrc = 1001; source = 1001; payload_types = record { t140 = 98; red = 100 } }
 
 -- a sender types A and, 300 ms later, a new line
 two_texts : List ℕ

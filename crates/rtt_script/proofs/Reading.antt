@@ -250,10 +250,10 @@ pub is_script : (r : ReadRequest) (octets : List ℕ) → IsScript r octets
 unfolding transcript_view
 is_script r octets can small =
     let a = arrivals_of r octets in
-    let law = recordings_law (records_of octets) r.ssrc r.pts in
+    let law = recordings_law (records_of octets) r.ssrc r.payload_types in
     let cs = chunks_read r octets in
     let says = all_say cs can (chunks_law usual_wait 0 a r.source law.0) (short_law usual_wait 0 r.source a law.1) in
-    let rises = chunks_rise usual_wait 0 a r.source (items_law (records_of octets) r.ssrc r.pts) in
+    let rises = chunks_rise usual_wait 0 a r.source (items_law (records_of octets) r.ssrc r.payload_types) in
     let fits : nat_lt MOST_SCRIPT_OCTETS (length (flat_map chunk_line cs)) ≡ false = grind (arith, nat_tests) in
     ap (λ b. cond b (Err (record { line = 0; kind = Large })) (read_lines and_line [] (told is_comment 1 (lines (flat_map chunk_line cs))))) fits
     ∙ lines_back 1 [] cs says rises (λ c i. omega arith)

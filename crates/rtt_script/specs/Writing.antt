@@ -7,37 +7,37 @@ use Rattle.command_spec.specs.declared.requests.ReadRequest.{ReadRequest}
 use Rattle.command_spec.specs.Reading.{usual_wait}
 use Rattle.command_spec.specs.Transcripts.{chunk_line, transcript_view}
 use Rattle.gap_tracker.specs.Stories.{Story}
-use Rattle.ear.specs.declared.confs.EarConf.{EarConf}
+use Rattle.ear.specs.declared.settings.EarSettings.{EarSettings}
 use Rattle.ear.specs.declared.ears.Ear.{Ear}
 use Rattle.ear.specs.Hears.{GaveSome, IsToldOf, ready_chunks, story_chunks, text_for, told}
 
 -- what an ear is asked for
-abbrev pub asked_of : ReadRequest → EarConf
-asked_of r = record { ssrc = r.ssrc; pts = r.pts; wait = usual_wait }
+abbrev pub asked_of : ReadRequest → EarSettings
+asked_of r = record { ssrc = r.ssrc; payload_types = r.payload_types; wait = usual_wait }
 
 -- the lines of these
 abbrev pub lines_of : List Chunk → List ℕ
 lines_of chunks = flat_map chunk_line chunks
 
 -- the ear was told this, and the lines of all that it gave are printed
-abbrev pub Printed : Ear → List ℕ → EarConf → ℕ → Story → Type 0
-Printed ear printed conf source story = (gave : List Chunk) × GaveSome ear conf source story gave × (printed ≡ lines_of gave)
+abbrev pub Printed : Ear → List ℕ → EarSettings → ℕ → Story → Type 0
+Printed ear printed settings source story = (gave : List Chunk) × GaveSome ear settings source story gave × (printed ≡ lines_of gave)
 
 -- ---- what calls make of it
 -- it was told nothing, and what is ready was printed
 abbrev pub PrintsReady : Ear → List ℕ → Ear → List ℕ → Type 0
-PrintsReady before old after new = (conf : EarConf) (source : ℕ) (story : Story) → Printed before old conf source story
-    → Printed after new conf source story × (new ≡ lines_of (ready_chunks conf source story))
+PrintsReady before old after new = (settings : EarSettings) (source : ℕ) (story : Story) → Printed before old settings source story
+    → Printed after new settings source story × (new ≡ lines_of (ready_chunks settings source story))
 
 -- these octets came at this moment, and some of what is ready was printed
 abbrev pub PrintsPacket : ℕ → List ℕ → Ear → List ℕ → Ear → List ℕ → Type 0
-PrintsPacket at octets before old after new = (conf : EarConf) (source : ℕ) (story : Story) → Printed before old conf source story
-    → Printed after new conf source (told story at (text_for conf octets))
+PrintsPacket at octets before old after new = (settings : EarSettings) (source : ℕ) (story : Story) → Printed before old settings source story
+    → Printed after new settings source (told story at (text_for settings octets))
 
 -- it was told of the end, and everything was printed
 abbrev pub PrintsEnd : Ear → List ℕ → List ℕ → Type 0
-PrintsEnd before old new = (conf : EarConf) (source : ℕ) (story : Story) → Printed before old conf source story
-    → new ≡ lines_of (story_chunks conf source story)
+PrintsEnd before old new = (settings : EarSettings) (source : ℕ) (story : Story) → Printed before old settings source story
+    → new ≡ lines_of (story_chunks settings source story)
 
 -- ---- the records of a recording
 -- The ear for this request was told of these arrivals, newest first.
@@ -47,12 +47,12 @@ HasPrinted r past ear printed = (story : Story) × IsToldOf story past × Printe
 -- this record came
 abbrev pub PrintsItem : Item → Ear → List ℕ → Ear → List ℕ → Type 0
 PrintsItem item before old after new = (r : ReadRequest) (past : List Arrival) → HasPrinted r past before old
-    → HasPrinted r (arrivals_with r.ssrc r.pts item past) after new
+    → HasPrinted r (arrivals_with r.ssrc r.payload_types item past) after new
 
 -- some records came; those of this recording, where this tells it
 abbrev pub PrintsAll : Type 0 → Recording → Ear → List ℕ → Ear → List ℕ → Type 0
 PrintsAll tells recording before old after new = (r : ReadRequest) (past : List Arrival) → HasPrinted r past before old
-    → (all : List Arrival) × HasPrinted r all after new × (tells → all ≡ arrivals_after r.ssrc r.pts past recording.items)
+    → (all : List Arrival) × HasPrinted r all after new × (tells → all ≡ arrivals_after r.ssrc r.payload_types past recording.items)
 
 -- this is what is printed of the recording
 abbrev pub IsTranscript : ReadRequest → Recording → List ℕ → Type 0

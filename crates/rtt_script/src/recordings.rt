@@ -10,7 +10,7 @@ ghost use Rattle.rtt_base.specs.declared.limits.TheConstants.{END_OF_MOMENTS, MO
 
 use crate::lines::append_line;
 use command_spec::ReadRequest;
-use ear::{Ear, EarConf, PlainAnswer};
+use ear::{Ear, EarSettings, PlainAnswer};
 use rtpdump_io::{DumpItem, DumpReader, RecordingFault};
 use rtt_base::limits::USUAL_WAIT;
 use rtt_base::{Bytes, Chunk, NoMemory as OutOfMemory, Packet};
@@ -18,19 +18,19 @@ use rtt_io::Source;
 use std::alloc::Global;
 
 /// An ear that hears what is asked for, to which nothing came yet.
-fn ear_for(alloc: Global, conf: ReadRequest) -> Result<Ear, OutOfMemory>
-    ensures printed { IfOk result (λ ear. HasPrinted conf [] ear []) }
+fn ear_for(alloc: Global, request: ReadRequest) -> Result<Ear, OutOfMemory>
+    ensures printed { IfOk result (λ ear. HasPrinted request [] ear []) }
     ensures giving { IfOk result (λ ear. ∥ IsGiving ear ∥₁) }
     ensures quiet { IfOk result (λ ear. is_quiet ear ≡ Bool.true) }
     ensures none { IfOk result (λ ear. arrival_count ear ≡ 0) }
     ensures open { IfOk result (λ ear. is_finished ear ≡ Bool.false) }
 {
-    let asked = EarConf {
-        ssrc: conf.ssrc,
-        pts: conf.pts,
+    let asked = EarSettings {
+        ssrc: request.ssrc,
+        payload_types: request.payload_types,
         wait: u64::from(USUAL_WAIT),
     };
-    Ear::new(alloc, asked, &[conf.source])
+    Ear::new(alloc, asked, &[request.source])
 }
 
 /// Prints what is heard by now. Each text is read into `chunk`.
@@ -146,12 +146,12 @@ fn print_rest(ear: &mut Ear, chunk: &mut Chunk, out: &mut Bytes) -> Result<(), O
 pub fn script_recording<S: Source>(
     alloc: Global,
     reader: &mut DumpReader<S>,
-    conf: ReadRequest,
+    request: ReadRequest,
 ) -> Result<Bytes, RecordingFault>
-    ensures printed { S.tells → IfOk result (IsTranscript conf (to_come S.left reader.old)) }
+    ensures printed { S.tells → IfOk result (IsTranscript request (to_come S.left reader.old)) }
     ensures reads { ReadsToEnd S.tells S.left S.faults S.name reader.old reader.new result }
 {
-    let mut ear = ear_for(alloc, conf)?;
+    let mut ear = ear_for(alloc, request)?;
     let mut chunk = Chunk::default();
     let mut out = Bytes::new(alloc);
     print_records(reader, &mut ear, &mut chunk, &mut out)?;

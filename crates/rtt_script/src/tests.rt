@@ -1,26 +1,26 @@
 use crate::script_recording;
 use command_spec::ReadRequest;
 use rtpdump_io::{DumpReader, RecordingFault};
-use rtt_base::{Bytes, NoMemory, Pts};
+use rtt_base::{Bytes, NoMemory, PayloadTypes};
 use rtt_io::SteadySource;
 use std::alloc::Global;
 use std::process::Abort;
 use std::test::Fail;
 use wire_spec::DumpKind;
 
-const TYPES: Pts = Pts { t140: 98, red: 100 };
+const TYPES: PayloadTypes = PayloadTypes { t140: 98, red: 100 };
 
 const ANN: ReadRequest = ReadRequest {
     ssrc: 1001,
     source: 1001,
-    pts: TYPES,
+    payload_types: TYPES,
 };
 
 // Ann behind a mixer.
 const ANN_MIXED: ReadRequest = ReadRequest {
     ssrc: 9000,
     source: 1001,
-    pts: TYPES,
+    payload_types: TYPES,
 };
 
 // The line and the head of a recording.
@@ -53,13 +53,13 @@ const CR_AND_LF: [u8; 44] = *b"\0\x16\0\x0E\0\0\0\0\x80\x62\0\0\0\0\0\0\0\0\x03\
 fn printed(
     alloc: Global,
     records: &[u8],
-    conf: ReadRequest,
+    request: ReadRequest,
 ) -> Result<Result<Bytes, RecordingFault>, NoMemory> {
     let mut recording = Bytes::new(alloc);
     recording.append(&OPENING)?;
     recording.append(records)?;
     let mut reader = DumpReader::new(SteadySource::new(recording));
-    Ok(script_recording(alloc, &mut reader, conf))
+    Ok(script_recording(alloc, &mut reader, request))
 }
 
 // Expects that this is printed of a recording with these records.
@@ -67,10 +67,10 @@ fn expect_printed(
     rt: &impl Abort,
     alloc: Global,
     records: &[u8],
-    conf: ReadRequest,
+    request: ReadRequest,
     text: &str,
 ) -> Result<(), Fail> {
-    match printed(alloc, records, conf)? {
+    match printed(alloc, records, request)? {
         Ok(printed) => assert!(rt; printed.as_slice() == text.as_bytes()),
         Err(_) => panic!(rt; "the recording is not printed"),
     }

@@ -17,8 +17,8 @@ use Rattle.stream_spec.proofs.Grows.{grown, placed_grown, packet_stays}
 use Rattle.stream_spec.proofs.Sent.{the_last, last_packet, length_sent, sent_own}
 use Rattle.stream_spec.proofs.OwnPackets.{names_own, own_come}
 use Rattle.stream_spec.proofs.Typing.{paced}
-use Rattle.text_sender.specs.declared.senders.SendConf.{SendConf}
-use Rattle.text_sender.specs.Confs.{IsConf, stream_of}
+use Rattle.text_sender.specs.declared.senders.SenderSettings.{SenderSettings}
+use Rattle.text_sender.specs.Settings.{AreSettings, stream_of}
 use Rattle.text_sender.specs.Standing.{sent_by, history_sent}
 use Rattle.wire_spec.specs.SentPackets.{packet_written}
 use Rattle.text_sender.proofs.Sending.{length_sents}
@@ -29,24 +29,24 @@ use Rattle.rtt_send.proofs.Typed.{script_through, lawful_sent}
 use Rattle.wire_spec.specs.declared.limits.TheConstants.{LAST_RECORD_MOMENT}
 
 -- the history of entries
-abbrev pub hist : SendConf → List Turned → History
-hist conf es = sent_history (stream_of conf) (sents es)
+abbrev pub hist : SenderSettings → List Turned → History
+hist settings es = sent_history (stream_of settings) (sents es)
 
 -- the entries with their moments, newest first
-abbrev pub pairs : SendConf → List Turned → List (ℕ × Placed)
-pairs conf [] = []
-pairs conf (e ∷ es) = (e.at, the_last (stream_of conf) (sents es) e.sent) ∷ pairs conf es
+abbrev pub pairs : SenderSettings → List Turned → List (ℕ × Placed)
+pairs settings [] = []
+pairs settings (e ∷ es) = (e.at, the_last (stream_of settings) (sents es) e.sent) ∷ pairs settings es
 
-abbrev pub arrivals_sent : SendConf → List Turned → List Arrival
-arrivals_sent conf [] = []
-arrivals_sent conf (e ∷ es) = record { time = e.at; packet = packet_after (stream_of conf) (sents es) e.sent } ∷ arrivals_sent conf es
+abbrev pub arrivals_sent : SenderSettings → List Turned → List Arrival
+arrivals_sent settings [] = []
+arrivals_sent settings (e ∷ es) = record { time = e.at; packet = packet_after (stream_of settings) (sents es) e.sent } ∷ arrivals_sent settings es
 
 -- ---- the moments never fall
 abbrev Rises : List Turned → Type 0
 Rises [] = Unit {0}
 Rises (e ∷ es) = ((f : Turned) → In f es → f.at ≤ e.at) × Rises es
 
-rises : (c : Stream) (i : ℕ) (past : List Event) → c.gens ≤ 3 → 1 ≤ i → IsScript past → Rises (entries c i past)
+rises : (c : Stream) (i : ℕ) (past : List Event) → c.generations ≤ 3 → 1 ≤ i → IsScript past → Rises (entries c i past)
 rises c i [] few o s = tt
 rises c i (Text text ∷ past) few o s = rises c i past few o s.1
 rises c i (Ask t ∷ past) few o s = go (due_at c i past t) (rises c i past few o s.2)
@@ -56,37 +56,37 @@ rises c i (Ask t ∷ past) few o s = go (due_at c i past t) (rises c i past few 
     go false r = r
 
 -- ---- the recording's arrivals
-after_more : (conf : SendConf) (xs : List Item) (x : Item) (past : List Arrival) → arrivals_after conf.ssrc conf.pts past (xs ++ x ∷ []) ≡ arrivals_with conf.ssrc conf.pts x (arrivals_after conf.ssrc conf.pts past xs)
-after_more conf [] x past = refl
-after_more conf (y ∷ xs) x past = after_more conf xs x (arrivals_with conf.ssrc conf.pts y past)
+after_more : (settings : SenderSettings) (xs : List Item) (x : Item) (past : List Arrival) → arrivals_after settings.ssrc settings.payload_types past (xs ++ x ∷ []) ≡ arrivals_with settings.ssrc settings.payload_types x (arrivals_after settings.ssrc settings.payload_types past xs)
+after_more settings [] x past = refl
+after_more settings (y ∷ xs) x past = after_more settings xs x (arrivals_with settings.ssrc settings.payload_types y past)
 
 map_more : {X Y : Type 0} (f : X → Y) (xs : List X) (x : X) → map f (xs ++ x ∷ []) ≡ map f xs ++ f x ∷ []
 map_more f [] x = refl
 map_more f (y ∷ xs) x = ap (λ zs. f y ∷ zs) (map_more f xs x)
 
-time_is : (conf : SendConf) (es : List Turned) (t : ℕ) → ((f : Turned) → In f es → f.at ≤ t) → max t (latest (arrivals_sent conf es)) ≡ t
-time_is conf [] t h = omega arith
-time_is conf (e ∷ es) t h = let l = h e (inl refl) in omega arith
+time_is : (settings : SenderSettings) (es : List Turned) (t : ℕ) → ((f : Turned) → In f es → f.at ≤ t) → max t (latest (arrivals_sent settings es)) ≡ t
+time_is settings [] t h = omega arith
+time_is settings (e ∷ es) t h = let l = h e (inl refl) in omega arith
 
-arrive : (conf : SendConf) (es : List Turned) → Backs conf es → Rises es → arrivals_after conf.ssrc conf.pts [] (map sent_item (records_of conf es)) ≡ arrivals_sent conf es
-arrive conf [] b r = refl
-arrive conf (e ∷ es) b r =
-    let p : Packet = packet_after (stream_of conf) (sents es) e.sent in
-    let one : ℕ × List ℕ = (e.at, packet_written conf.pts p) in
-    ap (arrivals_after conf.ssrc conf.pts []) (map_more sent_item (records_of conf es) one)
-    ∙ (after_more conf (map sent_item (records_of conf es)) (sent_item one) []
-    ∙ (ap (λ (past : List Arrival). arrived e.at (text_of (packet_written conf.pts p) (Some conf.ssrc) conf.pts) past) (arrive conf es b.1 r.1)
-    ∙ (ap (λ q. arrived e.at q (arrivals_sent conf es)) b.0.text_is
-    ∙ ap (λ (n : ℕ). let a : Arrival = record { time = n; packet = p } in a ∷ arrivals_sent conf es) (time_is conf es e.at r.0))))
+arrive : (settings : SenderSettings) (es : List Turned) → Backs settings es → Rises es → arrivals_after settings.ssrc settings.payload_types [] (map sent_item (records_of settings es)) ≡ arrivals_sent settings es
+arrive settings [] b r = refl
+arrive settings (e ∷ es) b r =
+    let p : Packet = packet_after (stream_of settings) (sents es) e.sent in
+    let one : ℕ × List ℕ = (e.at, packet_written settings.payload_types p) in
+    ap (arrivals_after settings.ssrc settings.payload_types []) (map_more sent_item (records_of settings es) one)
+    ∙ (after_more settings (map sent_item (records_of settings es)) (sent_item one) []
+    ∙ (ap (λ (past : List Arrival). arrived e.at (text_of (packet_written settings.payload_types p) (Some settings.ssrc) settings.payload_types) past) (arrive settings es b.1 r.1)
+    ∙ (ap (λ q. arrived e.at q (arrivals_sent settings es)) b.0.text_is
+    ∙ ap (λ (n : ℕ). let a : Arrival = record { time = n; packet = p } in a ∷ arrivals_sent settings es) (time_is settings es e.at r.0))))
 
 -- ---- they come from the history
-pairs_in : (conf : SendConf) (es : List Turned) (a : ℕ × Placed) → In a (pairs conf es) → In a.1 (placed (hist conf es))
-pairs_in conf [] a i = absurd i
-pairs_in conf (e ∷ es) a i =
-    let last : Placed = the_last (stream_of conf) (sents es) e.sent in
-    subst (λ (xs : List Placed). In a.1 xs) (sym (placed_grown (hist conf es) (entry_after conf.gens (sents es) e.sent))) (elim i [
-      | inl q ↦ in_right a.1 (placed (hist conf es)) (last ∷ []) (inl (ap (λ (x : ℕ × Placed). x.1) q))
-      | inr j ↦ in_left a.1 (placed (hist conf es)) (last ∷ []) (pairs_in conf es a j)
+pairs_in : (settings : SenderSettings) (es : List Turned) (a : ℕ × Placed) → In a (pairs settings es) → In a.1 (placed (hist settings es))
+pairs_in settings [] a i = absurd i
+pairs_in settings (e ∷ es) a i =
+    let last : Placed = the_last (stream_of settings) (sents es) e.sent in
+    subst (λ (xs : List Placed). In a.1 xs) (sym (placed_grown (hist settings es) (entry_after settings.generations (sents es) e.sent))) (elim i [
+      | inl q ↦ in_right a.1 (placed (hist settings es)) (last ∷ []) (inl (ap (λ (x : ℕ × Placed). x.1) q))
+      | inr j ↦ in_left a.1 (placed (hist settings es)) (last ∷ []) (pairs_in settings es a j)
     ])
 
 come_stays : (h : History) (f : Entry) (xs : List (ℕ × Placed)) → ((a : ℕ × Placed) → In a xs → In a.1 (placed h)) → come_from (grown h f) xs ≡ come_from h xs
@@ -95,50 +95,50 @@ come_stays h f (a ∷ xs) i =
     ap (λ (p : Packet). let x : Arrival = record { time = a.0; packet = p } in x ∷ come_from (grown h f) xs) (packet_stays h f a.1 (i a (inl refl)))
     ∙ ap (λ (ys : List Arrival). let x : Arrival = record { time = a.0; packet = own_packet h a.1 } in x ∷ ys) (come_stays h f xs (λ b j. i b (inr j)))
 
-come_is : (conf : SendConf) (es : List Turned) → come_from (hist conf es) (pairs conf es) ≡ arrivals_sent conf es
-come_is conf [] = refl
-come_is conf (e ∷ es) =
-    ap (λ (p : Packet). let x : Arrival = record { time = e.at; packet = p } in x ∷ come_from (hist conf (e ∷ es)) (pairs conf es)) (last_packet (stream_of conf) (sents es) e.sent)
-    ∙ ap (λ (ys : List Arrival). let x : Arrival = record { time = e.at; packet = packet_after (stream_of conf) (sents es) e.sent } in x ∷ ys)
-    (come_stays (hist conf es) (entry_after conf.gens (sents es) e.sent) (pairs conf es) (pairs_in conf es) ∙ come_is conf es)
+come_is : (settings : SenderSettings) (es : List Turned) → come_from (hist settings es) (pairs settings es) ≡ arrivals_sent settings es
+come_is settings [] = refl
+come_is settings (e ∷ es) =
+    ap (λ (p : Packet). let x : Arrival = record { time = e.at; packet = p } in x ∷ come_from (hist settings (e ∷ es)) (pairs settings es)) (last_packet (stream_of settings) (sents es) e.sent)
+    ∙ ap (λ (ys : List Arrival). let x : Arrival = record { time = e.at; packet = packet_after (stream_of settings) (sents es) e.sent } in x ∷ ys)
+    (come_stays (hist settings es) (entry_after settings.generations (sents es) e.sent) (pairs settings es) (pairs_in settings es) ∙ come_is settings es)
 
 -- ---- each is near, and in time
-last_place : (conf : SendConf) (es : List Turned) (e : Turned) → (the_last (stream_of conf) (sents es) e.sent).place ≡ length es
-last_place conf es e = length_sent conf.gens (sents es) ∙ length_sents es
+last_place : (settings : SenderSettings) (es : List Turned) (e : Turned) → (the_last (stream_of settings) (sents es) e.sent).place ≡ length es
+last_place settings es e = length_sent settings.generations (sents es) ∙ length_sents es
 
 -- these are the first entries of a lawful history
-record Front (conf : SendConf) (h : History) (es : List Turned) : Type 0 where
+record Front (settings : SenderSettings) (h : History) (es : List Turned) : Type 0 where
   law : Lawful h
-  first : h.first ≡ conf.seq
-  within : (a : ℕ × Placed) → In a (pairs conf es) → In a.1 (placed h)
+  first : h.first ≡ settings.seq
+  within : (a : ℕ × Placed) → In a (pairs settings es) → In a.1 (placed h)
 
-front_of : (conf : SendConf) (h : History) (e : Turned) (es : List Turned) → Front conf h (e ∷ es) → Front conf h es
-front_of conf h e es f = record { law = f.law; first = f.first; within = λ a i. f.within a (inr i) }
+front_of : (settings : SenderSettings) (h : History) (e : Turned) (es : List Turned) → Front settings h (e ∷ es) → Front settings h es
+front_of settings h e es f = record { law = f.law; first = f.first; within = λ a i. f.within a (inr i) }
 
-named_is : (conf : SendConf) (h : History) (e : Turned) (es : List Turned) → Front conf h (e ∷ es)
-    → entry_of h (own_packet h (the_last (stream_of conf) (sents es) e.sent)) ≡ the_last (stream_of conf) (sents es) e.sent
-named_is conf h e es f = names_own h (the_last (stream_of conf) (sents es) e.sent) f.law (f.within (e.at, the_last (stream_of conf) (sents es) e.sent) (inl refl))
+named_is : (settings : SenderSettings) (h : History) (e : Turned) (es : List Turned) → Front settings h (e ∷ es)
+    → entry_of h (own_packet h (the_last (stream_of settings) (sents es) e.sent)) ≡ the_last (stream_of settings) (sents es) e.sent
+named_is settings h e es f = names_own h (the_last (stream_of settings) (sents es) e.sent) f.law (f.within (e.at, the_last (stream_of settings) (sents es) e.sent) (inl refl))
 
-top_is : (conf : SendConf) (h : History) (es : List Turned) → Front conf h es → (top_place h (come_from h (pairs conf es)) ≤ length es) × (length es ≤ top_place h (come_from h (pairs conf es)) + 1)
-top_is conf h [] f = (omega arith, omega arith)
-top_is conf h (e ∷ es) f =
-    let r = top_is conf h es (front_of conf h e es f) in
-    let n = ap (λ (x : Placed). x.place) (named_is conf h e es f) ∙ last_place conf es e in
+top_is : (settings : SenderSettings) (h : History) (es : List Turned) → Front settings h es → (top_place h (come_from h (pairs settings es)) ≤ length es) × (length es ≤ top_place h (come_from h (pairs settings es)) + 1)
+top_is settings h [] f = (omega arith, omega arith)
+top_is settings h (e ∷ es) f =
+    let r = top_is settings h es (front_of settings h e es f) in
+    let n = ap (λ (x : Placed). x.place) (named_is settings h e es f) ∙ last_place settings es e in
     (omega (arith, r.0, r.1, n), omega (arith, r.0, r.1, n))
 
-near_one : (conf : SendConf) (h : History) (es : List Turned) (k : ℕ) → k ≡ length es → Front conf h es → IsNear h k (come_from h (pairs conf es))
-near_one conf h [] k e f = tt
-near_one conf h (x ∷ es) k e f = let r = top_is conf h (x ∷ es) f in (omega (arith, r.1), omega (arith, r.0))
+near_one : (settings : SenderSettings) (h : History) (es : List Turned) (k : ℕ) → k ≡ length es → Front settings h es → IsNear h k (come_from h (pairs settings es))
+near_one settings h [] k e f = tt
+near_one settings h (x ∷ es) k e f = let r = top_is settings h (x ∷ es) f in (omega (arith, r.1), omega (arith, r.0))
 
-near : (conf : SendConf) (h : History) (es : List Turned) → Front conf h es → NearEach h (pairs conf es)
-near conf h [] f = tt
-near conf h (e ∷ es) f =
-    let g = front_of conf h e es f in
-    (f.within (e.at, the_last (stream_of conf) (sents es) e.sent) (inl refl), (near_one conf h es (the_last (stream_of conf) (sents es) e.sent).place (last_place conf es e) g, near conf h es g))
+near : (settings : SenderSettings) (h : History) (es : List Turned) → Front settings h es → NearEach h (pairs settings es)
+near settings h [] f = tt
+near settings h (e ∷ es) f =
+    let g = front_of settings h e es f in
+    (f.within (e.at, the_last (stream_of settings) (sents es) e.sent) (inl refl), (near_one settings h es (the_last (stream_of settings) (sents es) e.sent).place (last_place settings es e) g, near settings h es g))
 
 -- ---- the numbers count up by one
-abbrev start : SendConf → ℕ
-start conf = conf.seq % 65536 + 65536
+abbrev start : SenderSettings → ℕ
+start settings = settings.seq % 65536 + 65536
 
 nearest_next : (first n top seq : ℕ) → top + 1 ≡ first % 65536 + 65536 + n → seq ≡ (first + n) % 65536 → nearest top seq ≡ first % 65536 + 65536 + n
 nearest_next first n top seq a b = omega arith
@@ -146,32 +146,32 @@ nearest_next first n top seq a b = omega arith
 first_seq : (first n seq : ℕ) → n ≡ 0 → seq ≡ (first + n) % 65536 → seq + 65536 ≡ first % 65536 + 65536 + n
 first_seq first n seq a b = omega arith
 
-seq_is : (conf : SendConf) (h : History) (e : Turned) (es : List Turned) → Front conf h (e ∷ es) → (own_packet h (the_last (stream_of conf) (sents es) e.sent)).seq ≡ (conf.seq + length es) % 65536
-seq_is conf h e es f = ap (λ n. (n + (the_last (stream_of conf) (sents es) e.sent).place) % 65536) f.first ∙ ap (λ n. (conf.seq + n) % 65536) (last_place conf es e)
+seq_is : (settings : SenderSettings) (h : History) (e : Turned) (es : List Turned) → Front settings h (e ∷ es) → (own_packet h (the_last (stream_of settings) (sents es) e.sent)).seq ≡ (settings.seq + length es) % 65536
+seq_is settings h e es f = ap (λ n. (n + (the_last (stream_of settings) (sents es) e.sent).place) % 65536) f.first ∙ ap (λ n. (settings.seq + n) % 65536) (last_place settings es e)
 
-record Counted (conf : SendConf) (h : History) (es : List Turned) : Type 0 where
-  below : (u : Numbered) → In u (numbered (come_from h (pairs conf es))) → u.number < start conf + length es
-  top : greatest (numbered (come_from h (pairs conf es))) ≤ start conf + length es
-  next : (seq : ℕ) → seq ≡ (conf.seq + length es) % 65536 → number_after (numbered (come_from h (pairs conf es))) seq ≡ start conf + length es
+record Counted (settings : SenderSettings) (h : History) (es : List Turned) : Type 0 where
+  below : (u : Numbered) → In u (numbered (come_from h (pairs settings es))) → u.number < start settings + length es
+  top : greatest (numbered (come_from h (pairs settings es))) ≤ start settings + length es
+  next : (seq : ℕ) → seq ≡ (settings.seq + length es) % 65536 → number_after (numbered (come_from h (pairs settings es))) seq ≡ start settings + length es
 
-counted : (conf : SendConf) (h : History) (es : List Turned) → Front conf h es → Counted conf h es
-counted conf h [] f = record { below = λ u i. absurd i; top = omega arith; next = λ seq q. first_seq conf.seq 0 seq refl q }
-counted conf h (e ∷ es) f =
-    let r = counted conf h es (front_of conf h e es f) in
-    let number = r.next (own_packet h (the_last (stream_of conf) (sents es) e.sent)).seq (seq_is conf h e es f) in
-    let most : greatest (numbered (come_from h (pairs conf (e ∷ es)))) + 1 ≡ start conf + length (e ∷ es) = greatest_is (numbered (come_from h (pairs conf es))) _ number r.below in
+counted : (settings : SenderSettings) (h : History) (es : List Turned) → Front settings h es → Counted settings h es
+counted settings h [] f = record { below = λ u i. absurd i; top = omega arith; next = λ seq q. first_seq settings.seq 0 seq refl q }
+counted settings h (e ∷ es) f =
+    let r = counted settings h es (front_of settings h e es f) in
+    let number = r.next (own_packet h (the_last (stream_of settings) (sents es) e.sent)).seq (seq_is settings h e es f) in
+    let most : greatest (numbered (come_from h (pairs settings (e ∷ es)))) + 1 ≡ start settings + length (e ∷ es) = greatest_is (numbered (come_from h (pairs settings es))) _ number r.below in
     record {
       below = λ u i. elim i [ inl q ↦ omega (arith, number, ap (λ (x : Numbered). x.number) q) | inr j ↦ omega (arith, r.below u j) ];
       top = omega (arith, most);
-      next = λ seq q. nearest_next conf.seq (length (e ∷ es)) (greatest (numbered (come_from h (pairs conf (e ∷ es))))) seq most q;
+      next = λ seq q. nearest_next settings.seq (length (e ∷ es)) (greatest (numbered (come_from h (pairs settings (e ∷ es))))) seq most q;
     }
   where
     below_all : (past : List Numbered) (n : ℕ) → 0 < n → ((u : Numbered) → In u past → u.number < n) → greatest past < n
     below_all [] n l b = omega arith
     below_all (u ∷ past) n l b = let r = below_all past n l (λ v i. b v (inr i)) in let k = b u (inl refl) in omega arith
 
-    greatest_is : (past : List Numbered) (n : ℕ) → n ≡ start conf + length es → ((u : Numbered) → In u past → u.number < start conf + length es) → max (greatest past) n + 1 ≡ start conf + length (e ∷ es)
-    greatest_is past n q b = let r = below_all past (start conf + length es) (omega arith) b in omega arith
+    greatest_is : (past : List Numbered) (n : ℕ) → n ≡ start settings + length es → ((u : Numbered) → In u past → u.number < start settings + length es) → max (greatest past) n + 1 ≡ start settings + length (e ∷ es)
+    greatest_is past n q b = let r = below_all past (start settings + length es) (omega arith) b in omega arith
 
 -- what has a greater number than all before it is in time
 first_le : (past : List Numbered) (m n : ℕ) → m ≤ n → ((u : Numbered) → In u past → u.number < n) → first_number m past ≤ n
@@ -217,48 +217,48 @@ place_under before [] x i = absurd i
 place_under before (e ∷ es) x (inl q) = let n = ap (λ (z : Placed). z.place) q in omega arith
 place_under before (e ∷ es) x (inr i) = let r = place_under (e ∷ before) es x i in omega arith
 
-places_are : (wait : ℕ) (conf : SendConf) (h : History) (es : List Turned) → Front conf h es → places wait h (come_from h (pairs conf es)) ≡ placed (hist conf es)
-places_are wait conf h [] f = refl
-places_are wait conf h (e ∷ es) f =
-    let last : Placed = the_last (stream_of conf) (sents es) e.sent in
-    let past = come_from h (pairs conf es) in
+places_are : (wait : ℕ) (settings : SenderSettings) (h : History) (es : List Turned) → Front settings h es → places wait h (come_from h (pairs settings es)) ≡ placed (hist settings es)
+places_are wait settings h [] f = refl
+places_are wait settings h (e ∷ es) f =
+    let last : Placed = the_last (stream_of settings) (sents es) e.sent in
+    let past = come_from h (pairs settings es) in
     let a : Arrival = record { time = e.at; packet = own_packet h last } in
-    let g = front_of conf h e es f in
-    let r = counted conf h es g in
-    let number = r.next (own_packet h last).seq (seq_is conf h e es f) in
+    let g = front_of settings h e es f in
+    let r = counted settings h es g in
+    let number = r.next (own_packet h last).seq (seq_is settings h e es f) in
     let came = greatest_in_time wait (number_it (numbered past) a) (numbered past) (λ u i. let k = r.below u i in omega (arith, number)) in
-    let all = length_sent conf.gens (sents es) in
+    let all = length_sent settings.generations (sents es) in
     let size = length_sents es in
-    let place = last_place conf es e in
+    let place = last_place settings es e in
     ap (λ b. cond b (by_place (entry_of h (own_packet h last)) (places wait h past)) (places wait h past)) came
-    ∙ (ap (λ x. by_place x (places wait h past)) (named_is conf h e es f)
-    ∙ (ap (by_place last) (places_are wait conf h es g)
-    ∙ (by_place_last last (placed (hist conf es)) (λ y i. let k = place_under [] (hist conf es).entries y i in omega arith)
-    ∙ sym (placed_grown (hist conf es) (entry_after conf.gens (sents es) e.sent)))))
+    ∙ (ap (λ x. by_place x (places wait h past)) (named_is settings h e es f)
+    ∙ (ap (by_place last) (places_are wait settings h es g)
+    ∙ (by_place_last last (placed (hist settings es)) (λ y i. let k = place_under [] (hist settings es).entries y i in omega arith)
+    ∙ sym (placed_grown (hist settings es) (entry_after settings.generations (sents es) e.sent)))))
 
 -- ---- what a recording gives
-pub record Arrives (conf : SendConf) (lines : List ScriptLine) (t : ℕ) (past : List Arrival) : Type 0 where
-  pub come : Come (history_sent conf (events_through lines t)) past
-  pub all : (wait : ℕ) → places wait (history_sent conf (events_through lines t)) past ≡ placed (history_sent conf (events_through lines t))
+pub record Arrives (settings : SenderSettings) (lines : List ScriptLine) (t : ℕ) (past : List Arrival) : Type 0 where
+  pub come : Come (history_sent settings (events_through lines t)) past
+  pub all : (wait : ℕ) → places wait (history_sent settings (events_through lines t)) past ≡ placed (history_sent settings (events_through lines t))
 
-came : (conf : SendConf) (lines : List ScriptLine) (t : ℕ) → IsConf conf → AreLines lines → t < 2 ^ 31 → Arrives conf lines t (arrivals_sent conf (sent_by conf (events_through lines t)))
-came conf lines t k a l =
-    let es = sent_by conf (events_through lines t) in
-    let h = history_sent conf (events_through lines t) in
-    let law = lawful_sent conf lines t k a l in
-    let f : Front conf h es = record { law = law; first = refl; within = pairs_in conf es } in
+came : (settings : SenderSettings) (lines : List ScriptLine) (t : ℕ) → AreSettings settings → AreLines lines → t < 2 ^ 31 → Arrives settings lines t (arrivals_sent settings (sent_by settings (events_through lines t)))
+came settings lines t k a l =
+    let es = sent_by settings (events_through lines t) in
+    let h = history_sent settings (events_through lines t) in
+    let law = lawful_sent settings lines t k a l in
+    let f : Front settings h es = record { law = law; first = refl; within = pairs_in settings es } in
     record {
-      come = subst (Come h) (come_is conf es) (own_come conf.gens h law (sent_own (stream_of conf) (sents es)) (pairs conf es) (near conf h es f));
-      all = λ wait. subst (λ (xs : List Arrival). places wait h xs ≡ placed h) (come_is conf es) (places_are wait conf h es f);
+      come = subst (Come h) (come_is settings es) (own_come settings.generations h law (sent_own (stream_of settings) (sents es)) (pairs settings es) (near settings h es f));
+      all = λ wait. subst (λ (xs : List Arrival). places wait h xs ≡ placed h) (come_is settings es) (places_are wait settings h es f);
     }
 
-pub recording_arrives : (conf : SendConf) (lines : List ScriptLine) (t : ℕ) → IsConf conf → conf.ssrc < 2 ^ 32 → AreLines lines → t < 2 ^ 31 → All (λ r. r.0 ≤ LAST_RECORD_MOMENT) (records_sent conf lines t)
-    → length (recording_sent conf lines t) ≤ usual_limit → Arrives conf lines t (arrivals (recording_sent conf lines t) conf.ssrc conf.pts)
+pub recording_arrives : (settings : SenderSettings) (lines : List ScriptLine) (t : ℕ) → AreSettings settings → settings.ssrc < 2 ^ 32 → AreLines lines → t < 2 ^ 31 → All (λ r. r.0 ≤ LAST_RECORD_MOMENT) (records_sent settings lines t)
+    → length (recording_sent settings lines t) ≤ usual_limit → Arrives settings lines t (arrivals (recording_sent settings lines t) settings.ssrc settings.payload_types)
 unfolding arrivals
-recording_arrives conf lines t k b a l early small =
-    let es = sent_by conf (events_through lines t) in
+recording_arrives settings lines t k b a l early small =
+    let es = sent_by settings (events_through lines t) in
     let script = script_through lines t a l in
-    let is : arrivals_after conf.ssrc conf.pts [] (dump usual_limit (recording_sent conf lines t)).items ≡ arrivals_sent conf es =
-    ap (λ (r : Recording). arrivals_after conf.ssrc conf.pts [] r.items) (items_back conf lines t k b a l early small)
-    ∙ arrive conf es (all_back conf (events_through lines t) k b script) (rises (stream_of conf) conf.interval (events_through lines t) k.gens (let m = k.least in omega arith) script) in
-    subst (Arrives conf lines t) (sym is) (came conf lines t k a l)
+    let is : arrivals_after settings.ssrc settings.payload_types [] (dump usual_limit (recording_sent settings lines t)).items ≡ arrivals_sent settings es =
+    ap (λ (r : Recording). arrivals_after settings.ssrc settings.payload_types [] r.items) (items_back settings lines t k b a l early small)
+    ∙ arrive settings es (all_back settings (events_through lines t) k b script) (rises (stream_of settings) settings.interval (events_through lines t) k.generations (let m = k.least in omega arith) script) in
+    subst (Arrives settings lines t) (sym is) (came settings lines t k a l)

@@ -9,8 +9,8 @@ use Rattle.stream_spec.specs.Own.{Sent, has_text_in}
 use Rattle.stream_spec.specs.Lists.{In}
 use Rattle.stream_spec.specs.Typed.{Event, Ask, Turned, sents, whole_front, last_end, due_at, entry_at, has_passed, IsScript}
 use Rattle.stream_spec.proofs.Typing.{entries_more, waits_less, waits_utf8, paced}
-use Rattle.text_sender.specs.declared.senders.SendConf.{SendConf}
-use Rattle.text_sender.specs.Confs.{IsConf, stream_of}
+use Rattle.text_sender.specs.declared.senders.SenderSettings.{SenderSettings}
+use Rattle.text_sender.specs.Settings.{AreSettings, stream_of}
 use Rattle.text_sender.specs.Standing.{sent_by, waits_for, has_more}
 use Rattle.command_spec.specs.Scripts.{events_before, events_until, events_through}
 use Rattle.rtt_send.proofs.Events.{before_suc, until_later, script_on, asked_until}
@@ -90,8 +90,8 @@ abbrev remaining : ℕ → List Turned → ℕ → ℕ
 remaining interval [] t = 0
 remaining interval (e ∷ es) t = (e.at + interval) - t
 
-abbrev potential : SendConf → List Event → ℕ → ℕ
-potential conf past t = 1000 * weight conf.gens (sent_by conf past) (waits_for conf past) + remaining conf.interval (sent_by conf past) t
+abbrev potential : SenderSettings → List Event → ℕ → ℕ
+potential settings past t = 1000 * weight settings.generations (sent_by settings past) (waits_for settings past) + remaining settings.interval (sent_by settings past) t
 
 and_more : (a b : Bool) → a ≡ true → (a && b) ≡ false → b ≡ false
 and_more true b h d = d
@@ -108,70 +108,70 @@ waits_on interval (e ∷ es) t h = let l : t < e.at + interval = early (e.at + i
     early : (a b : ℕ) → nat_le a b ≡ false → b < a
     early a b q = grind (arith, nat_tests)
 
-ask_falls : (conf : SendConf) (past : List Event) (t : ℕ) → IsConf conf → IsUtf8 (waits_for conf past)
-    → (has_more conf (Ask t ∷ past) ≡ false) ⊎ (potential conf (Ask t ∷ past) (suc t) + 1 ≤ potential conf past t)
-ask_falls conf past t k u = go (due_at (stream_of conf) conf.interval past t) refl
+ask_falls : (settings : SenderSettings) (past : List Event) (t : ℕ) → AreSettings settings → IsUtf8 (waits_for settings past)
+    → (has_more settings (Ask t ∷ past) ≡ false) ⊎ (potential settings (Ask t ∷ past) (suc t) + 1 ≤ potential settings past t)
+ask_falls settings past t k u = go (due_at (stream_of settings) settings.interval past t) refl
   where
-    sends : due_at (stream_of conf) conf.interval past t ≡ true → potential conf (Ask t ∷ past) (suc t) + 1 ≤ potential conf past t
+    sends : due_at (stream_of settings) settings.interval past t ≡ true → potential settings (Ask t ∷ past) (suc t) + 1 ≤ potential settings past t
     sends d =
-        let c = stream_of conf in
-        let es = sent_by conf past in
-        let w = waits_for conf past in
+        let c = stream_of settings in
+        let es = sent_by settings past in
+        let w = waits_for settings past in
         let e = entry_at c es w t in
-        let falls = weight_falls conf.gens es e w k.gens u refl (and_first (has_more conf past) (has_passed conf.interval es t) d) in
-        let is : potential conf (Ask t ∷ past) (suc t) ≡ 1000 * weight conf.gens (e ∷ es) (drop (length (whole_front MOST_TEXT_OCTETS w)) w) + ((t + conf.interval) - suc t) =
-        ap (λ (fs : List Turned). 1000 * weight conf.gens fs (waits_for conf (Ask t ∷ past)) + remaining conf.interval fs (suc t)) (entries_more c conf.interval past t d)
-        ∙ ap (λ (v : List ℕ). 1000 * weight conf.gens (e ∷ es) v + ((t + conf.interval) - suc t)) (waits_less c conf.interval past t d) in
+        let falls = weight_falls settings.generations es e w k.generations u refl (and_first (has_more settings past) (has_passed settings.interval es t) d) in
+        let is : potential settings (Ask t ∷ past) (suc t) ≡ 1000 * weight settings.generations (e ∷ es) (drop (length (whole_front MOST_TEXT_OCTETS w)) w) + ((t + settings.interval) - suc t) =
+        ap (λ (fs : List Turned). 1000 * weight settings.generations fs (waits_for settings (Ask t ∷ past)) + remaining settings.interval fs (suc t)) (entries_more c settings.interval past t d)
+        ∙ ap (λ (v : List ℕ). 1000 * weight settings.generations (e ∷ es) v + ((t + settings.interval) - suc t)) (waits_less c settings.interval past t d) in
         let l = k.least in
         let m = k.most in
-        below (potential conf (Ask t ∷ past) (suc t)) (weight conf.gens (e ∷ es) (drop (length (whole_front MOST_TEXT_OCTETS w)) w)) (weight conf.gens es w) (remaining conf.interval es t) t conf.interval is falls l m
+        below (potential settings (Ask t ∷ past) (suc t)) (weight settings.generations (e ∷ es) (drop (length (whole_front MOST_TEXT_OCTETS w)) w)) (weight settings.generations es w) (remaining settings.interval es t) t settings.interval is falls l m
       where
         below : (p new old rest s i : ℕ) → p ≡ 1000 * new + ((s + i) - suc s) → new + 1 ≤ old → 100 ≤ i → i ≤ 1000 → p + 1 ≤ 1000 * old + rest
         below p new old rest s i q f l m = omega arith
 
-    rests : due_at (stream_of conf) conf.interval past t ≡ false → (b : Bool) → has_more conf past ≡ b
-        → (has_more conf (Ask t ∷ past) ≡ false) ⊎ (potential conf (Ask t ∷ past) (suc t) + 1 ≤ potential conf past t)
+    rests : due_at (stream_of settings) settings.interval past t ≡ false → (b : Bool) → has_more settings past ≡ b
+        → (has_more settings (Ask t ∷ past) ≡ false) ⊎ (potential settings (Ask t ∷ past) (suc t) + 1 ≤ potential settings past t)
     rests d b h =
-        let same = idle conf past t d in
-        let more : has_more conf (Ask t ∷ past) ≡ has_more conf past =
-        ap (λ (w : List ℕ). has_text w || has_text_in conf.gens (sents (sent_by conf (Ask t ∷ past)))) same.waits
-        ∙ ap (λ (es : List Turned). has_text (waits_for conf past) || has_text_in conf.gens (sents es)) same.sent in
-        let is : potential conf (Ask t ∷ past) (suc t) ≡ potential conf past (suc t) =
-        ap (λ (w : List ℕ). 1000 * weight conf.gens (sent_by conf (Ask t ∷ past)) w + remaining conf.interval (sent_by conf (Ask t ∷ past)) (suc t)) same.waits
-        ∙ ap (λ (es : List Turned). 1000 * weight conf.gens es (waits_for conf past) + remaining conf.interval es (suc t)) same.sent in
+        let same = idle settings past t d in
+        let more : has_more settings (Ask t ∷ past) ≡ has_more settings past =
+        ap (λ (w : List ℕ). has_text w || has_text_in settings.generations (sents (sent_by settings (Ask t ∷ past)))) same.waits
+        ∙ ap (λ (es : List Turned). has_text (waits_for settings past) || has_text_in settings.generations (sents es)) same.sent in
+        let is : potential settings (Ask t ∷ past) (suc t) ≡ potential settings past (suc t) =
+        ap (λ (w : List ℕ). 1000 * weight settings.generations (sent_by settings (Ask t ∷ past)) w + remaining settings.interval (sent_by settings (Ask t ∷ past)) (suc t)) same.waits
+        ∙ ap (λ (es : List Turned). 1000 * weight settings.generations es (waits_for settings past) + remaining settings.interval es (suc t)) same.sent in
         case b h more is
       where
-        case : (b : Bool) → has_more conf past ≡ b → has_more conf (Ask t ∷ past) ≡ has_more conf past → potential conf (Ask t ∷ past) (suc t) ≡ potential conf past (suc t)
-            → (has_more conf (Ask t ∷ past) ≡ false) ⊎ (potential conf (Ask t ∷ past) (suc t) + 1 ≤ potential conf past t)
+        case : (b : Bool) → has_more settings past ≡ b → has_more settings (Ask t ∷ past) ≡ has_more settings past → potential settings (Ask t ∷ past) (suc t) ≡ potential settings past (suc t)
+            → (has_more settings (Ask t ∷ past) ≡ false) ⊎ (potential settings (Ask t ∷ past) (suc t) + 1 ≤ potential settings past t)
         case false q more is = inl (more ∙ q)
         case true q more is =
-            let late = waits_on conf.interval (sent_by conf past) t (and_more (has_more conf past) (has_passed conf.interval (sent_by conf past) t) q d) in
-            inr (sum (potential conf (Ask t ∷ past) (suc t)) (weight conf.gens (sent_by conf past) (waits_for conf past)) (remaining conf.interval (sent_by conf past) (suc t)) (remaining conf.interval (sent_by conf past) t) is late)
+            let late = waits_on settings.interval (sent_by settings past) t (and_more (has_more settings past) (has_passed settings.interval (sent_by settings past) t) q d) in
+            inr (sum (potential settings (Ask t ∷ past) (suc t)) (weight settings.generations (sent_by settings past) (waits_for settings past)) (remaining settings.interval (sent_by settings past) (suc t)) (remaining settings.interval (sent_by settings past) t) is late)
           where
             sum : (p n a b : ℕ) → p ≡ 1000 * n + a → a + 1 ≤ b → p + 1 ≤ 1000 * n + b
             sum p n a b q l = omega arith
 
-    go : (b : Bool) → due_at (stream_of conf) conf.interval past t ≡ b → (has_more conf (Ask t ∷ past) ≡ false) ⊎ (potential conf (Ask t ∷ past) (suc t) + 1 ≤ potential conf past t)
+    go : (b : Bool) → due_at (stream_of settings) settings.interval past t ≡ b → (has_more settings (Ask t ∷ past) ≡ false) ⊎ (potential settings (Ask t ∷ past) (suc t) + 1 ≤ potential settings past t)
     go true d = inr (sends d)
-    go false d = rests d (has_more conf past) refl
+    go false d = rests d (has_more settings past) refl
 
 -- where all lines were typed, each further ask takes a millisecond off, or nothing is left
-left_at : (conf : SendConf) (lines : List ScriptLine) (now k : ℕ) → IsConf conf → IsScript (events_until lines now) → All (λ l. l.at ≤ now) lines → now < k → k ≤ 2 ^ 31
-    → (has_more conf (events_before lines k) ≡ false) ⊎ (potential conf (events_before lines k) k + k ≤ potential conf (events_until lines now) now + now)
-left_at conf lines now zero c s a l m = absurd (omega arith)
-left_at conf lines now (suc k) c s a l m =
-    subst (λ (past : List Event). (has_more conf past ≡ false) ⊎ (potential conf past (suc k) + suc k ≤ potential conf (events_until lines now) now + now)) (sym (before_suc lines k)) (elim (cases_lt now k) [
+left_at : (settings : SenderSettings) (lines : List ScriptLine) (now k : ℕ) → AreSettings settings → IsScript (events_until lines now) → All (λ l. l.at ≤ now) lines → now < k → k ≤ 2 ^ 31
+    → (has_more settings (events_before lines k) ≡ false) ⊎ (potential settings (events_before lines k) k + k ≤ potential settings (events_until lines now) now + now)
+left_at settings lines now zero c s a l m = absurd (omega arith)
+left_at settings lines now (suc k) c s a l m =
+    subst (λ (past : List Event). (has_more settings past ≡ false) ⊎ (potential settings past (suc k) + suc k ≤ potential settings (events_until lines now) now + now)) (sym (before_suc lines k)) (elim (cases_lt now k) [
       | inl lt ↦ (
           let on = script_on lines now k a lt (omega arith) s in
           let same = until_later lines now k a lt in
-          subst (λ (past : List Event). (has_more conf (Ask k ∷ past) ≡ false) ⊎ (potential conf (Ask k ∷ past) (suc k) + suc k ≤ potential conf (events_until lines now) now + now)) (sym same)
-          (next (events_before lines k) on (left_at conf lines now k c s a lt (omega arith))))
+          subst (λ (past : List Event). (has_more settings (Ask k ∷ past) ≡ false) ⊎ (potential settings (Ask k ∷ past) (suc k) + suc k ≤ potential settings (events_until lines now) now + now)) (sym same)
+          (next (events_before lines k) on (left_at settings lines now k c s a lt (omega arith))))
       | inr ge ↦ (
           let q : now ≡ k = omega arith in
           let script : IsScript (events_until lines k) = subst (λ n. IsScript (events_until lines n)) q s in
-          elim (ask_falls conf (events_until lines k) k c (waits_utf8 (stream_of conf) conf.interval (events_until lines k) script)) [
+          elim (ask_falls settings (events_until lines k) k c (waits_utf8 (stream_of settings) settings.interval (events_until lines k) script)) [
             | inl none ↦ inl none
-            | inr falls ↦ inr (first (potential conf (events_through lines k) (suc k)) (potential conf (events_until lines k) k) (potential conf (events_until lines now) now) k now (ap (λ n. potential conf (events_until lines n) n) (sym q)) q falls)
+            | inr falls ↦ inr (first (potential settings (events_through lines k) (suc k)) (potential settings (events_until lines k) k) (potential settings (events_until lines now) now) k now (ap (λ n. potential settings (events_until lines n) n) (sym q)) q falls)
           ])
     ])
   where
@@ -181,36 +181,36 @@ left_at conf lines now (suc k) c s a l m =
     later : (p q r n m : ℕ) → p + 1 ≤ q → q + n ≤ r + m → p + suc n ≤ r + m
     later p q r n m a b = omega arith
 
-    next : (past : List Event) → IsScript past → (has_more conf past ≡ false) ⊎ (potential conf past k + k ≤ potential conf (events_until lines now) now + now)
-        → (has_more conf (Ask k ∷ past) ≡ false) ⊎ (potential conf (Ask k ∷ past) (suc k) + suc k ≤ potential conf (events_until lines now) now + now)
+    next : (past : List Event) → IsScript past → (has_more settings past ≡ false) ⊎ (potential settings past k + k ≤ potential settings (events_until lines now) now + now)
+        → (has_more settings (Ask k ∷ past) ≡ false) ⊎ (potential settings (Ask k ∷ past) (suc k) + suc k ≤ potential settings (events_until lines now) now + now)
     next past script (inl none) = inl (still past none)
       where
-        still : (past : List Event) → has_more conf past ≡ false → has_more conf (Ask k ∷ past) ≡ false
+        still : (past : List Event) → has_more settings past ≡ false → has_more settings (Ask k ∷ past) ≡ false
         still past none =
-            let same = idle conf past k (no_more conf past k none) in
-            ap (λ (w : List ℕ). has_text w || has_text_in conf.gens (sents (sent_by conf (Ask k ∷ past)))) same.waits
-            ∙ (ap (λ (es : List Turned). has_text (waits_for conf past) || has_text_in conf.gens (sents es)) same.sent ∙ none)
-    next past script (inr some) = elim (ask_falls conf past k c (waits_utf8 (stream_of conf) conf.interval past script)) [
+            let same = idle settings past k (no_more settings past k none) in
+            ap (λ (w : List ℕ). has_text w || has_text_in settings.generations (sents (sent_by settings (Ask k ∷ past)))) same.waits
+            ∙ (ap (λ (es : List Turned). has_text (waits_for settings past) || has_text_in settings.generations (sents es)) same.sent ∙ none)
+    next past script (inr some) = elim (ask_falls settings past k c (waits_utf8 (stream_of settings) settings.interval past script)) [
       | inl none ↦ inl none
-      | inr falls ↦ inr (later (potential conf (Ask k ∷ past) (suc k)) (potential conf past k) (potential conf (events_until lines now) now) k now falls some)
+      | inr falls ↦ inr (later (potential settings (Ask k ∷ past) (suc k)) (potential settings past k) (potential settings (events_until lines now) now) k now falls some)
     ]
 
-recent : (conf : SendConf) (past : List Event) (now : ℕ) (es : List Turned) → sent_by conf past ≡ es → ((e : Turned) → In e es → (e.sent.media ≤ e.at) × (e.at ≤ now)) → remaining conf.interval es now ≤ conf.interval
-recent conf past now [] q h = omega arith
-recent conf past now (e ∷ es) q h = let a = h e (inl refl) in omega (arith, a.1)
+recent : (settings : SenderSettings) (past : List Event) (now : ℕ) (es : List Turned) → sent_by settings past ≡ es → ((e : Turned) → In e es → (e.sent.media ≤ e.at) × (e.at ≤ now)) → remaining settings.interval es now ≤ settings.interval
+recent settings past now [] q h = omega arith
+recent settings past now (e ∷ es) q h = let a = h e (inl refl) in omega (arith, a.1)
 
 -- by then nothing is left
-pub ends_by : (conf : SendConf) (lines : List ScriptLine) (now n : ℕ) → IsConf conf → IsScript (events_until lines now) → All (λ l. l.at ≤ now) lines
-    → length (waits_for conf (events_until lines now)) ≤ MOST_WAITING_OCTETS → now + 65540000 ≤ n → n < 2 ^ 31 → has_more conf (events_through lines n) ≡ false
-ends_by conf lines now n c s a room late top =
-    subst (λ (past : List Event). has_more conf past ≡ false) (before_suc lines n) (elim (left_at conf lines now (suc n) c s a (omega arith) (omega arith)) [
+pub ends_by : (settings : SenderSettings) (lines : List ScriptLine) (now n : ℕ) → AreSettings settings → IsScript (events_until lines now) → All (λ l. l.at ≤ now) lines
+    → length (waits_for settings (events_until lines now)) ≤ MOST_WAITING_OCTETS → now + 65540000 ≤ n → n < 2 ^ 31 → has_more settings (events_through lines n) ≡ false
+ends_by settings lines now n c s a room late top =
+    subst (λ (past : List Event). has_more settings past ≡ false) (before_suc lines n) (elim (left_at settings lines now (suc n) c s a (omega arith) (omega arith)) [
       | inl none ↦ none
       | inr p ↦ (
           let past = events_until lines now in
-          let pace = paced (stream_of conf) conf.interval past c.gens (let l = c.least in omega arith) s in
+          let pace = paced (stream_of settings) settings.interval past c.generations (let l = c.least in omega arith) s in
           let asked = asked_until lines now in
-          let rest = recent conf past now (sent_by conf past) refl (λ e i. let r = pace.early e i in (r.0, omega (arith, r.1))) in
-          absurd (too_long (potential conf (events_before lines (suc n)) (suc n)) (potential conf past now) (length (waits_for conf past)) (rank conf.gens (sents (sent_by conf past))) (remaining conf.interval (sent_by conf past) now) conf.interval n now refl (let few = rank_le conf.gens (sents (sent_by conf past)) in let most = c.gens in omega (arith, few, most)) rest c.most room late p))
+          let rest = recent settings past now (sent_by settings past) refl (λ e i. let r = pace.early e i in (r.0, omega (arith, r.1))) in
+          absurd (too_long (potential settings (events_before lines (suc n)) (suc n)) (potential settings past now) (length (waits_for settings past)) (rank settings.generations (sents (sent_by settings past))) (remaining settings.interval (sent_by settings past) now) settings.interval n now refl (let few = rank_le settings.generations (sents (sent_by settings past)) in let most = c.generations in omega (arith, few, most)) rest c.most room late p))
     ])
   where
     too_long : (p q w r m i n now : ℕ) → q ≡ 1000 * (4 * w + r) + m → r ≤ 3 → m ≤ i → i ≤ 1000 → w ≤ MOST_WAITING_OCTETS → now + 65540000 ≤ n → p + suc n ≤ q + now → ⊥

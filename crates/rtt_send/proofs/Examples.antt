@@ -3,7 +3,7 @@ use Rattle.std.proofs.Common.{◌≡◌, ℕ, List, [], ◌∷◌, ◌++◌, Non
 use Rattle.std.specs.Prelude.{codes, ◌+◌, ◌-◌, ◌*◌, nat_lt, if◌then◌else◌}
 use Rattle.wire_spec.specs.Dump.{dump_opening}
 use Rattle.file_spec.specs.Script.{ScriptLine}
-use Rattle.command_spec.specs.Usual.{usual_pts}
+use Rattle.command_spec.specs.Usual.{usual_payload_types}
 use Rattle.command_spec.specs.Scripts.{Sending, events_before, full_line, first_from, first_end, recording}
 
 -- octets in hexadecimal digits
@@ -21,7 +21,7 @@ two = record { line = 1; at = 0; text = codes "A" } ∷ record { line = 2; at = 
 
 -- two generations, at most one packet in 3 ms
 often : Sending
-often = record { stream = record { ssrc = 1001; first = 0; base = 0; gens = 2 }; interval = 3; pts = usual_pts }
+often = record { stream = record { ssrc = 1001; first = 0; base = 0; generations = 2 }; interval = 3; payload_types = usual_payload_types }
 
 not_full : full_line often two ≡ None
 unfolding two often events_before

@@ -9,8 +9,8 @@ use Rattle.file_spec.specs.Script.{ScriptLine}
 use Rattle.stream_spec.proofs.Typing.{waits_more}
 use Rattle.command_spec.specs.Scripts as scripts
 use Rattle.command_spec.specs.Scripts.{InOrder, AreLines, events_until, events_through, or_later, first_from}
-use Rattle.text_sender.specs.declared.senders.SendConf.{SendConf}
-use Rattle.text_sender.specs.Confs.{IsConf, stream_of}
+use Rattle.text_sender.specs.declared.senders.SenderSettings.{SenderSettings}
+use Rattle.text_sender.specs.Settings.{AreSettings, stream_of}
 use Rattle.text_sender.specs.Standing.{waits_for, has_more}
 use Rattle.rtt_send.specs.Scripts.{sending_of, IsEnd, full_below, full_line, first_end, recording, recording_sent}
 use Rattle.rtt_send.proofs.Events.{none_before, until_one}
@@ -38,17 +38,17 @@ from_test (l ∷ more) t e =
     let this : l.at ≤ t = (let h = p.0 in grind (arith, nat_tests)) in
     All-cons (λ l. l.at ≤ t) l more this (from_test more t p.1)
 
-end_test : (conf : SendConf) (lines : List ScriptLine) (t : ℕ) → IsEnd conf lines t → scripts.is_end (sending_of conf) lines t ≡ true
-end_test conf lines t e = ap (λ b. b && not (has_more conf (events_through lines t))) (typed_test lines t e.all_typed) ∙ ap not e.all_sent
+end_test : (settings : SenderSettings) (lines : List ScriptLine) (t : ℕ) → IsEnd settings lines t → scripts.is_end (sending_of settings) lines t ≡ true
+end_test settings lines t e = ap (λ b. b && not (has_more settings (events_through lines t))) (typed_test lines t e.all_typed) ∙ ap not e.all_sent
 
 negated : (b : Bool) → not b ≡ true → b ≡ false
 negated true e = cc e
 negated false e = refl
 
-from_end_test : (conf : SendConf) (lines : List ScriptLine) (t : ℕ) → scripts.is_end (sending_of conf) lines t ≡ true → IsEnd conf lines t
-from_end_test conf lines t e =
-    let p = both (list_all (λ l. nat_le l.at t) lines) (not (has_more conf (events_through lines t))) e in
-    record { all_typed = from_test lines t p.0; all_sent = negated (has_more conf (events_through lines t)) p.1 }
+from_end_test : (settings : SenderSettings) (lines : List ScriptLine) (t : ℕ) → scripts.is_end (sending_of settings) lines t ≡ true → IsEnd settings lines t
+from_end_test settings lines t e =
+    let p = both (list_all (λ l. nat_le l.at t) lines) (not (has_more settings (events_through lines t))) e in
+    record { all_typed = from_test lines t p.0; all_sent = negated (has_more settings (events_through lines t)) p.1 }
 
 -- ---- the first that passes
 first_found : (p : ℕ → Bool) (n t u : ℕ) → t ≤ u → u < t + n → p u ≡ true → (p (first_from p n t) ≡ true) × (first_from p n t ≤ u)
@@ -67,11 +67,11 @@ first_found p (suc n) t u l m e = go (p t) refl (λ q. first_found p n (suc t) u
     go true q rest = (q, l)
     go false q rest = rest q
 
-pub is_first : (conf : SendConf) (lines : List ScriptLine) (t : ℕ) → t < 2 ^ 31 → IsEnd conf lines t → IsEnd conf lines (first_end conf lines) × (first_end conf lines ≤ t)
+pub is_first : (settings : SenderSettings) (lines : List ScriptLine) (t : ℕ) → t < 2 ^ 31 → IsEnd settings lines t → IsEnd settings lines (first_end settings lines) × (first_end settings lines ≤ t)
 unfolding scripts.first_end
-is_first conf lines t top e =
-    let f = first_found (scripts.is_end (sending_of conf) lines) (2 ^ 31) 0 t (omega arith) (omega arith) (end_test conf lines t e) in
-    (from_end_test conf lines (first_end conf lines) f.0, f.1)
+is_first settings lines t top e =
+    let f = first_found (scripts.is_end (sending_of settings) lines) (2 ^ 31) 0 t (omega arith) (omega arith) (end_test settings lines t e) in
+    (from_end_test settings lines (first_end settings lines) f.0, f.1)
 
 -- ---- there is one
 nil : (xs : List ScriptLine) → xs ++ [] ≡ xs
@@ -83,48 +83,48 @@ not_full true line more e = cc e
 not_full false line more e = (refl, e)
 
 -- the last line's moment, and that what waits then has room
-record Fits (conf : SendConf) (lines : List ScriptLine) : Type 0 where
+record Fits (settings : SenderSettings) (lines : List ScriptLine) : Type 0 where
   last : ℕ
   early : last ≤ LAST_MOMENT
   typed : All (λ l. l.at ≤ last) lines
-  room : length (waits_for conf (events_until lines last)) ≤ MOST_WAITING_OCTETS
+  room : length (waits_for settings (events_until lines last)) ≤ MOST_WAITING_OCTETS
 
-fits_on : (conf : SendConf) (above below : List ScriptLine) (now : ℕ) → All (λ l. l.at ≤ now) above → All (λ l. now ≤ l.at) below → InOrder below → All (λ l. l.at ≤ LAST_MOMENT) below
-    → now ≤ LAST_MOMENT → length (waits_for conf (events_until above now)) ≤ MOST_WAITING_OCTETS → full_below conf above below ≡ None → Fits conf (above ++ below)
-fits_on conf above [] now a later order early soon room full =
-    subst (Fits conf) (sym (nil above)) (let here : Fits conf above = record { last = now; early = soon; typed = a; room = room } in here)
-fits_on conf above (x ∷ more) now a later order early soon room full =
-    let n = not_full (nat_lt MOST_WAITING_OCTETS (length (waits_for conf (events_until above x.at)) + length x.text)) x.line (full_below conf (above ++ x ∷ []) more) full in
-    let fits : length (waits_for conf (events_until above x.at)) + length x.text ≤ MOST_WAITING_OCTETS = (let h = n.0 in grind (arith, nat_tests)) in
+fits_on : (settings : SenderSettings) (above below : List ScriptLine) (now : ℕ) → All (λ l. l.at ≤ now) above → All (λ l. now ≤ l.at) below → InOrder below → All (λ l. l.at ≤ LAST_MOMENT) below
+    → now ≤ LAST_MOMENT → length (waits_for settings (events_until above now)) ≤ MOST_WAITING_OCTETS → full_below settings above below ≡ None → Fits settings (above ++ below)
+fits_on settings above [] now a later order early soon room full =
+    subst (Fits settings) (sym (nil above)) (let here : Fits settings above = record { last = now; early = soon; typed = a; room = room } in here)
+fits_on settings above (x ∷ more) now a later order early soon room full =
+    let n = not_full (nat_lt MOST_WAITING_OCTETS (length (waits_for settings (events_until above x.at)) + length x.text)) x.line (full_below settings (above ++ x ∷ []) more) full in
+    let fits : length (waits_for settings (events_until above x.at)) + length x.text ≤ MOST_WAITING_OCTETS = (let h = n.0 in grind (arith, nat_tests)) in
     let after = All-head (λ l. now ≤ l.at) x more later in
     let typed = All-push (λ l. l.at ≤ x.at) above x (All-weaker (λ l. l.at ≤ now) (λ l. l.at ≤ x.at) (λ y h. omega arith) above a) (omega arith) in
-    let waits = ap (λ past. waits_for conf past) (until_one above x x.at refl) ∙ waits_more (stream_of conf) conf.interval (events_until above x.at) x.text in
+    let waits = ap (λ past. waits_for settings past) (until_one above x x.at refl) ∙ waits_more (stream_of settings) settings.interval (events_until above x.at) x.text in
     let many = ap (λ (w : List ℕ). length w) waits in
-    let roomy : length (waits_for conf (events_until (above ++ x ∷ []) x.at)) ≤ MOST_WAITING_OCTETS = omega (arith, fits, many, length-append (waits_for conf (events_until above x.at)) x.text) in
-    subst (Fits conf) (append_assoc above (x ∷ []) more)
-    (fits_on conf (above ++ x ∷ []) more x.at typed order.0 order.1 (All-tail (λ l. l.at ≤ LAST_MOMENT) x more early) (All-head (λ l. l.at ≤ LAST_MOMENT) x more early) roomy n.1)
+    let roomy : length (waits_for settings (events_until (above ++ x ∷ []) x.at)) ≤ MOST_WAITING_OCTETS = omega (arith, fits, many, length-append (waits_for settings (events_until above x.at)) x.text) in
+    subst (Fits settings) (append_assoc above (x ∷ []) more)
+    (fits_on settings (above ++ x ∷ []) more x.at typed order.0 order.1 (All-tail (λ l. l.at ≤ LAST_MOMENT) x more early) (All-head (λ l. l.at ≤ LAST_MOMENT) x more early) roomy n.1)
 
-fits_all : (conf : SendConf) (lines : List ScriptLine) → AreLines lines → full_line conf lines ≡ None → Fits conf lines
-fits_all conf lines a full =
-    let none : length (waits_for conf (events_until [] 0)) ≤ MOST_WAITING_OCTETS = subst (λ past. length (waits_for conf past) ≤ MOST_WAITING_OCTETS) (sym (none_before [])) (omega arith) in
-    fits_on conf [] lines 0 (All-nil (λ (l : ScriptLine). l.at ≤ 0)) (All-weaker (λ l. l.at ≤ LAST_MOMENT) (λ l. 0 ≤ l.at) (λ l h. omega arith) lines a.early) a.ordered a.early (omega arith) none full
+fits_all : (settings : SenderSettings) (lines : List ScriptLine) → AreLines lines → full_line settings lines ≡ None → Fits settings lines
+fits_all settings lines a full =
+    let none : length (waits_for settings (events_until [] 0)) ≤ MOST_WAITING_OCTETS = subst (λ past. length (waits_for settings past) ≤ MOST_WAITING_OCTETS) (sym (none_before [])) (omega arith) in
+    fits_on settings [] lines 0 (All-nil (λ (l : ScriptLine). l.at ≤ 0)) (All-weaker (λ l. l.at ≤ LAST_MOMENT) (λ l. 0 ≤ l.at) (λ l h. omega arith) lines a.early) a.ordered a.early (omega arith) none full
 
-some_end : (conf : SendConf) (lines : List ScriptLine) → IsConf conf → AreLines lines → full_line conf lines ≡ None → IsEnd conf lines 79999999
-some_end conf lines k a full =
-    let f = fits_all conf lines a full in
+some_end : (settings : SenderSettings) (lines : List ScriptLine) → AreSettings settings → AreLines lines → full_line settings lines ≡ None → IsEnd settings lines 79999999
+some_end settings lines k a full =
+    let f = fits_all settings lines a full in
     let script = script_through lines f.last a (let h = f.early in omega arith) in
     record {
       all_typed = All-weaker (λ l. l.at ≤ f.last) (λ l. l.at ≤ 79999999) (λ l h. omega (arith, f.early)) lines f.typed;
-      all_sent = ends_by conf lines f.last 79999999 k script.2 f.typed f.room (omega (arith, f.early)) (omega arith);
+      all_sent = ends_by settings lines f.last 79999999 k script.2 f.typed f.room (omega (arith, f.early)) (omega arith);
     }
 
 -- a script whose lines are accepted, and of which none is full, has a first end
-pub scripts_end : (conf : SendConf) (lines : List ScriptLine) → IsConf conf → AreLines lines → full_line conf lines ≡ None → IsEnd conf lines (first_end conf lines)
-scripts_end conf lines k a full = (is_first conf lines 79999999 (omega arith) (some_end conf lines k a full)).0
+pub scripts_end : (settings : SenderSettings) (lines : List ScriptLine) → AreSettings settings → AreLines lines → full_line settings lines ≡ None → IsEnd settings lines (first_end settings lines)
+scripts_end settings lines k a full = (is_first settings lines 79999999 (omega arith) (some_end settings lines k a full)).0
 
-pub ends_early : (conf : SendConf) (lines : List ScriptLine) → IsConf conf → AreLines lines → full_line conf lines ≡ None → first_end conf lines < 80000000
-ends_early conf lines k a full = (let h = (is_first conf lines 79999999 (omega arith) (some_end conf lines k a full)).1 in omega arith)
+pub ends_early : (settings : SenderSettings) (lines : List ScriptLine) → AreSettings settings → AreLines lines → full_line settings lines ≡ None → first_end settings lines < 80000000
+ends_early settings lines k a full = (let h = (is_first settings lines 79999999 (omega arith) (some_end settings lines k a full)).1 in omega arith)
 
 -- the recording up to any end is that up to the first one
-pub at_end : (conf : SendConf) (lines : List ScriptLine) (t : ℕ) → t < 2 ^ 31 → IsEnd conf lines t → recording_sent conf lines t ≡ recording conf lines
-at_end conf lines t top e = ends_agree conf lines t (first_end conf lines) e (is_first conf lines t top e).0
+pub at_end : (settings : SenderSettings) (lines : List ScriptLine) (t : ℕ) → t < 2 ^ 31 → IsEnd settings lines t → recording_sent settings lines t ≡ recording settings lines
+at_end settings lines t top e = ends_agree settings lines t (first_end settings lines) e (is_first settings lines t top e).0

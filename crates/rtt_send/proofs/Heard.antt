@@ -10,14 +10,14 @@ use Rattle.file_spec.specs.Script.{ScriptLine}
 use Rattle.stream_spec.specs.Lists.{In}
 use Rattle.stream_spec.specs.Hearing.{heard}
 use Rattle.stream_spec.specs.History.{History, Entry, Placed, Lawful, placed, placed_after}
-use Rattle.stream_spec.specs.Kept.{Item, Mark, Block, has_place, kept, blocks_in, NoGap, is_text_of}
+use Rattle.stream_spec.specs.Kept.{Item, Marker, Block, has_place, kept, blocks_in, NoGap, is_text_of}
 use Rattle.stream_spec.specs.Kept as kept_items
 use Rattle.stream_spec.specs.Typed.{sents, primaries}
-use Rattle.stream_spec.proofs.Gaps.{l4_no_mark, l4_all}
+use Rattle.stream_spec.proofs.Gaps.{l4_no_marker, l4_all}
 use Rattle.stream_spec.proofs.Walks.{l1}
 use Rattle.stream_spec.proofs.Sent.{was_sent}
-use Rattle.text_sender.specs.declared.senders.SendConf.{SendConf}
-use Rattle.text_sender.specs.Confs.{IsConf, stream_of}
+use Rattle.text_sender.specs.declared.senders.SenderSettings.{SenderSettings}
+use Rattle.text_sender.specs.Settings.{AreSettings, stream_of}
 use Rattle.text_sender.specs.Standing.{sent_by, history_sent}
 use Rattle.text_sender.proofs.Sending.{own_sents}
 use Rattle.stream_spec.proofs.Sent.{in_sent_of}
@@ -45,9 +45,9 @@ no_gap : (h : History) → NoGap (placed h)
 no_gap h = λ x y k i j l m. let u = place_under [] h.entries y j in has_all [] h.entries k (omega arith) (omega arith)
 
 -- ---- the texts of the blocks
-all_blocks : (items : List Item) → (In Mark items → ⊥) → concat (kept_items.texts items) ≡ flat_map (λ x. x.text) (blocks_in items)
+all_blocks : (items : List Item) → (In Marker items → ⊥) → concat (kept_items.texts items) ≡ flat_map (λ x. x.text) (blocks_in items)
 all_blocks [] n = refl
-all_blocks (Mark ∷ items) n = absurd (n (inl refl))
+all_blocks (Marker ∷ items) n = absurd (n (inl refl))
 all_blocks (Block x ∷ items) n = ap (λ xs. x.text ++ xs) (all_blocks items (λ i. n (inr i)))
 
 no_text : (xs : List ℕ) → has_text xs ≡ false → xs ≡ []
@@ -72,25 +72,25 @@ placed_texts before (e ∷ es) = ap (λ xs. e.text ++ xs) (placed_texts (e ∷ b
 
 all_heard : (h : History) (s : ℕ) → Lawful h → ((x : Placed) → In x (placed h) → x.source ≡ s) → concat (kept_items.texts (kept h (placed h) s)) ≡ primaries h
 all_heard h s law own =
-    all_blocks (kept h (placed h) s) (l4_no_mark h (placed h) s (no_gap h))
+    all_blocks (kept h (placed h) s) (l4_no_marker h (placed h) s (no_gap h))
     ∙ (ap (λ (xs : List Placed). flat_map (λ (x : Placed). x.text) xs) (l4_all h s law)
     ∙ (with_text s (placed h) own ∙ placed_texts [] h.entries))
 
-one_source : (conf : SendConf) (lines : List ScriptLine) (t : ℕ) → IsConf conf → AreLines lines → t < 2 ^ 31 → (x : Placed) → In x (placed (history_sent conf (events_through lines t))) → x.source ≡ conf.ssrc
-one_source conf lines t k a l x i =
+one_source : (settings : SenderSettings) (lines : List ScriptLine) (t : ℕ) → AreSettings settings → AreLines lines → t < 2 ^ 31 → (x : Placed) → In x (placed (history_sent settings (events_through lines t))) → x.source ≡ settings.ssrc
+one_source settings lines t k a l x i =
     let past = events_through lines t in
-    let zs = sents (sent_by conf past) in
-    let w = was_sent (stream_of conf) zs x i in
-    let own = own_sents conf past (let m = k.least in omega arith) (script_through lines t a l) in
-    w.source ∙ (in_sent_of conf.ssrc zs w.sent_one (subst (λ (ys : List Sent). In w.sent_one ys) (sym own) w.is_in)).1
+    let zs = sents (sent_by settings past) in
+    let w = was_sent (stream_of settings) zs x i in
+    let own = own_sents settings past (let m = k.least in omega arith) (script_through lines t a l) in
+    w.source ∙ (in_sent_of settings.ssrc zs w.sent_one (subst (λ (ys : List Sent). In w.sent_one ys) (sym own) w.is_in)).1
 
-pub script_heard : (conf : SendConf) (lines : List ScriptLine) (t wait : ℕ) → IsConf conf → conf.ssrc < 2 ^ 32 → AreLines lines → t < 2 ^ 31 → IsEnd conf lines t
-    → All (λ r. r.0 ≤ LAST_RECORD_MOMENT) (records_sent conf lines t) → length (recording_sent conf lines t) ≤ usual_limit
-    → concat (heard wait (arrivals (recording_sent conf lines t) conf.ssrc conf.pts) conf.ssrc) ≡ text_of_lines lines
-script_heard conf lines t wait k b a l e early small =
-    let h = history_sent conf (events_through lines t) in
-    let law = lawful_sent conf lines t k a l in
-    let r = recording_arrives conf lines t k b a l early small in
-    ap (λ (xs : List (List ℕ)). concat xs) (l1 wait h law (arrivals (recording_sent conf lines t) conf.ssrc conf.pts) r.come conf.ssrc)
-    ∙ (ap (λ (i : List Placed). concat (kept_items.texts (kept h i conf.ssrc))) (r.all wait)
-    ∙ (all_heard h conf.ssrc law (one_source conf lines t k a l) ∙ texts_sent conf lines t a e))
+pub script_heard : (settings : SenderSettings) (lines : List ScriptLine) (t wait : ℕ) → AreSettings settings → settings.ssrc < 2 ^ 32 → AreLines lines → t < 2 ^ 31 → IsEnd settings lines t
+    → All (λ r. r.0 ≤ LAST_RECORD_MOMENT) (records_sent settings lines t) → length (recording_sent settings lines t) ≤ usual_limit
+    → concat (heard wait (arrivals (recording_sent settings lines t) settings.ssrc settings.payload_types) settings.ssrc) ≡ text_of_lines lines
+script_heard settings lines t wait k b a l e early small =
+    let h = history_sent settings (events_through lines t) in
+    let law = lawful_sent settings lines t k a l in
+    let r = recording_arrives settings lines t k b a l early small in
+    ap (λ (xs : List (List ℕ)). concat xs) (l1 wait h law (arrivals (recording_sent settings lines t) settings.ssrc settings.payload_types) r.come settings.ssrc)
+    ∙ (ap (λ (i : List Placed). concat (kept_items.texts (kept h i settings.ssrc))) (r.all wait)
+    ∙ (all_heard h settings.ssrc law (one_source settings lines t k a l) ∙ texts_sent settings lines t a e))

@@ -7,10 +7,10 @@ use Rattle.wire_spec.specs.Dump.{dump_opening}
 use Rattle.file_spec.specs.Script.{ScriptLine}
 use Rattle.stream_spec.specs.Typed.{Text, due_at}
 use Rattle.stream_spec.proofs.Typing.{waits_more}
-use Rattle.text_sender.specs.declared.senders.SendConf.{SendConf}
-use Rattle.text_sender.specs.Confs.{IsConf, stream_of}
+use Rattle.text_sender.specs.declared.senders.SenderSettings.{SenderSettings}
+use Rattle.text_sender.specs.Settings.{AreSettings, stream_of}
 use Rattle.text_sender.specs.States.{State}
-use Rattle.text_sender.specs.Standing.{StandsFor, waits_for, next_due_of}
+use Rattle.text_sender.specs.Standing.{SenderStandsFor, waits_for, next_due_of}
 use Rattle.command_spec.specs.Scripts.{events_before, events_until, events_through}
 use Rattle.rtt_send.specs.Insides.{Records}
 use Rattle.rtt_send.proofs.Events.{none_before, until_one, until_later, script_on}
@@ -21,8 +21,8 @@ pub on_ok_with : {T E P Q : Type 0} (r : Result T E) → (IsOk r → P → Q) �
 on_ok_with (Ok x) f p = f (search rules) p
 on_ok_with (Err e) f p = p
 
-pub at_start : (conf : SendConf) (s : State) (octets : List ℕ) → IsConf conf → StandsFor conf s [] → octets ≡ dump_opening → Records conf s octets (events_until [] 0)
-at_start conf s octets k r e = subst (Records conf s octets) (sym (none_before [])) (let start : Records conf s octets [] = record { conf_is = k; sender = r; recorded = e ∙ opened; room = omega arith } in start)
+pub at_start : (settings : SenderSettings) (s : State) (octets : List ℕ) → AreSettings settings → SenderStandsFor settings s [] → octets ≡ dump_opening → Records settings s octets (events_until [] 0)
+at_start settings s octets k r e = subst (Records settings s octets) (sym (none_before [])) (let start : Records settings s octets [] = record { settings_is = k; sender = r; recorded = e ∙ opened; room = omega arith } in start)
   where
     nil : (xs : List ℕ) → xs ≡ xs ++ []
     nil [] = refl
@@ -31,33 +31,33 @@ at_start conf s octets k r e = subst (Records conf s octets) (sym (none_before [
     opened : dump_opening ≡ dump_opening ++ []
     opened = nil dump_opening
 
-pub typed_line : (conf : SendConf) (s new : State) (octets : List ℕ) (lines : List ScriptLine) (line : ScriptLine) (now : ℕ) → Records conf s octets (events_until lines now)
-    → StandsFor conf new (Text line.text ∷ events_until lines now) → now ≡ line.at → length (waits_for conf (events_until lines now)) + length line.text ≤ MOST_WAITING_OCTETS
-    → Records conf new octets (events_until (lines ++ line ∷ []) now)
-typed_line conf s new octets lines line now r stands e fits =
-    subst (Records conf new octets) (sym (until_one lines line now e)) (let after : Records conf new octets (Text line.text ∷ events_until lines now) = record {
-      conf_is = r.conf_is;
+pub typed_line : (settings : SenderSettings) (s new : State) (octets : List ℕ) (lines : List ScriptLine) (line : ScriptLine) (now : ℕ) → Records settings s octets (events_until lines now)
+    → SenderStandsFor settings new (Text line.text ∷ events_until lines now) → now ≡ line.at → length (waits_for settings (events_until lines now)) + length line.text ≤ MOST_WAITING_OCTETS
+    → Records settings new octets (events_until (lines ++ line ∷ []) now)
+typed_line settings s new octets lines line now r stands e fits =
+    subst (Records settings new octets) (sym (until_one lines line now e)) (let after : Records settings new octets (Text line.text ∷ events_until lines now) = record {
+      settings_is = r.settings_is;
       sender = stands;
       recorded = r.recorded;
-      room = let n = ap (λ (w : List ℕ). length w) (waits_more (stream_of conf) conf.interval (events_until lines now) line.text) in omega (arith, fits, length-append (waits_for conf (events_until lines now)) line.text);
+      room = let n = ap (λ (w : List ℕ). length w) (waits_more (stream_of settings) settings.interval (events_until lines now) line.text) in omega (arith, fits, length-append (waits_for settings (events_until lines now)) line.text);
     } in after)
 
 -- what was quiet from the last ask on
-skipped : (conf : SendConf) (s : State) (octets : List ℕ) (lines : List ScriptLine) (last k : ℕ) → Records conf s octets (events_through lines last) → All (λ l. l.at ≤ last) lines
-    → last < k → k ≤ 2 ^ 31 → ((t : ℕ) → last < t → t < k → due_at (stream_of conf) conf.interval (events_through lines last) t ≡ false) → Records conf s octets (events_until lines k)
-skipped conf s octets lines last k r a l top quiet =
-    subst (Records conf s octets) (sym (until_later lines last k a l))
-    (records_also conf s octets (events_before lines k) (events_through lines last) r (script_on lines last k a l top r.sender.script.2) (idle_on conf lines last k a l quiet))
+skipped : (settings : SenderSettings) (s : State) (octets : List ℕ) (lines : List ScriptLine) (last k : ℕ) → Records settings s octets (events_through lines last) → All (λ l. l.at ≤ last) lines
+    → last < k → k ≤ 2 ^ 31 → ((t : ℕ) → last < t → t < k → due_at (stream_of settings) settings.interval (events_through lines last) t ≡ false) → Records settings s octets (events_until lines k)
+skipped settings s octets lines last k r a l top quiet =
+    subst (Records settings s octets) (sym (until_later lines last k a l))
+    (records_also settings s octets (events_before lines k) (events_through lines last) r (script_on lines last k a l top r.sender.script.2) (idle_on settings lines last k a l quiet))
 
-pub skip_some : (conf : SendConf) (s : State) (octets : List ℕ) (lines : List ScriptLine) (last at m : ℕ) → Records conf s octets (events_through lines last) → All (λ l. l.at ≤ last) lines
-    → suc last ≤ at → at < 2 ^ 31 → Some m ≡ next_due_of conf (events_through lines last) → Records conf s octets (events_until lines (min m at)) × (suc last ≤ min m at)
-skip_some conf s octets lines last at m r a l top e =
-    let later = next_later conf (events_until lines last) last m (let h = r.conf_is.least in omega arith) e in
-    (skipped conf s octets lines last (min m at) r a (omega arith) (omega arith) (λ t lo hi. before_next conf (events_through lines last) m t e (omega arith)), omega arith)
+pub skip_some : (settings : SenderSettings) (s : State) (octets : List ℕ) (lines : List ScriptLine) (last at m : ℕ) → Records settings s octets (events_through lines last) → All (λ l. l.at ≤ last) lines
+    → suc last ≤ at → at < 2 ^ 31 → Some m ≡ next_due_of settings (events_through lines last) → Records settings s octets (events_until lines (min m at)) × (suc last ≤ min m at)
+skip_some settings s octets lines last at m r a l top e =
+    let later = next_later settings (events_until lines last) last m (let h = r.settings_is.least in omega arith) e in
+    (skipped settings s octets lines last (min m at) r a (omega arith) (omega arith) (λ t lo hi. before_next settings (events_through lines last) m t e (omega arith)), omega arith)
 
-pub skip_none : (conf : SendConf) (s : State) (octets : List ℕ) (lines : List ScriptLine) (last at : ℕ) → Records conf s octets (events_through lines last) → All (λ l. l.at ≤ last) lines
-    → suc last ≤ at → at < 2 ^ 31 → None ≡ next_due_of conf (events_through lines last) → Records conf s octets (events_until lines at)
-skip_none conf s octets lines last at r a l top e = skipped conf s octets lines last at r a (omega arith) (omega arith) (λ t lo hi. no_next conf (events_until lines last) last t e)
+pub skip_none : (settings : SenderSettings) (s : State) (octets : List ℕ) (lines : List ScriptLine) (last at : ℕ) → Records settings s octets (events_through lines last) → All (λ l. l.at ≤ last) lines
+    → suc last ≤ at → at < 2 ^ 31 → None ≡ next_due_of settings (events_through lines last) → Records settings s octets (events_until lines at)
+skip_none settings s octets lines last at r a l top e = skipped settings s octets lines last at r a (omega arith) (omega arith) (λ t lo hi. no_next settings (events_until lines last) last t e)
 
 pub typed_later : (lines : List ScriptLine) (m n : ℕ) → All (λ l. l.at ≤ m) lines → m ≤ n → All (λ l. l.at ≤ n) lines
 typed_later lines m n a l = All-weaker (λ l. l.at ≤ m) (λ l. l.at ≤ n) (λ x h. omega arith) lines a

@@ -9,8 +9,8 @@ use Rattle.file_spec.specs.Script.{ScriptLine}
 use Rattle.stream_spec.specs.History.{Lawful}
 use Rattle.stream_spec.specs.Own.{Closed}
 use Rattle.stream_spec.specs.Typed.{Event, Text, typed, IsScript, primaries}
-use Rattle.text_sender.specs.declared.senders.SendConf.{SendConf}
-use Rattle.text_sender.specs.Confs.{IsConf}
+use Rattle.text_sender.specs.declared.senders.SenderSettings.{SenderSettings}
+use Rattle.text_sender.specs.Settings.{AreSettings}
 use Rattle.text_sender.specs.Standing.{history_sent}
 use Rattle.text_sender.proofs.Scripts.{lawful, end_sent, end_closed}
 use Rattle.command_spec.specs.Scripts.{InOrder, AreLines, text_of_lines, typed_at, events_before, events_until, events_through}
@@ -72,11 +72,11 @@ all_typed lines t o e =
     (ap typed (none_before []))
 
 -- ---- the history
-pub lawful_sent : (conf : SendConf) (lines : List ScriptLine) (t : ℕ) → IsConf conf → AreLines lines → t < 2 ^ 31 → Lawful (history_sent conf (events_through lines t))
-lawful_sent conf lines t k a l = lawful conf (events_through lines t) k (script_through lines t a l)
+pub lawful_sent : (settings : SenderSettings) (lines : List ScriptLine) (t : ℕ) → AreSettings settings → AreLines lines → t < 2 ^ 31 → Lawful (history_sent settings (events_through lines t))
+lawful_sent settings lines t k a l = lawful settings (events_through lines t) k (script_through lines t a l)
 
-pub closed_sent : (conf : SendConf) (lines : List ScriptLine) (t : ℕ) → IsConf conf → AreLines lines → t < 2 ^ 31 → IsEnd conf lines t → Closed conf.gens (history_sent conf (events_through lines t))
-closed_sent conf lines t k a l e = end_closed conf (events_through lines t) k (script_through lines t a l) e.all_sent
+pub closed_sent : (settings : SenderSettings) (lines : List ScriptLine) (t : ℕ) → AreSettings settings → AreLines lines → t < 2 ^ 31 → IsEnd settings lines t → Closed settings.generations (history_sent settings (events_through lines t))
+closed_sent settings lines t k a l e = end_closed settings (events_through lines t) k (script_through lines t a l) e.all_sent
 
-pub texts_sent : (conf : SendConf) (lines : List ScriptLine) (t : ℕ) → AreLines lines → IsEnd conf lines t → primaries (history_sent conf (events_through lines t)) ≡ text_of_lines lines
-texts_sent conf lines t a e = sym (end_sent conf (events_through lines t) e.all_sent) ∙ all_typed lines t a.ordered e.all_typed
+pub texts_sent : (settings : SenderSettings) (lines : List ScriptLine) (t : ℕ) → AreLines lines → IsEnd settings lines t → primaries (history_sent settings (events_through lines t)) ≡ text_of_lines lines
+texts_sent settings lines t a e = sym (end_sent settings (events_through lines t) e.all_sent) ∙ all_typed lines t a.ordered e.all_typed

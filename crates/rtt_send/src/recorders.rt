@@ -6,7 +6,7 @@ use rtpdump_io::{write_opening, write_record};
 use rtt_base::{Bytes, Full, NoMemory, Packet};
 use script_text::ScriptLine;
 use std::alloc::Global;
-use text_sender::{SendConf, Sender};
+use text_sender::{SenderSettings, Sender};
 
 /// A sender that is asked at each millisecond, and the recording of what it sent. Milliseconds at which nothing is due
 /// are passed over.
@@ -21,21 +21,21 @@ pub struct Recorder {
 }
 
 impl Recorder {
-    ghost use Rattle.text_sender.specs.declared.senders.SendConf.{SendConf};
+    ghost use Rattle.text_sender.specs.declared.senders.SenderSettings.{SenderSettings};
     ghost use Rattle.file_spec.specs.Script as spec;
     ghost use Rattle.script_text.specs.ScriptLines.{line_of};
-    ghost use Rattle.text_sender.specs.Confs.{IsConf};
+    ghost use Rattle.text_sender.specs.Settings.{AreSettings};
     ghost use Rattle.text_sender.specs.Standing.{waits_for};
     ghost use Rattle.command_spec.specs.Scripts.{events_until};
     ghost use Rattle.rtt_send.specs.Insides.{IsAt, IsAsked, Known};
 
     /// A sender that was neither given a text nor asked.
-    pub fn new(alloc: Global, conf: SendConf) -> Result<Recorder, NoMemory>
-        requires { IsConf conf }
-        ensures at { IfOk result (λ r. IsAt conf [] r) }
+    pub fn new(alloc: Global, settings: SenderSettings) -> Result<Recorder, NoMemory>
+        requires { AreSettings settings }
+        ensures at { IfOk result (λ r. IsAt settings [] r) }
         ensures now { IfOk result (λ r. r.now ≡ 0) }
     {
-        let sender = Sender::new(alloc, conf)?;
+        let sender = Sender::new(alloc, settings)?;
         let mut octets = Bytes::new(alloc);
         write_opening(&mut octets)?;
         Ok(Recorder {
@@ -50,9 +50,9 @@ impl Recorder {
     pub fn type_line(&mut self, line: ScriptLine<'_>) -> Result<(), Full>
         requires text { IsUtf8 line.text.now }
         requires now { self.old.now ≡ line.at }
-        ensures room { (conf : SendConf) (lines : List spec.ScriptLine) → IsAt conf lines self.old
-            → (IsOk result ↔ (length (waits_for conf (events_until lines self.old.now)) + length line.entry.text.now ≤ MOST_WAITING_OCTETS)) }
-        ensures ok { OnOk result ((conf : SendConf) (lines : List spec.ScriptLine) → IsAt conf lines self.old → IsAt conf (lines ++ line_of line.entry ∷ []) self.new) }
+        ensures room { (settings : SenderSettings) (lines : List spec.ScriptLine) → IsAt settings lines self.old
+            → (IsOk result ↔ (length (waits_for settings (events_until lines self.old.now)) + length line.entry.text.now ≤ MOST_WAITING_OCTETS)) }
+        ensures ok { OnOk result ((settings : SenderSettings) (lines : List spec.ScriptLine) → IsAt settings lines self.old → IsAt settings (lines ++ line_of line.entry ∷ []) self.new) }
         ensures now { self.new.now ≡ self.old.now }
     {
         self.sender.typed(line.text)
@@ -62,7 +62,7 @@ impl Recorder {
     pub fn pass_to(&mut self, at: u64) -> Result<(), NoMemory>
         requires known { Known self.old }
         requires early { at < 2 ^ 31 }
-        ensures at { OnOk result ((conf : SendConf) (lines : List spec.ScriptLine) → IsAt conf lines self.old → IsAt conf lines self.new) }
+        ensures at { OnOk result ((settings : SenderSettings) (lines : List spec.ScriptLine) → IsAt settings lines self.old → IsAt settings lines self.new) }
         ensures now { OnOk result (self.old.now ≤ at → self.new.now ≡ at) }
     {
         while self.now < at {
@@ -76,7 +76,7 @@ impl Recorder {
     fn ask(&mut self) -> Result<(), NoMemory>
         requires known { Known self.old }
         requires early { self.old.now < 2 ^ 31 }
-        ensures asked { OnOk result ((conf : SendConf) (lines : List spec.ScriptLine) → IsAt conf lines self.old → IsAsked conf lines self.new) }
+        ensures asked { OnOk result ((settings : SenderSettings) (lines : List spec.ScriptLine) → IsAt settings lines self.old → IsAsked settings lines self.new) }
         ensures now { OnOk result (self.new.now ≡ self.old.now + 1) }
     {
         if self.sender.turn_into(self.now, &mut self.packet) {
@@ -90,9 +90,9 @@ impl Recorder {
     fn skip_to(&mut self, at: u64)
         requires room { self.old.now ≤ at }
         requires early { at < 2 ^ 31 }
-        ensures at { (conf : SendConf) (lines : List spec.ScriptLine) → IsAsked conf lines self.old → IsAt conf lines self.new }
+        ensures at { (settings : SenderSettings) (lines : List spec.ScriptLine) → IsAsked settings lines self.old → IsAt settings lines self.new }
         ensures within { self.new.now ≤ at }
-        ensures later { (conf : SendConf) (lines : List spec.ScriptLine) → IsAsked conf lines self.old → self.old.now ≤ self.new.now }
+        ensures later { (settings : SenderSettings) (lines : List spec.ScriptLine) → IsAsked settings lines self.old → self.old.now ≤ self.new.now }
     {
         self.now = match self.sender.next_due() {
             Some(due) => due.min(at),

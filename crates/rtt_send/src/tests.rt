@@ -1,5 +1,5 @@
 //! Scripts and the recordings of what they send, with octets by hand.
-use crate::{SendFault, send_script, usual_conf};
+use crate::{SendFault, send_script, usual_settings};
 use rtt_base::Bytes;
 use script_text::read_script;
 use std::alloc::Global;
@@ -9,7 +9,7 @@ use std::test::Fail;
 /// Sends the script of these octets, which has no bad line.
 fn sent(alloc: Global, script: &str) -> Result<Result<Bytes, SendFault>, Fail> {
     let lines = read_script(alloc, script.as_bytes())?;
-    Ok(send_script(alloc, &lines, usual_conf(1001, 0, 0)))
+    Ok(send_script(alloc, &lines, usual_settings(1001, 0, 0)))
 }
 
 /// The recording is its opening, and then these octets.

@@ -1,6 +1,6 @@
 -- Packets of a stream that are followed by their numbers.
 use Rattle.std.proofs.Common.{◌≡◌, ℕ, suc, ◌+◌, ◌-◌, Bool, false, Some, None, List, [], ◌∷◌, ◌++◌, length, refl, ap, sym, ◌∙◌, subst, arith, Result, Ok, Err}
-use Rattle.rtt_base.specs.declared.text_packets.Pts.{Pts}
+use Rattle.rtt_base.specs.declared.text_packets.PayloadTypes.{PayloadTypes}
 use Rattle.rtt_base.specs.declared.text_packets.TextPacket.{TextPacket}
 use Rattle.wire_spec.specs.declared.faults.TextFault.{TextFault}
 use Rattle.wire_spec.specs.Packets.{Packet, Arrival, packet_of}
@@ -12,15 +12,15 @@ use Rattle.gap_tracker.specs.Stories.{Story, given_of, begun}
 use Rattle.gap_tracker.specs.Stories as stories
 use Rattle.gap_tracker.specs.States.{State, current_of, with_packet}
 use Rattle.gap_tracker.specs.Tracks.{Tracks}
-use Rattle.gap_tracker.specs.Told.{Leads, Tells, Gives, came_current, is_current_in_time}
+use Rattle.gap_tracker.specs.Told.{LeadsStory, TellsStory, Gives, came_current, is_current_in_time}
 use Rattle.gap_tracker.proofs.Steps.{tracks_with}
 use Rattle.ear.specs.Hears.{IsToldOf}
 use Rattle.ear.proofs.ReadyBy.{told_arrived}
 use Rattle.show_spec.specs.Missed.{lost_count}
 use Rattle.show_spec.specs.Showing.{numbers_of}
-use Rattle.rtt_show.specs.declared.missed.Missed.{Missed}
+use Rattle.rtt_show.specs.declared.losses.Losses.{Losses}
 use Rattle.rtt_show.specs.declared.spreads.Spread.{Spread}
-use Rattle.rtt_show.specs.declared.strays.Came.{Came}
+use Rattle.rtt_show.specs.declared.strays.NumberedPacket.{NumberedPacket}
 use Rattle.rtt_show.specs.declared.strays.Follower.{Follower}
 use Rattle.rtt_show.specs.declared.strays.Strays.{Strays}
 use Rattle.rtt_show.specs.Spreads.{IsSpread, SpreadsBy}
@@ -41,10 +41,10 @@ abbrev newest_in_time : ℕ → List Arrival → Bool
 newest_in_time wait [] = false
 newest_in_time wait (a ∷ before) = in_time wait (number_it (numbered before) a) (numbered before)
 
-pub comes : (old new : Follower) (t : State) (at : ℕ) (c : Came) → Leads old.tracker t (came_current old.tracker at) → Tells old.tracker c.in_time (is_current_in_time old.tracker at) → Drains t new.tracker
-    → SpreadsBy old.spread (current_of old.tracker).seq c.number new.spread → CurrentComes old at c new
+pub comes : (old new : Follower) (t : State) (at : ℕ) (c : NumberedPacket) → LeadsStory old.buffer t (came_current old.buffer at) → TellsStory old.buffer c.in_time (is_current_in_time old.buffer at) → Drains t new.buffer
+    → SpreadsBy old.spread (current_of old.buffer).seq c.number new.spread → CurrentComes old at c new
 comes old new t at c leads tells drains spreads past f =
-    let p : Packet = packet_of (current_of old.tracker) in
+    let p : Packet = packet_of (current_of old.buffer) in
     let told : IsToldOf (stories.came f.story at p) (arriving past at p ∷ past) = told_arrived f.story past at (Ok p) f.told in
     let drained = drains (stories.came f.story at p) (leads f.story f.tracks) in
     let e : Numbered = number_it (numbered past) (arriving past at p) in
@@ -63,34 +63,34 @@ comes old new t at c leads tells drains spreads past f =
     )
 
 -- another packet is current at the tracker
-pub with_other : (f : Follower) (q : TextPacket) (past : List Arrival) → Follows f past → Follows (record f { tracker = with_packet f.tracker q }) past
-with_other f q past k = record { story = k.story; tracks = tracks_with f.tracker q k.story k.tracks; wait = k.wait; told = k.told; spread = k.spread }
+pub with_other : (f : Follower) (q : TextPacket) (past : List Arrival) → Follows f past → Follows (record f { buffer = with_packet f.buffer q }) past
+with_other f q past k = record { story = k.story; tracks = tracks_with f.buffer q k.story k.tracks; wait = k.wait; told = k.told; spread = k.spread }
 
-pub short_with : (n : ℕ) (f : Follower) (q : TextPacket) → IsShort n f → IsShort n (record f { tracker = with_packet f.tracker q })
+pub short_with : (n : ℕ) (f : Follower) (q : TextPacket) → IsShort n f → IsShort n (record f { buffer = with_packet f.buffer q })
 short_with n f q s = record { arrivals = s.arrivals; quiet = s.quiet; narrow = s.narrow }
 
 pub short_up : (n : ℕ) (f : Follower) → IsShort n f → IsShort (n + 1) f
 short_up n f s = record { arrivals = omega (arith, s.arrivals); quiet = s.quiet; narrow = record { packets = omega (arith, s.narrow.packets); top = omega (arith, s.narrow.top) } }
 
-pub follows_text : (old new : Follower) (q : TextPacket) (at : ℕ) (c : Came) (r : Result Packet TextFault) → r ≡ Ok (packet_of q) → CurrentComes (record old { tracker = with_packet old.tracker q }) at c new → FollowsMore old at r (Some c) new
+pub follows_text : (old new : Follower) (q : TextPacket) (at : ℕ) (c : NumberedPacket) (r : Result Packet TextFault) → r ≡ Ok (packet_of q) → CurrentComes (record old { buffer = with_packet old.buffer q }) at c new → FollowsMore old at r (Some c) new
 follows_text old new q at c r e m =
     let it : FollowsMore old at (Ok (packet_of q)) (Some c) new = λ past f. m past (with_other old q past f) in
     subst (λ (x : Result Packet TextFault). FollowsMore old at x (Some c) new) (sym e) it
 
-pub follows_other : (old : Follower) (q : TextPacket) (at : ℕ) (fault : TextFault) (r : Result Packet TextFault) → r ≡ Err fault → FollowsMore old at r None (record old { tracker = with_packet old.tracker q })
+pub follows_other : (old : Follower) (q : TextPacket) (at : ℕ) (fault : TextFault) (r : Result Packet TextFault) → r ≡ Err fault → FollowsMore old at r None (record old { buffer = with_packet old.buffer q })
 follows_other old q at fault r e =
-    let new : Follower = record old { tracker = with_packet old.tracker q } in
+    let new : Follower = record old { buffer = with_packet old.buffer q } in
     let it : FollowsMore old at (Err fault) None new = λ past f. with_other old q past f in
     subst (λ (x : Result Packet TextFault). FollowsMore old at x None new) (sym e) it
 
-pub follows_none : (f : Follower) → Tracks f.tracker (begun usual_wait) → IsSpread f.spread [] → Follows f []
+pub follows_none : (f : Follower) → Tracks f.buffer (begun usual_wait) → IsSpread f.spread [] → Follows f []
 follows_none f k s = record { story = begun usual_wait; tracks = k; wait = refl; told = record { arrivals = refl; moment = refl }; spread = s }
 
 -- ---- with what came twice or late
 pub bound_up : (n : ℕ) (f : Follower) (s : Strays) → IsShort (n + 1) f → IsFewStrays n s → IsBound (n + 1) f s
 bound_up n f s short few = (short, record { packets = omega (arith, few.packets); above = omega (arith, few.above) })
 
-pub strayed_some : (f g : Follower) (s t : Strays) (at : ℕ) (r : Result Packet TextFault) (c : Came) → FollowsMore f at r (Some c) g → StraysMore s c g.spread.first t → StrayedMore f s at r g t
+pub strayed_some : (f g : Follower) (s t : Strays) (at : ℕ) (r : Result Packet TextFault) (c : NumberedPacket) → FollowsMore f at r (Some c) g → StraysMore s c g.spread.first t → StrayedMore f s at r g t
 strayed_some f g s t at (Ok p) c m k = λ past h.
     let x = m past h.follows in
     record { follows = x.0; strays = k (numbered past) (number_it (numbered past) (arriving past at p)) x.1 x.0.spread.first h.strays }
@@ -111,15 +111,15 @@ lost_is spread above past i e =
     ∙ (ap (λ n. (greatest past - n) - above) i.first
     ∙ ap (λ n. (greatest past - first_number 0 past) - n) e)
 
-pub missed_strayed : (pts : Pts) (ssrc : ℕ) (f : Follower) (s : Strays) (m : Missed) (came : List Item) → m.lost ≡ (f.spread.top - f.spread.first) - s.above → m.late ≡ s.packets → Strayed f s (arrivals_after ssrc pts [] came) → IsMissed pts ssrc m came
-missed_strayed pts ssrc f s m came lost late h = record {
-  lost = lost ∙ lost_is f.spread s.above (numbers_of pts ssrc came) h.follows.spread h.strays.above;
+pub missed_strayed : (payload_types : PayloadTypes) (ssrc : ℕ) (f : Follower) (s : Strays) (m : Losses) (came : List Item) → m.lost ≡ (f.spread.top - f.spread.first) - s.above → m.late ≡ s.packets → Strayed f s (arrivals_after ssrc payload_types [] came) → IsMissed payload_types ssrc m came
+missed_strayed payload_types ssrc f s m came lost late h = record {
+  lost = lost ∙ lost_is f.spread s.above (numbers_of payload_types ssrc came) h.follows.spread h.strays.above;
   late = late ∙ h.strays.packets;
 }
 
-pub missed_in_order : (pts : Pts) (ssrc n above : ℕ) (spread : Spread) (m : Missed) (came : List Item) → spread.packets ≡ n → above ≡ n - 1 → m.lost ≡ (spread.top - spread.first) - above → m.late ≡ 0 → IsMissedOf pts ssrc spread n m came
-missed_in_order pts ssrc n above spread m came all less lost late i u =
-    let past = numbers_of pts ssrc came in
+pub missed_in_order : (payload_types : PayloadTypes) (ssrc n above : ℕ) (spread : Spread) (m : Losses) (came : List Item) → spread.packets ≡ n → above ≡ n - 1 → m.lost ≡ (spread.top - spread.first) - above → m.late ≡ 0 → IsMissedOf payload_types ssrc spread n m came
+missed_in_order payload_types ssrc n above spread m came all less lost late i u =
+    let past = numbers_of payload_types ssrc came in
     let count : n ≡ length past = sym all ∙ i.packets in
     let r = in_order usual_wait past (sym count ∙ u) in
     record {

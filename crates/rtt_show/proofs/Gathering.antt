@@ -9,19 +9,19 @@ use Rattle.rtpdump_io.specs.declared.readers.DumpReader.{DumpReader}
 use Rattle.rtpdump_io.specs.declared.readers.Stage.{Stage}
 use Rattle.rtpdump_io.specs.declared.readers.Stage.TheVariants.{Opening, Records, Ended}
 use Rattle.rtpdump_io.specs.Reading.{Breaks, broken, nothing, is_of_source, is_ended, answers_left, most_answers, source_of, to_come}
-use Rattle.rtt_show.specs.declared.found.Found.{Found}
+use Rattle.rtt_show.specs.declared.findings.Findings.{Findings}
 use Rattle.rtpdump_io.specs.declared.items.DumpFault.{DumpFault}
 use Rattle.rtpdump_io.specs.declared.items.RecordingFault.TheVariants.{Dump}
 use Rattle.command_spec.specs.Showing.{is_no_recording, if_no_recording}
 use Rattle.rtt_show.specs.Finds.{IsFound, IsSmall}
-use Rattle.rtt_show.specs.Gathers.{Gathered, IsRefused}
+use Rattle.rtt_show.specs.Gathers.{Gathered, RecordingIsRefused}
 use Rattle.rtt_show.specs.Whole.{ends}
 
 -- these records came, and of the recording the rest is still to come, where this tells it
-pub record Going {S : Type 0} (tells : Type 0) (left : S → List ℕ) (faults : S → ℕ) (name : S → List ℕ) (before : DumpReader S) (old : Found) (now : DumpReader S) (new : Found) : Type 0 where
+pub record Going {S : Type 0} (tells : Type 0) (left : S → List ℕ) (faults : S → ℕ) (name : S → List ℕ) (before : DumpReader S) (old : Findings) (now : DumpReader S) (new : Findings) : Type 0 where
   pub items : List Item
   pub not_ended : is_ended now ≡ false
-  pub pts : new.pts ≡ old.pts
+  pub payload_types : new.payload_types ≡ old.payload_types
   pub is_found : IsFound new items
   pub small : IsSmall (length items) new
   pub few : length items + most_answers now ≤ 4194306
@@ -59,7 +59,7 @@ not_both false true e n = refl
 not_both false false e n = absurd (true≢false e)
 
 module _ {S : Type 0} (tells : Type 0) (left : S → List ℕ) (faults : S → ℕ) (name : S → List ℕ) where
-  pub gathered_whole : (before now : DumpReader S) (old new : Found) → Going tells left faults name before old now new → (tells → to_come left now ≡ nothing) → Gathered tells (to_come left before) new None
+  pub gathered_whole : (before now : DumpReader S) (old new : Findings) → Going tells left faults name before old now new → (tells → to_come left now ≡ nothing) → Gathered tells (to_come left before) new None
   gathered_whole before now old new i e = record {
     items = i.items;
     is_found = i.is_found;
@@ -69,7 +69,7 @@ module _ {S : Type 0} (tells : Type 0) (left : S → List ℕ) (faults : S → �
     accepted = refl;
   }
 
-  pub gathered_front : (before now : DumpReader S) (old new : Found) (fault : DumpFault) → Going tells left faults name before old now new → (not (is_of_source fault.kind) && not (is_no_recording fault.kind)) ≡ true → (tells → Breaks fault.kind fault.offset (to_come left now))
+  pub gathered_front : (before now : DumpReader S) (old new : Findings) (fault : DumpFault) → Going tells left faults name before old now new → (not (is_of_source fault.kind) && not (is_no_recording fault.kind)) ≡ true → (tells → Breaks fault.kind fault.offset (to_come left now))
       → Gathered tells (to_come left before) new (Some fault)
   gathered_front before now old new fault i k b =
       let two = both_not (is_of_source fault.kind) (is_no_recording fault.kind) k in
@@ -82,8 +82,8 @@ module _ {S : Type 0} (tells : Type 0) (left : S → List ℕ) (faults : S → �
         accepted = ap (λ c. cond c (ends (Some fault)) None) two.1;
       }
 
-  pub refused_there : (before now : DumpReader S) (old new : Found) (fault : DumpFault) → Going tells left faults name before old now new → (not (is_of_source fault.kind) && not (is_no_recording fault.kind)) ≡ false → (tells → Breaks fault.kind fault.offset (to_come left now))
-      → tells → IsRefused (to_come left before) (Dump fault)
+  pub refused_there : (before now : DumpReader S) (old new : Findings) (fault : DumpFault) → Going tells left faults name before old now new → (not (is_of_source fault.kind) && not (is_no_recording fault.kind)) ≡ false → (tells → Breaks fault.kind fault.offset (to_come left now))
+      → tells → RecordingIsRefused (to_come left before) (Dump fault)
   refused_there before now old new fault i k b t n =
       ap (λ (r : Recording). if_no_recording r.fault) (i.is t ∙ ap (λ (r : Recording). record { items = i.items ++ r.items; fault = r.fault }) (broken_is fault.kind fault.offset (to_come left now) n (b t)))
       ∙ ap (λ c. cond c (ends (Some fault)) None) (not_both (is_of_source fault.kind) (is_no_recording fault.kind) k n)

@@ -18,7 +18,7 @@ use Rattle.command_spec.specs.Firsts.{Firsts, is_kept, has_room, with_kept, with
 use Rattle.command_spec.specs.Streams.{Sort, sort_of, named, naming, is_name}
 use Rattle.rtt_show.specs.declared.groups.Group.{Group}
 use Rattle.rtt_show.specs.declared.groups.Groups.{Groups}
-use Rattle.rtt_show.specs.Groups.{one_group, with_record, AddedAt, Holds, firsts_in, Grouped}
+use Rattle.rtt_show.specs.Groups.{one_group, with_record, AddedAt, GroupHolds, firsts_in, Grouped}
 use Rattle.rtt_show.proofs.Firsts.{eq_same, eq_is, none_other, apart}
 use Rattle.rtt_show.proofs.Surveying.{firsts_more}
 
@@ -60,7 +60,7 @@ names_of : Groups → List ℕ
 names_of g = map (λ group. group.name) g.groups.items
 
 -- a record that names nothing
-holds_passed : (of : Sort → Option ℕ) (items : List Item) (item : Item) (group : Group) → is_name group.name (of (sort_of item)) ≡ false → Holds of items group → Holds of (items ++ item ∷ []) group
+holds_passed : (of : Sort → Option ℕ) (items : List Item) (item : Item) (group : Group) → is_name group.name (of (sort_of item)) ≡ false → GroupHolds of items group → GroupHolds of (items ++ item ∷ []) group
 holds_passed of items item group e h =
     record { records = h.records; is = h.is; each = h.each; are = h.are ∙ sym (naming_other of group.name items item e) }
 
@@ -79,7 +79,7 @@ all_push P (y ∷ ys) x a p = (a.0, all_push P ys x a.1 p)
 written_more : (records : List (ℕ × List ℕ)) (r : ℕ × List ℕ) → flat_map record_written (records ++ r ∷ []) ≡ flat_map record_written records ++ record_written r
 written_more records r = flat_map-append record_written records (r ∷ []) ∙ ap (λ (xs : List ℕ). flat_map record_written records ++ xs) (append-nil (record_written r))
 
-holds_more : (of : Sort → Option ℕ) (items : List Item) (r : ℕ × List ℕ) (group : Group) → IsRecord r → of (sort_of (sent_item r)) ≡ Some group.name → Holds of items group → Holds of (items ++ sent_item r ∷ []) (with_record group r)
+holds_more : (of : Sort → Option ℕ) (items : List Item) (r : ℕ × List ℕ) (group : Group) → IsRecord r → of (sort_of (sent_item r)) ≡ Some group.name → GroupHolds of items group → GroupHolds of (items ++ sent_item r ∷ []) (with_record group r)
 holds_more of items r group is e h = record {
   records = h.records ++ r ∷ [];
   is = ap (λ xs. xs ++ record_written r) h.is ∙ sym (written_more h.records r);
@@ -87,7 +87,7 @@ holds_more of items r group is e h = record {
   are = map-append sent_item h.records (r ∷ []) ∙ (ap (λ xs. xs ++ sent_item r ∷ []) h.are ∙ sym (naming_one of group.name items (sent_item r) (ap (is_name group.name) e ∙ is_name_same group.name)));
 }
 
-holds_first : (of : Sort → Option ℕ) (items : List Item) (r : ℕ × List ℕ) (name : ℕ) → IsRecord r → of (sort_of (sent_item r)) ≡ Some name → naming of name items ≡ [] → Holds of (items ++ sent_item r ∷ []) (one_group name r)
+holds_first : (of : Sort → Option ℕ) (items : List Item) (r : ℕ × List ℕ) (name : ℕ) → IsRecord r → of (sort_of (sent_item r)) ≡ Some name → naming of name items ≡ [] → GroupHolds of (items ++ sent_item r ∷ []) (one_group name r)
 holds_first of items r name is e none = record {
   records = r ∷ [];
   is = sym (append-nil (record_written r));
@@ -131,7 +131,7 @@ pub grouped_at : (of : Sort → Option ℕ) (limit : ℕ) (old new : Groups) (it
 grouped_at of limit old new items name place r is e p a same w = record {
   firsts = firsts_are ∙ (w.firsts ∙ sym (named_some of items (sent_item r) name e ∙ kept_stays));
   below = subst (All (λ x. x < limit)) (sym same_names) w.below;
-  each = λ k d low. subst (λ (gs : List Group). Holds of (items ++ sent_item r ∷ []) (get_or gs k d)) (sym a.is) (each k d (omega (arith, low, size)));
+  each = λ k d low. subst (λ (gs : List Group). GroupHolds of (items ++ sent_item r ∷ []) (get_or gs k d)) (sym a.is) (each k d (omega (arith, low, size)));
 }
   where
     gs : List Group
@@ -160,15 +160,15 @@ grouped_at of limit old new items name place r is e p a same w = record {
     size : length new.groups.items ≡ length gs
     size = sym (length-map new.groups.items (λ group. group.name)) ∙ (ap (λ (xs : List ℕ). length xs) same_names ∙ length-map gs (λ group. group.name))
 
-    each : (k : ℕ) (d : Group) → k < length gs → Holds of (items ++ sent_item r ∷ []) (get_or (set gs place (with_record a.group r)) k d)
+    each : (k : ℕ) (d : Group) → k < length gs → GroupHolds of (items ++ sent_item r ∷ []) (get_or (set gs place (with_record a.group r)) k d)
     each k d low = by_place (cases_eq k place)
       where
-        by_place : (k ≡ place) ⊎ (k ≡ place → ⊥) → Holds of (items ++ sent_item r ∷ []) (get_or (set gs place (with_record a.group r)) k d)
+        by_place : (k ≡ place) ⊎ (k ≡ place → ⊥) → GroupHolds of (items ++ sent_item r ∷ []) (get_or (set gs place (with_record a.group r)) k d)
         by_place (inl here) =
-            subst (Holds of (items ++ sent_item r ∷ [])) (sym (ap (λ j. get_or (set gs place (with_record a.group r)) j d) here ∙ get_or-set_same gs place (with_record a.group r) d found.0))
-            (holds_more of items r a.group is (e ∙ ap Some (sym name_is)) (subst (Holds of items) a.there (w.each place a.group found.0)))
+            subst (GroupHolds of (items ++ sent_item r ∷ [])) (sym (ap (λ j. get_or (set gs place (with_record a.group r)) j d) here ∙ get_or-set_same gs place (with_record a.group r) d found.0))
+            (holds_more of items r a.group is (e ∙ ap Some (sym name_is)) (subst (GroupHolds of items) a.there (w.each place a.group found.0)))
         by_place (inr there) =
-            subst (Holds of (items ++ sent_item r ∷ [])) (sym (get_or-set_other gs place k (with_record a.group r) d there))
+            subst (GroupHolds of (items ++ sent_item r ∷ [])) (sym (get_or-set_other gs place k (with_record a.group r) d there))
             (holds_passed of items (sent_item r) (get_or gs k d) (ap (is_name (get_or gs k d).name) e ∙ not_name name (get_or gs k d).name (λ s. other_name of limit old items k place d w low found.0 there (s ∙ (sym name_is ∙ sym (ap (λ (x : Group). x.name) at_place))))) (w.each k d low))
           where
             at_place : get_or gs place d ≡ a.group
@@ -218,7 +218,7 @@ pub grouped_new : (of : Sort → Option ℕ) (limit : ℕ) (old new : Groups) (i
 grouped_new of limit old new items name r is small e unplaced room n same w = record {
   firsts = firsts_are ∙ sym (named_some of items (sent_item r) name e ∙ one_kept);
   below = subst (All (λ x. x < limit)) (sym names_are) (All-push (λ x. x < limit) (map (λ group. group.name) gs) name w.below small);
-  each = λ k d low. subst (λ (xs : List Group). Holds of (items ++ sent_item r ∷ []) (get_or xs k d)) (sym n) (each k d (omega (arith, low, ap (λ (xs : List Group). length xs) n, length-append gs (one_group name r ∷ []))));
+  each = λ k d low. subst (λ (xs : List Group). GroupHolds of (items ++ sent_item r ∷ []) (get_or xs k d)) (sym n) (each k d (omega (arith, low, ap (λ (xs : List Group). length xs) n, length-append gs (one_group name r ∷ []))));
 }
   where
     gs : List Group
@@ -241,14 +241,14 @@ grouped_new of limit old new items name r is small e unplaced room n same w = re
         ∙ (ap (λ k. record { kept = map (λ group. group.name) gs ++ name ∷ []; others = k }) same
         ∙ ap (λ f. with_kept f name) w.firsts))
 
-    each : (k : ℕ) (d : Group) → k < length gs + 1 → Holds of (items ++ sent_item r ∷ []) (get_or (gs ++ one_group name r ∷ []) k d)
+    each : (k : ℕ) (d : Group) → k < length gs + 1 → GroupHolds of (items ++ sent_item r ∷ []) (get_or (gs ++ one_group name r ∷ []) k d)
     each k d high = elim (cases_lt k (length gs)) [
       | inl below ↦
-          subst (Holds of (items ++ sent_item r ∷ [])) (sym (get_or_append_left gs (one_group name r ∷ []) d k below))
+          subst (GroupHolds of (items ++ sent_item r ∷ [])) (sym (get_or_append_left gs (one_group name r ∷ []) d k below))
           (holds_passed of items (sent_item r) (get_or gs k d) (ap (is_name (get_or gs k d).name) e ∙ not_name name (get_or gs k d).name (none_at gs name k d (none_placed gs name unplaced) below)) (w.each k d below))
       | inr over ↦
           let last : k ≡ length gs = omega (arith, over, high) in
-          subst (Holds of (items ++ sent_item r ∷ [])) (sym (ap (λ j. get_or (gs ++ one_group name r ∷ []) j d) last ∙ get_or-append_seam gs (one_group name r) [] d))
+          subst (GroupHolds of (items ++ sent_item r ∷ [])) (sym (ap (λ j. get_or (gs ++ one_group name r ∷ []) j d) last ∙ get_or-append_seam gs (one_group name r) [] d))
           (holds_first of items r name is e (fresh_from of (record { kept = []; others = 0 }) name items (not_named of limit old items name unplaced w) has_one))
     ]
 
@@ -258,7 +258,7 @@ pub grouped_other : (of : Sort → Option ℕ) (limit : ℕ) (old new : Groups) 
 grouped_other of limit old new items name r e unplaced over n same w = record {
   firsts = firsts_are ∙ sym (named_some of items (sent_item r) name e ∙ one_other);
   below = subst (All (λ x. x < limit)) (sym (ap (map (λ group. group.name)) n)) w.below;
-  each = λ k d low. subst (λ (xs : List Group). Holds of (items ++ sent_item r ∷ []) (get_or xs k d)) (sym n)
+  each = λ k d low. subst (λ (xs : List Group). GroupHolds of (items ++ sent_item r ∷ []) (get_or xs k d)) (sym n)
       (let below : k < length gs = omega (arith, low, ap (λ (xs : List Group). length xs) n) in
       holds_passed of items (sent_item r) (get_or gs k d) (ap (is_name (get_or gs k d).name) e ∙ not_name name (get_or gs k d).name (none_at gs name k d (none_placed gs name unplaced) below)) (w.each k d below));
 }

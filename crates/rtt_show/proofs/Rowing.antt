@@ -5,7 +5,7 @@ use Rattle.std.specs.List.{list_any}
 use Rattle.std.proofs.lemmas.Bool.{true≢false, eq-eqb, ne_eqb, lt-leb, le-leb, le-ltb}
 use Rattle.rtt_base.specs.Steps.{◌>>=◌}
 use Rattle.rtt_base.specs.declared.blocks.TextBlock.{TextBlock}
-use Rattle.rtt_base.specs.declared.text_packets.Pts.{Pts}
+use Rattle.rtt_base.specs.declared.text_packets.PayloadTypes.{PayloadTypes}
 use Rattle.rtt_base.specs.declared.limits.TheConstants.{MOST_PACKET_OCTETS}
 use Rattle.wire_spec.specs.declared.faults.RtpFault.{RtpFault}
 use Rattle.wire_spec.specs.declared.faults.TextFault.{TextFault}
@@ -35,7 +35,7 @@ use Rattle.terminal.specs.Terminals.{Heard, counts_of}
 use Rattle.rtt_show.specs.declared.spreads.Spread.{Spread}
 use Rattle.rtt_show.specs.declared.surveys.Survey.{Survey}
 use Rattle.rtt_show.specs.Rows.{AreTexts, Ascends, IsOrigin, IsRow, IsStraight, RowsMore, SurveysRow, begin_of, only}
-use Rattle.rtt_show.specs.Shown.{conf_of}
+use Rattle.rtt_show.specs.Shown.{settings_of}
 use Rattle.rtt_show.specs.Spreads.{IsSpread}
 use Rattle.rtt_show.specs.Surveys.{all_faults, firsts_of}
 use Rattle.rtt_show.proofs.Straying.{late_in_time, used_few}
@@ -59,20 +59,20 @@ accepted_in true true r k x e = absurd (true≢false (sym (ap has_ok e)))
 accepted_in true false r k x e = e
 accepted_in false several r k x e = absurd (true≢false (sym (ap has_ok e)))
 
-short_in : (octets : List ℕ) (asked : Option ℕ) (pts : Pts) (r : Reading) (p : Packet) → rtp octets ≡ Ok r → text_of_short octets asked pts ≡ Ok p → (p.source ≡ unwrap_or r.csrc r.ssrc) × (p.seq ≡ r.seq)
+short_in : (octets : List ℕ) (asked : Option ℕ) (payload_types : PayloadTypes) (r : Reading) (p : Packet) → rtp octets ≡ Ok r → text_of_short octets asked payload_types ≡ Ok p → (p.source ≡ unwrap_or r.csrc r.ssrc) × (p.seq ≡ r.seq)
 unfolding text_of_short
-short_in octets asked pts r p h e =
-    let k : Reading → Result Packet TextFault = λ read. refused_as blocks_fault (red read.payload read.pt pts) >>= (λ blocks. Ok (text_packet read blocks)) in
+short_in octets asked payload_types r p h e =
+    let k : Reading → Result Packet TextFault = λ read. refused_as blocks_fault (red read.payload read.pt payload_types) >>= (λ blocks. Ok (text_packet read blocks)) in
     let here : (refused_as header_fault (Ok r) >>= (λ reading. accepted asked reading >>= k)) ≡ Ok p = subst (λ (x : Result Reading RtpFault). (refused_as header_fault x >>= (λ reading. accepted asked reading >>= k)) ≡ Ok p) h e in
-    blocks_in (refused_as blocks_fault (red r.payload r.pt pts)) r p (accepted_in (is_asked asked r.ssrc) (nat_lt 1 r.cc) r k p here)
+    blocks_in (refused_as blocks_fault (red r.payload r.pt payload_types)) r p (accepted_in (is_asked asked r.ssrc) (nat_lt 1 r.cc) r k p here)
 
 pub origin_is : (octets : List ℕ) (r : Reading) (o : Origin) → rtp octets ≡ Ok r → o.source ≡ unwrap_or r.csrc r.ssrc → o.seq ≡ r.seq → IsOrigin o octets
 unfolding text_of
-origin_is octets r o h s n asked pts p e = let q = go (nat_lt MOST_PACKET_OCTETS (length octets)) e in (q.0 ∙ sym s, q.1 ∙ sym n)
+origin_is octets r o h s n asked payload_types p e = let q = go (nat_lt MOST_PACKET_OCTETS (length octets)) e in (q.0 ∙ sym s, q.1 ∙ sym n)
   where
-    go : (b : Bool) → cond b (Err Long) (text_of_short octets asked pts) ≡ Ok p → (p.source ≡ unwrap_or r.csrc r.ssrc) × (p.seq ≡ r.seq)
+    go : (b : Bool) → cond b (Err Long) (text_of_short octets asked payload_types) ≡ Ok p → (p.source ≡ unwrap_or r.csrc r.ssrc) × (p.seq ≡ r.seq)
     go true q = absurd (true≢false (sym (ap has_ok q)))
-    go false q = short_in octets asked pts r p h q
+    go false q = short_in octets asked payload_types r p h q
 
 -- ---- numbers
 top_is : (first : ℕ) (e : Numbered) (past : List Numbered) → Ascends first (e ∷ past) → greatest (e ∷ past) ≡ first + length past
@@ -160,21 +160,21 @@ one_arrives : (time : ℕ) (r : Result Packet TextFault) (before : List Arrival)
 one_arrives time (Ok p) before = omega arith
 one_arrives time (Err f) before = omega arith
 
-item_arrives : (ssrc : ℕ) (pts : Pts) (time : ℕ) (w : What) (before : List Arrival) → length (arrivals_with ssrc pts (record { time = time; what = w }) before) ≤ length before + 1
-item_arrives ssrc pts time (Whole octets) before = one_arrives time (text_of octets (Some ssrc) pts) before
-item_arrives ssrc pts time Rtcp before = omega arith
-item_arrives ssrc pts time Cut before = omega arith
-item_arrives ssrc pts time Large before = omega arith
+item_arrives : (ssrc : ℕ) (payload_types : PayloadTypes) (time : ℕ) (w : What) (before : List Arrival) → length (arrivals_with ssrc payload_types (record { time = time; what = w }) before) ≤ length before + 1
+item_arrives ssrc payload_types time (Whole octets) before = one_arrives time (text_of octets (Some ssrc) payload_types) before
+item_arrives ssrc payload_types time Rtcp before = omega arith
+item_arrives ssrc payload_types time Cut before = omega arith
+item_arrives ssrc payload_types time Large before = omega arith
 
-few_before : (ssrc : ℕ) (pts : Pts) (before : List Arrival) (came : List Item) → length (arrivals_after ssrc pts before came) ≤ length before + length came
-few_before ssrc pts before [] = omega arith
-few_before ssrc pts before (item ∷ came) =
-    let one : length (arrivals_with ssrc pts item before) ≤ length before + 1 = item_arrives ssrc pts item.time item.what before in
-    let rest : length (arrivals_after ssrc pts (arrivals_with ssrc pts item before) came) ≤ length (arrivals_with ssrc pts item before) + length came = few_before ssrc pts (arrivals_with ssrc pts item before) came in
+few_before : (ssrc : ℕ) (payload_types : PayloadTypes) (before : List Arrival) (came : List Item) → length (arrivals_after ssrc payload_types before came) ≤ length before + length came
+few_before ssrc payload_types before [] = omega arith
+few_before ssrc payload_types before (item ∷ came) =
+    let one : length (arrivals_with ssrc payload_types item before) ≤ length before + 1 = item_arrives ssrc payload_types item.time item.what before in
+    let rest : length (arrivals_after ssrc payload_types (arrivals_with ssrc payload_types item before) came) ≤ length (arrivals_with ssrc payload_types item before) + length came = few_before ssrc payload_types (arrivals_with ssrc payload_types item before) came in
     omega (arith, one, rest)
 
-few_arrive : (ssrc : ℕ) (pts : Pts) (came : List Item) → length (arrivals_after ssrc pts [] came) ≤ length came
-few_arrive ssrc pts came = omega (arith, few_before ssrc pts [] came)
+few_arrive : (ssrc : ℕ) (payload_types : PayloadTypes) (came : List Item) → length (arrivals_after ssrc payload_types [] came) ≤ length came
+few_arrive ssrc payload_types came = omega (arith, few_before ssrc payload_types [] came)
 
 length_more : {X : Type 0} (xs : List X) (x : X) → length (xs ++ x ∷ []) ≡ length xs + 1
 length_more [] x = refl
@@ -189,38 +189,38 @@ first_same : (old new : ℕ) (xs : List Numbered) → (0 < length xs → new ≡
 first_same old new [] e a = tt
 first_same old new (x ∷ xs) e a = subst (λ (k : ℕ). Ascends (k + 65536) (x ∷ xs)) (sym (e (omega arith))) a
 
-module _ (ssrc : ℕ) (pts : Pts) (old new : Row) (at : ℕ) (octets : List ℕ) (origin : Origin) (came : List Item) (o : IsOrigin origin octets) (m : RowsMore old at origin new) (n : old.packets ≡ length came) where
+module _ (ssrc : ℕ) (payload_types : PayloadTypes) (old new : Row) (at : ℕ) (octets : List ℕ) (origin : Origin) (came : List Item) (o : IsOrigin origin octets) (m : RowsMore old at origin new) (n : old.packets ≡ length came) where
   abbrev past : List Arrival
-  past = arrivals_after ssrc pts [] came
+  past = arrivals_after ssrc payload_types [] came
 
   abbrev item : Item
   item = sent_item (at, octets)
 
-  count : (r : Result Packet TextFault) → text_of octets (Some ssrc) pts ≡ r → AreTexts ssrc pts (came ++ item ∷ []) → length (arrived at r past) ≡ length came + 1
+  count : (r : Result Packet TextFault) → text_of octets (Some ssrc) payload_types ≡ r → AreTexts ssrc payload_types (came ++ item ∷ []) → length (arrived at r past) ≡ length came + 1
   count r x texts =
       ap (λ (r : Result Packet TextFault). length (arrived at r past)) (sym x)
-      ∙ (ap (λ (a : List Arrival). length a) (sym (arrives_more pts ssrc came at octets)) ∙ (texts ∙ length_more came item))
+      ∙ (ap (λ (a : List Arrival). length a) (sym (arrives_more payload_types ssrc came at octets)) ∙ (texts ∙ length_more came item))
 
-  text_more : (p : Packet) → text_of octets (Some ssrc) pts ≡ Ok p → length past ≡ length came → IsStraight old ssrc pts came → IsStraight new ssrc pts (came ++ item ∷ [])
+  text_more : (p : Packet) → text_of octets (Some ssrc) payload_types ≡ Ok p → length past ≡ length came → IsStraight old ssrc payload_types came → IsStraight new ssrc payload_types (came ++ item ∷ [])
   text_more p x before s =
-      let from = o (Some ssrc) pts p x in
+      let from = o (Some ssrc) payload_types p x in
       let all : length (numbered past) ≡ length came = numbered_length past ∙ before in
       let was : Ascends (new.first + 65536) (numbered past) = first_same old.first new.first (numbered past) (λ some. (m.still (omega (arith, n, all, some))).1) s.numbers in
       let seq : p.seq ≡ (new.first + length (numbered past)) % 65536 = from.1 ∙ (m.seq ∙ ap (λ (k : ℕ). (new.first + k) % 65536) (n ∙ sym all)) in
       let now : Ascends (new.first + 65536) (numbered (arrived at (Ok p) past)) = (number_is new.first p.seq (numbered past) was seq m.small, was) in
       record {
-        numbers = subst (λ (a : List Arrival). Ascends (new.first + 65536) (numbered a)) (sym (arrives_more pts ssrc came at octets))
+        numbers = subst (λ (a : List Arrival). Ascends (new.first + 65536) (numbered a)) (sym (arrives_more payload_types ssrc came at octets))
             (subst (λ (r : Result Packet TextFault). Ascends (new.first + 65536) (numbered (arrived at r past))) (sym x) now);
-        sources = firsts_more (λ i. source_in (text_at ssrc pts i)) came item
+        sources = firsts_more (λ i. source_in (text_at ssrc payload_types i)) came item
             ∙ rw x (ap (λ (f : Firsts). with_name f p.source) s.sources ∙ (ap (with_name (only old.source came)) (from.0 ∙ sym m.source) ∙ only_more old.source new.source came item (λ some. (m.still (omega (arith, n, some))).0)));
-        refused = λ fault. refused_more (hearing pts ssrc) came item fault ∙ rw x (s.refused fault);
+        refused = λ fault. refused_more (hearing payload_types ssrc) came item fault ∙ rw x (s.refused fault);
       }
 
-  straight_more : (AreTexts ssrc pts came → IsStraight old ssrc pts came) → AreTexts ssrc pts (came ++ item ∷ []) → IsStraight new ssrc pts (came ++ item ∷ [])
-  straight_more f texts = go (text_of octets (Some ssrc) pts) refl
+  straight_more : (AreTexts ssrc payload_types came → IsStraight old ssrc payload_types came) → AreTexts ssrc payload_types (came ++ item ∷ []) → IsStraight new ssrc payload_types (came ++ item ∷ [])
+  straight_more f texts = go (text_of octets (Some ssrc) payload_types) refl
     where
-      go : (r : Result Packet TextFault) → text_of octets (Some ssrc) pts ≡ r → IsStraight new ssrc pts (came ++ item ∷ [])
-      go (Err fault) x = let c : length past ≡ length came + 1 = count (Err fault) x texts in absurd (omega (arith, c, few_arrive ssrc pts came))
+      go : (r : Result Packet TextFault) → text_of octets (Some ssrc) payload_types ≡ r → IsStraight new ssrc payload_types (came ++ item ∷ [])
+      go (Err fault) x = let c : length past ≡ length came + 1 = count (Err fault) x texts in absurd (omega (arith, c, few_arrive ssrc payload_types came))
       go (Ok p) x =
           let c : suc (length past) ≡ length came + 1 = count (Ok p) x texts in
           let before : length past ≡ length came = omega (arith, c) in
@@ -248,7 +248,7 @@ row_more old new at octets origin o m came i =
       packets = m.packets ∙ (ap (λ n. n + 1) i.packets ∙ sym (length_more came item));
       from = m.from ∙ (ap (λ n. min n at) i.from ∙ sym (least_more came item));
       to = m.to ∙ (ap (λ n. max n at) i.to ∙ sym (greatest_more came item));
-      straight = λ ssrc pts texts. straight_more ssrc pts old new at octets origin came o m i.packets (i.straight ssrc pts) texts;
+      straight = λ ssrc payload_types texts. straight_more ssrc payload_types old new at octets origin came o m i.packets (i.straight ssrc payload_types) texts;
     }
 
 pub row_none : (row : Row) → row.packets ≡ 0 → row.from ≡ LAST_RECORD_MOMENT → row.to ≡ 0 → IsRow row []
@@ -256,7 +256,7 @@ row_none row n f t = record {
   packets = n;
   from = f;
   to = t;
-  straight = λ ssrc pts texts. record { numbers = tt; sources = refl; refused = λ fault. refl };
+  straight = λ ssrc payload_types texts. record { numbers = tt; sources = refl; refused = λ fault. refl };
 }
 
 -- ---- what is found out of a row
@@ -278,20 +278,20 @@ only_is source (x ∷ came) some = refl
 
 pub survey_is : (row : Row) (s : Survey) → 0 < row.packets → s.from ≡ row.from → s.to ≡ row.to → s.refused ≡ map (λ fault. 0) all_faults → firsts_of s.sources ≡ firsts (row.source ∷ []) → s.spread.packets ≡ row.packets → s.spread.first ≡ row.first + 65536 → s.spread.top ≡ row.first + 65536 + (row.packets - 1)
     → SurveysRow row s
-survey_is row s some from to refused sources p f t pts ssrc came i texts =
-    let straight = i.straight ssrc pts texts in
-    let past = arrivals_after ssrc pts [] came in
+survey_is row s some from to refused sources p f t payload_types ssrc came i texts =
+    let straight = i.straight ssrc payload_types texts in
+    let past = arrivals_after ssrc payload_types [] came in
     record {
       from = from ∙ i.from;
       to = to ∙ i.to;
-      refused = refused ∙ map_alike (λ fault. 0) (showing.refused_as (hearing pts ssrc) came) (λ fault. sym (straight.refused fault)) all_faults;
+      refused = refused ∙ map_alike (λ fault. 0) (showing.refused_as (hearing payload_types ssrc) came) (λ fault. sym (straight.refused fault)) all_faults;
       sources = sources ∙ (only_is row.source came (omega (arith, some, i.packets)) ∙ sym straight.sources);
       spread = spread_is row s.spread (numbered past) straight.numbers (i.packets ∙ (sym texts ∙ sym (numbered_length past))) some p f t;
     }
 
 -- where so many packets are used, each is one of text
-pub all_texts : (pts : Pts) (ssrc : ℕ) (row : Row) (t : Terminal) (sources : List ℕ) (came : List Item) → IsRow row came → Heard t (conf_of pts ssrc) sources came → (counts_of t).used ≡ row.packets → AreTexts ssrc pts came
-all_texts pts ssrc row t sources came i h u =
-    let past = arrivals_after ssrc pts [] came in
+pub all_texts : (payload_types : PayloadTypes) (ssrc : ℕ) (row : Row) (t : Terminal) (sources : List ℕ) (came : List Item) → IsRow row came → Heard t (settings_of payload_types ssrc) sources came → (counts_of t).used ≡ row.packets → AreTexts ssrc payload_types came
+all_texts payload_types ssrc row t sources came i h u =
+    let past = arrivals_after ssrc payload_types [] came in
     let is : (counts_of t).used ≡ length (used usual_wait (numbered past)) = ap (λ (n : Counts). n.used) h.counts in
-    omega (arith, is, u, i.packets, used_few usual_wait (numbered past), numbered_length past, few_arrive ssrc pts came)
+    omega (arith, is, u, i.packets, used_few usual_wait (numbered past), numbered_length past, few_arrive ssrc payload_types came)

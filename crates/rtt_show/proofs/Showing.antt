@@ -5,7 +5,7 @@ use Rattle.std.specs.List.{filter_map, list_any}
 use Rattle.std.proofs.lemmas.Bool.{lt-ltb}
 use Rattle.std.proofs.lemmas.List.{length-map, get_or-map}
 use Rattle.std.proofs.Math.ListN.{drop_of_length-le}
-use Rattle.rtt_base.specs.declared.text_packets.Pts.{Pts}
+use Rattle.rtt_base.specs.declared.text_packets.PayloadTypes.{PayloadTypes}
 use Rattle.rtt_base.specs.declared.limits.TheConstants.{MOST_SOURCES}
 use Rattle.wire_spec.specs.Dump.{Item, sent_item}
 use Rattle.source_receiver.specs.declared.source_texts.SourceText.{SourceText}
@@ -21,38 +21,38 @@ use Rattle.show_spec.specs.Showing.{numbers_of, title_of, stream_title, stream_v
 use Rattle.show_spec.specs.Guesses.{has_payload, filled, is_accepted, accepted, are_mostly_text, may_be_plain, guess, guess_line}
 use Rattle.show_spec.specs.Missed.{lost_count, late_count}
 use Rattle.command_spec.specs.Reading.{usual_wait}
-use Rattle.rtt_show.specs.declared.missed.Missed.{Missed}
+use Rattle.rtt_show.specs.declared.losses.Losses.{Losses}
 use Rattle.rtt_show.specs.Missed.{IsMissed, IsMissedOf}
 use Rattle.terminal.specs.declared.terminals.Terminal.{Terminal}
 use Rattle.terminal.specs.Terminals.{texts_of, counts_of, IsTextOf, Heard}
 use Rattle.terminal.specs.Views.{named}
 use Rattle.rtt_show.specs.declared.surveys.Survey.{Survey}
 use Rattle.rtt_show.specs.declared.signs.Signs.{Signs}
-use Rattle.rtt_show.specs.declared.found.Found.{Found}
+use Rattle.rtt_show.specs.declared.findings.Findings.{Findings}
 use Rattle.rtt_show.specs.declared.groups.Group.{Group}
 use Rattle.rtt_show.specs.declared.groups.Groups.{Groups}
 use Rattle.rtt_show.specs.declared.views.Shape.{Shape}
 use Rattle.rtt_show.specs.declared.views.Shape.TheVariants.{Stream, Pair}
 use Rattle.rtpdump_io.specs.InMemory.{AreRecords}
 use Rattle.rtt_show.specs.Records.{OfRecords}
-use Rattle.rtt_show.specs.Groups.{Holds, Grouped}
+use Rattle.rtt_show.specs.Groups.{GroupHolds, Grouped}
 use Rattle.rtt_show.specs.Finds.{IsFound}
 use Rattle.rtt_show.specs.Whole.{shape_limit, shape_view, IsGroupOf, AreShown, others_text}
 use Rattle.rtt_show.specs.Signs.{AreSigns}
 use Rattle.rtt_show.specs.Surveys.{IsSurvey, all_faults}
-use Rattle.rtt_show.specs.Shown.{asked, conf_of, heard_text, pair_line}
+use Rattle.rtt_show.specs.Shown.{asked, settings_of, heard_text, pair_line}
 use Rattle.rtt_show.specs.Finds.{one_if}
 use Rattle.rtt_show.proofs.Surveying.{count_more}
 use Rattle.rtt_show.proofs.Firsts.{apart, few}
 
 -- ---- the sources that are named
-pub sources_few : (pts : Pts) (ssrc : ℕ) (s : Survey) (came : List Item) → IsSurvey pts ssrc s came → length s.sources.kept.items ≤ MOST_SOURCES
-sources_few pts ssrc s came i =
-    subst (λ (f : Firsts). length f.kept ≤ MOST_SOURCES) (sym i.sources) (few (record { kept = []; others = 0 }) (filter_map (λ item. source_in (streams.text_at ssrc pts item)) came) (omega arith))
+pub sources_few : (payload_types : PayloadTypes) (ssrc : ℕ) (s : Survey) (came : List Item) → IsSurvey payload_types ssrc s came → length s.sources.kept.items ≤ MOST_SOURCES
+sources_few payload_types ssrc s came i =
+    subst (λ (f : Firsts). length f.kept ≤ MOST_SOURCES) (sym i.sources) (few (record { kept = []; others = 0 }) (filter_map (λ item. source_in (streams.text_at ssrc payload_types item)) came) (omega arith))
 
-pub sources_differ : (pts : Pts) (ssrc : ℕ) (s : Survey) (came : List Item) → IsSurvey pts ssrc s came → AllPairs (λ a b. a ≢ b) s.sources.kept.items
-sources_differ pts ssrc s came i =
-    subst (λ (f : Firsts). AllPairs (λ a b. a ≢ b) f.kept) (sym i.sources) (apart (record { kept = []; others = 0 }) (filter_map (λ item. source_in (streams.text_at ssrc pts item)) came) (λ a b d low high. absurd (omega (arith, high))))
+pub sources_differ : (payload_types : PayloadTypes) (ssrc : ℕ) (s : Survey) (came : List Item) → IsSurvey payload_types ssrc s came → AllPairs (λ a b. a ≢ b) s.sources.kept.items
+sources_differ payload_types ssrc s came i =
+    subst (λ (f : Firsts). AllPairs (λ a b. a ≢ b) f.kept) (sym i.sources) (apart (record { kept = []; others = 0 }) (filter_map (λ item. source_in (streams.text_at ssrc payload_types item)) came) (λ a b d low high. absurd (omega (arith, high))))
 
 pub enough_texts : (ssrc : ℕ) (sources : List ℕ) (texts : List SourceText) → length texts ≡ length (asked ssrc sources) → length sources ≤ length texts
 enough_texts ssrc [] texts e = omega arith
@@ -78,23 +78,23 @@ asked_is r came (s ∷ sources) texts n f = named_is r came (s ∷ sources) text
 refusals_are : (r : Reception) (came : List Item) (counts : List ℕ) → counts ≡ map (refused_as r came) all_faults → flat_map (λ fault. refusal_line fault (slice_index counts (place_of fault))) refusals ≡ refusal_lines r came
 refusals_are r came counts e = ap (λ ns. flat_map (λ fault. refusal_line fault (slice_index ns (place_of fault))) refusals) e ∙ refl
 
-pub stream_shown : (pts : Pts) (ssrc : ℕ) (s : Survey) (t : Terminal) (m : Missed) (came : List Item) → IsSurvey pts ssrc s came → Heard t (conf_of pts ssrc) (asked ssrc s.sources.kept.items) came → IsMissed pts ssrc m came
-    → title_of ssrc s.from s.to m.lost m.late ++ heard_text s t ≡ stream_view pts ssrc came
+pub stream_shown : (payload_types : PayloadTypes) (ssrc : ℕ) (s : Survey) (t : Terminal) (m : Losses) (came : List Item) → IsSurvey payload_types ssrc s came → Heard t (settings_of payload_types ssrc) (asked ssrc s.sources.kept.items) came → IsMissed payload_types ssrc m came
+    → title_of ssrc s.from s.to m.lost m.late ++ heard_text s t ≡ stream_view payload_types ssrc came
 unfolding stream_view stream_title
-stream_shown pts ssrc s t m came i h missed =
-    let r = hearing pts ssrc in
+stream_shown payload_types ssrc s t m came i h missed =
+    let r = hearing payload_types ssrc in
     let kept = s.sources.kept.items in
     ap (λ n. title_of ssrc n s.to m.lost m.late ++ heard_text s t) i.from
     ∙ (ap (λ n. title_of ssrc (streams_least came) n m.lost m.late ++ heard_text s t) i.to
     ∙ (ap (λ n. title_of ssrc (streams_least came) (greatest_time came) n m.late ++ heard_text s t) missed.lost
-    ∙ (ap (λ n. title_of ssrc (streams_least came) (greatest_time came) (lost_count (numbers_of pts ssrc came)) n ++ heard_text s t) missed.late
+    ∙ (ap (λ n. title_of ssrc (streams_least came) (greatest_time came) (lost_count (numbers_of payload_types ssrc came)) n ++ heard_text s t) missed.late
     ∙ (ap (λ (xs : List Source). title came ++ (flat_map source_view xs ++ counts_line (counts_of t) ++ lines s ++ last s)) (asked_is r came kept (texts_of t) h.each h.texts)
     ∙ (ap (λ (n : Counts). title came ++ (flat_map source_view (sources_seen r kept came) ++ counts_line n ++ lines s ++ last s)) h.counts
     ∙ (ap (λ xs. title came ++ (flat_map source_view (sources_seen r kept came) ++ counts_line (counts_at r came) ++ xs ++ last s)) (refusals_are r came s.refused i.refused)
     ∙ ap (λ (f : Firsts). title came ++ (flat_map source_view (sources_seen r f.kept came) ++ counts_line (counts_at r came) ++ refusal_lines r came ++ number_line (codes "-- other sources ") f.others)) i.sources))))))
   where
     title : List Item → List ℕ
-    title xs = title_of ssrc (least_time xs) (greatest_time xs) (lost_count (numbers_of pts ssrc xs)) (late_count usual_wait (numbers_of pts ssrc xs))
+    title xs = title_of ssrc (least_time xs) (greatest_time xs) (lost_count (numbers_of payload_types ssrc xs)) (late_count usual_wait (numbers_of payload_types ssrc xs))
 
     streams_least : List Item → ℕ
     streams_least xs = least_time xs
@@ -106,8 +106,8 @@ stream_shown pts ssrc s t m came i h missed =
     last x = number_line (codes "-- other sources ") x.sources.others
 
 -- so many were used
-pub used_is : (pts : Pts) (ssrc : ℕ) (s : Survey) (t : Terminal) (sources : List ℕ) (m : Missed) (came : List Item) → IsSurvey pts ssrc s came → Heard t (conf_of pts ssrc) sources came → IsMissedOf pts ssrc s.spread (counts_of t).used m came → IsMissed pts ssrc m came
-used_is pts ssrc s t sources m came i h missed = missed i.spread (ap (λ (n : Counts). n.used) h.counts)
+pub used_is : (payload_types : PayloadTypes) (ssrc : ℕ) (s : Survey) (t : Terminal) (sources : List ℕ) (m : Losses) (came : List Item) → IsSurvey payload_types ssrc s came → Heard t (settings_of payload_types ssrc) sources came → IsMissedOf payload_types ssrc s.spread (counts_of t).used m came → IsMissed payload_types ssrc m came
+used_is payload_types ssrc s t sources m came i h missed = missed i.spread (ap (λ (n : Counts). n.used) h.counts)
 
 -- ---- a pair
 -- one is not empty
@@ -119,11 +119,11 @@ any_filled p (c ∷ came) = go (p c) (any_filled p came)
     go true e = lt-ltb 0 (suc (length (filter p came))) (omega arith)
     go false e = e
 
-pub accepted_more : (ssrc : ℕ) (pts : Pts) (old new : ℕ) (came : List Item) (item : Item) → old ≡ length (accepted ssrc pts came) → new ≡ old + one_if (is_accepted ssrc pts item) → new ≡ length (accepted ssrc pts (came ++ item ∷ []))
-accepted_more ssrc pts old new came item e n = count_more (is_accepted ssrc pts) old new came item e n
+pub accepted_more : (ssrc : ℕ) (payload_types : PayloadTypes) (old new : ℕ) (came : List Item) (item : Item) → old ≡ length (accepted ssrc payload_types came) → new ≡ old + one_if (is_accepted ssrc payload_types item) → new ≡ length (accepted ssrc payload_types (came ++ item ∷ []))
+accepted_more ssrc payload_types old new came item e n = count_more (is_accepted ssrc payload_types) old new came item e n
 
-pub mostly_is : (ssrc : ℕ) (pts : Pts) (came : List Item) (n k : ℕ) → n ≡ length (filled came) → k ≡ length (accepted ssrc pts came) → nat_le n (2 * k) ≡ are_mostly_text ssrc pts came
-mostly_is ssrc pts came n k e f = ap (λ m. nat_le m (2 * k)) e ∙ ap (λ m. nat_le (length (filled came)) (2 * m)) f
+pub mostly_is : (ssrc : ℕ) (payload_types : PayloadTypes) (came : List Item) (n k : ℕ) → n ≡ length (filled came) → k ≡ length (accepted ssrc payload_types came) → nat_le n (2 * k) ≡ are_mostly_text ssrc payload_types came
+mostly_is ssrc payload_types came n k e f = ap (λ m. nat_le m (2 * k)) e ∙ ap (λ m. nat_le (length (filled came)) (2 * m)) f
 
 pub guess_is : (ssrc pt : ℕ) (came : List Item) (signs : Signs) (red near text : Bool) → AreSigns signs came → is_dynamic pt ≡ true
     → red ≡ ((is_dynamic signs.inside && not (signs.inside == pt) && signs.redundant) && are_like_text ssrc (record { t140 = signs.inside; red = pt }) came)
@@ -153,7 +153,7 @@ length_filter_le p (x ∷ xs) = go (p x) (length_filter_le p xs)
     go false l = omega (arith, l)
 
 -- a group's records, of a recording that is not too long
-pub records_of : (of : Sort → Option ℕ) (items : List Item) (group : Group) → length items < 2 ^ 32 → (h : Holds of items group) → AreRecords group.records h.records
+pub records_of : (of : Sort → Option ℕ) (items : List Item) (group : Group) → length items < 2 ^ 32 → (h : GroupHolds of items group) → AreRecords group.records h.records
 records_of of items group few h = record {
   is = h.is;
   each = h.each;
@@ -173,10 +173,10 @@ abbrev pub group_views : Shape → (Sort → Option ℕ) → List Item → List 
 group_views shape of items groups = flat_map (λ name. shape_view shape name (naming of name items)) (map (λ group. group.name) groups)
 
 -- one group more
-pub groups_more : (shape : Shape) (of : Sort → Option ℕ) (items : List Item) (groups : List Group) (index : ℕ) (group : Group) (out new total : List ℕ) → index < length groups → group ≡ get_or groups index group → length items < 2 ^ 32 → All (Holds of items) groups
+pub groups_more : (shape : Shape) (of : Sort → Option ℕ) (items : List Item) (groups : List Group) (index : ℕ) (group : Group) (out new total : List ℕ) → index < length groups → group ≡ get_or groups index group → length items < 2 ^ 32 → All (GroupHolds of items) groups
     → OfRecords group.records (λ came. new ≡ out ++ shape_view shape group.name came) → out ++ group_views shape of items (drop index groups) ≡ total → new ++ group_views shape of items (drop (index + 1) groups) ≡ total
 groups_more shape of items groups index group out new total low is few each shown so_far =
-    let h : Holds of items group = subst (Holds of items) (sym is) (each index group low) in
+    let h : GroupHolds of items group = subst (GroupHolds of items) (sym is) (each index group low) in
     let now : new ≡ out ++ shape_view shape group.name (naming of group.name items) = shown h.records (records_of of items group few h) ∙ ap (λ xs. out ++ shape_view shape group.name xs) h.are in
     let rest = group_views shape of items (drop (index + 1) groups) in
     let next : drop index groups ≡ group ∷ drop (index + 1) groups = drop_at groups index group low ∙ ap (λ (g : Group). g ∷ drop (index + 1) groups) (sym is) in
@@ -195,7 +195,7 @@ ready shape of g items few w k d low =
     let h = w.each k d low in
     ((h.records, records_of of items (get_or g.groups.items k d) few h), subst (λ n. n < shape_limit shape) (get_or-map (λ (group : Group). group.name) g.groups.items k d d.name low) (w.below k d.name (omega (arith, low, length-map g.groups.items (λ (group : Group). group.name)))))
 
-others_are : (f : Found) (items : List Item) → IsFound f items → others_text f ≡ other_lines f.pts items
+others_are : (f : Findings) (items : List Item) → IsFound f items → others_text f ≡ other_lines f.payload_types items
 unfolding other_lines
 others_are f items w =
     let lines : ℕ → ℕ → ℕ → ℕ → ℕ → List ℕ = λ rtcp cut large no_rtp more.
@@ -205,20 +205,20 @@ others_are f items w =
     ∙ (ap (λ n. lines (how_many streams.Rtcp items) (how_many streams.Cut items) n f.no_rtp (f.streams.others + f.pairs.others)) w.large
     ∙ (ap (λ n. lines (how_many streams.Rtcp items) (how_many streams.Cut items) (how_many streams.Large items) n (f.streams.others + f.pairs.others)) w.no_rtp
     ∙ (ap (λ (x : Firsts). lines (how_many streams.Rtcp items) (how_many streams.Cut items) (how_many streams.Large items) (how_many streams.NoRtp items) (x.others + f.pairs.others)) w.streams.firsts
-    ∙ ap (λ (x : Firsts). lines (how_many streams.Rtcp items) (how_many streams.Cut items) (how_many streams.Large items) (how_many streams.NoRtp items) ((streams.streams f.pts items).others + x.others)) w.pairs.firsts))))
+    ∙ ap (λ (x : Firsts). lines (how_many streams.Rtcp items) (how_many streams.Cut items) (how_many streams.Large items) (how_many streams.NoRtp items) ((streams.streams f.payload_types items).others + x.others)) w.pairs.firsts))))
 
-pub all_shown : (f : Found) (items : List Item) (end one two three four five : List ℕ) → IsFound f items → length items < 2 ^ 32 → one ≡ [] → AreShown (Stream f.pts) f.streams.groups.items one two → AreShown Pair f.pairs.groups.items two three → four ≡ three ++ others_text f → five ≡ four ++ end
-    → five ≡ items_view f.pts items ++ end
+pub all_shown : (f : Findings) (items : List Item) (end one two three four five : List ℕ) → IsFound f items → length items < 2 ^ 32 → one ≡ [] → AreShown (Stream f.payload_types) f.streams.groups.items one two → AreShown Pair f.pairs.groups.items two three → four ≡ three ++ others_text f → five ≡ four ++ end
+    → five ≡ items_view f.payload_types items ++ end
 unfolding items_view
 all_shown f items end one two three four five w short a b c d e =
-    let s = group_views (Stream f.pts) (stream_of f.pts) items f.streams.groups.items in
-    let p = group_views Pair (pair_of f.pts) items f.pairs.groups.items in
-    let s_is : s ≡ flat_map (λ ssrc. stream_view f.pts ssrc (streams.stream f.pts ssrc items)) (streams.streams f.pts items).kept = ap (λ (x : Firsts). flat_map (λ ssrc. stream_view f.pts ssrc (streams.stream f.pts ssrc items)) x.kept) w.streams.firsts in
-    let p_is : p ≡ flat_map (λ pair. pair_view pair (streams.packets_of f.pts pair items)) (streams.pairs f.pts items).kept = ap (λ (x : Firsts). flat_map (λ pair. pair_view pair (streams.packets_of f.pts pair items)) x.kept) w.pairs.firsts in
-    let two_is : two ≡ s = b (stream_of f.pts) items short w.streams.each ∙ ap (λ xs. xs ++ s) a in
-    let three_is : three ≡ s ++ p = c (pair_of f.pts) items short w.pairs.each ∙ ap (λ xs. xs ++ p) two_is in
-    let four_is : four ≡ (s ++ p) ++ other_lines f.pts items = d ∙ (ap (λ xs. xs ++ others_text f) three_is ∙ ap (λ xs. (s ++ p) ++ xs) (others_are f items w)) in
-    e ∙ ap (λ xs. xs ++ end) (four_is ∙ (ap (λ xs. (xs ++ p) ++ other_lines f.pts items) s_is ∙ ap (λ xs. (flat_map (λ ssrc. stream_view f.pts ssrc (streams.stream f.pts ssrc items)) (streams.streams f.pts items).kept ++ xs) ++ other_lines f.pts items) p_is))
+    let s = group_views (Stream f.payload_types) (stream_of f.payload_types) items f.streams.groups.items in
+    let p = group_views Pair (pair_of f.payload_types) items f.pairs.groups.items in
+    let s_is : s ≡ flat_map (λ ssrc. stream_view f.payload_types ssrc (streams.stream f.payload_types ssrc items)) (streams.streams f.payload_types items).kept = ap (λ (x : Firsts). flat_map (λ ssrc. stream_view f.payload_types ssrc (streams.stream f.payload_types ssrc items)) x.kept) w.streams.firsts in
+    let p_is : p ≡ flat_map (λ pair. pair_view pair (streams.packets_of f.payload_types pair items)) (streams.pairs f.payload_types items).kept = ap (λ (x : Firsts). flat_map (λ pair. pair_view pair (streams.packets_of f.payload_types pair items)) x.kept) w.pairs.firsts in
+    let two_is : two ≡ s = b (stream_of f.payload_types) items short w.streams.each ∙ ap (λ xs. xs ++ s) a in
+    let three_is : three ≡ s ++ p = c (pair_of f.payload_types) items short w.pairs.each ∙ ap (λ xs. xs ++ p) two_is in
+    let four_is : four ≡ (s ++ p) ++ other_lines f.payload_types items = d ∙ (ap (λ xs. xs ++ others_text f) three_is ∙ ap (λ xs. (s ++ p) ++ xs) (others_are f items w)) in
+    e ∙ ap (λ xs. xs ++ end) (four_is ∙ (ap (λ xs. (xs ++ p) ++ other_lines f.payload_types items) s_is ∙ ap (λ xs. (flat_map (λ ssrc. stream_view f.payload_types ssrc (streams.stream f.payload_types ssrc items)) (streams.streams f.payload_types items).kept ++ xs) ++ other_lines f.payload_types items) p_is))
 
 -- ---- parts of a view that are appended one after another
 four_parts : (old a b c d : List ℕ) → (((old ++ a) ++ b) ++ c) ++ d ≡ old ++ (((a ++ b) ++ c) ++ d)

@@ -15,7 +15,7 @@ use Rattle.stream_spec.proofs.Rising.{new_number, length_by_number}
 use Rattle.command_spec.specs.Reading.{usual_wait}
 use Rattle.times_spec.specs.Numbers.{is_late, late}
 use Rattle.show_spec.specs.Missed.{late_count}
-use Rattle.rtt_show.specs.declared.strays.Came.{Came}
+use Rattle.rtt_show.specs.declared.strays.NumberedPacket.{NumberedPacket}
 use Rattle.rtt_show.specs.declared.strays.Strays.{Strays}
 use Rattle.rtt_show.specs.Finds.{one_if}
 use Rattle.rtt_show.specs.Strays.{has, is_late_number, AreStrays, UsesMore, LatesMore, StraysMore}
@@ -294,15 +294,15 @@ late_more s t past e late unseen a l =
         by (inr high) = rw (le-ltb (first_number e.number past) e.number high) (omega arith)
 
 -- ---- a packet that came
-pub stray_used : (old new : Strays) (c : Came) (first : ℕ) → c.in_time ≡ true → UsesMore old c.number first new → StraysMore old c first new
+pub stray_used : (old new : Strays) (c : NumberedPacket) (first : ℕ) → c.in_time ≡ true → UsesMore old c.number first new → StraysMore old c first new
 stray_used old new c first t u past e is f a =
     used_more old new past e (sym is.in_time ∙ t) a
     (subst (λ n. UsesMore old e.number n new) f (subst (λ n. UsesMore old n first new) is.number u))
 
-pub stray_again : (old : Strays) (c : Came) (first : ℕ) → c.in_time ≡ false → has old.used c.number ≡ true → StraysMore old c first old
+pub stray_again : (old : Strays) (c : NumberedPacket) (first : ℕ) → c.in_time ≡ false → has old.used c.number ≡ true → StraysMore old c first old
 stray_again old c first t seen past e is f a = again_more old past e (sym is.in_time ∙ t) (ap (has old.used) (sym is.number) ∙ seen) a
 
-pub stray_late : (old new : Strays) (c : Came) (first : ℕ) → c.in_time ≡ false → has old.used c.number ≡ false → LatesMore old c.number first new → StraysMore old c first new
+pub stray_late : (old new : Strays) (c : NumberedPacket) (first : ℕ) → c.in_time ≡ false → has old.used c.number ≡ false → LatesMore old c.number first new → StraysMore old c first new
 stray_late old new c first t unseen l past e is f a =
     late_more old new past e (sym is.in_time ∙ t) (ap (has old.used) (sym is.number) ∙ unseen) a
     (subst (λ n. LatesMore old e.number n new) f (subst (λ n. LatesMore old n first new) is.number l))

@@ -4,7 +4,7 @@ use Rattle.std.specs.Prelude.{◌&&◌, min, max, Result, Ok, Err, Option, if◌
 use Rattle.std.specs.List.{filter_map, cons_option, list_all}
 use Rattle.std.proofs.lemmas.List.Elements.{filter_map-append}
 use Rattle.std.proofs.lemmas.List.Folds.{list_all-append}
-use Rattle.rtt_base.specs.declared.text_packets.Pts.{Pts}
+use Rattle.rtt_base.specs.declared.text_packets.PayloadTypes.{PayloadTypes}
 use Rattle.wire_spec.specs.declared.faults.TextFault.{TextFault}
 use Rattle.wire_spec.specs.declared.faults.TextFault.TheVariants.{Short, Version, Padding, Sources, WrongType, Cut, Many, Long, NotText, Foreign}
 use Rattle.wire_spec.specs.Packets.{Packet, Arrival}
@@ -75,8 +75,8 @@ counts_more n (Err Long) = refl
 counts_more n (Err NotText) = refl
 counts_more n (Err Foreign) = refl
 
-pub refused_more : (r : Reception) (came : List Item) (item : Item) (fault : TextFault) → refused_as r (came ++ item ∷ []) fault ≡ (if is_refused_as fault (text_at r.ssrc r.pts item) then suc (refused_as r came fault) else refused_as r came fault)
-refused_more r came item fault = filter_more (λ i. is_refused_as fault (text_at r.ssrc r.pts i)) came item
+pub refused_more : (r : Reception) (came : List Item) (item : Item) (fault : TextFault) → refused_as r (came ++ item ∷ []) fault ≡ (if is_refused_as fault (text_at r.ssrc r.payload_types item) then suc (refused_as r came fault) else refused_as r came fault)
+refused_more r came item fault = filter_more (λ i. is_refused_as fault (text_at r.ssrc r.payload_types i)) came item
 
 pub map_alike : {X Y : Type 0} (f g : X → Y) → ((x : X) → f x ≡ g x) → (xs : List X) → map f xs ≡ map g xs
 map_alike f g e [] = refl
@@ -88,30 +88,30 @@ sources_more f (Err fault) = refl
 
 -- a packet more of the stream
 -- ---- the numbers
-after_more : (ssrc : ℕ) (pts : Pts) (before : List Arrival) (came : List Item) (item : Item) → arrivals_after ssrc pts before (came ++ item ∷ []) ≡ arrivals_with ssrc pts item (arrivals_after ssrc pts before came)
-after_more ssrc pts before [] item = refl
-after_more ssrc pts before (x ∷ came) item = after_more ssrc pts (arrivals_with ssrc pts x before) came item
+after_more : (ssrc : ℕ) (payload_types : PayloadTypes) (before : List Arrival) (came : List Item) (item : Item) → arrivals_after ssrc payload_types before (came ++ item ∷ []) ≡ arrivals_with ssrc payload_types item (arrivals_after ssrc payload_types before came)
+after_more ssrc payload_types before [] item = refl
+after_more ssrc payload_types before (x ∷ came) item = after_more ssrc payload_types (arrivals_with ssrc payload_types x before) came item
 
-pub arrives_more : (pts : Pts) (ssrc : ℕ) (came : List Item) (at : ℕ) (octets : List ℕ)
-    → arrivals_after ssrc pts [] (came ++ sent_item (at, octets) ∷ []) ≡ arrived at (text_of octets (Some ssrc) pts) (arrivals_after ssrc pts [] came)
-arrives_more pts ssrc came at octets = after_more ssrc pts [] came (sent_item (at, octets))
+pub arrives_more : (payload_types : PayloadTypes) (ssrc : ℕ) (came : List Item) (at : ℕ) (octets : List ℕ)
+    → arrivals_after ssrc payload_types [] (came ++ sent_item (at, octets) ∷ []) ≡ arrived at (text_of octets (Some ssrc) payload_types) (arrivals_after ssrc payload_types [] came)
+arrives_more payload_types ssrc came at octets = after_more ssrc payload_types [] came (sent_item (at, octets))
 
 spread_more : (old new : Spread) (past : List Arrival) (at : ℕ) (t : Result Packet TextFault) → IsSpread old (numbered past) → SpreadsAs old (seen t) new → IsSpread new (numbered (arrived at t past))
 spread_more old new past at (Ok packet) i m =
     m.1.more (numbered past) (number_it (numbered past) (record { time = max at (latest past); packet = packet })) i (sym (m.1.is (numbered past) i))
 spread_more old new past at (Err fault) i m = subst (λ (s : Spread). IsSpread s (numbered past)) (sym m) i
 
-pub survey_more : (pts : Pts) (ssrc : ℕ) (old new : Survey) (came : List Item) (at : ℕ) (octets : List ℕ) → IsSurvey pts ssrc old came → SurveysMore old at (seen (text_of octets (Some ssrc) pts)) new → IsSurvey pts ssrc new (came ++ sent_item (at, octets) ∷ [])
-survey_more pts ssrc old new came at octets i m =
+pub survey_more : (payload_types : PayloadTypes) (ssrc : ℕ) (old new : Survey) (came : List Item) (at : ℕ) (octets : List ℕ) → IsSurvey payload_types ssrc old came → SurveysMore old at (seen (text_of octets (Some ssrc) payload_types)) new → IsSurvey payload_types ssrc new (came ++ sent_item (at, octets) ∷ [])
+survey_more payload_types ssrc old new came at octets i m =
     let item = sent_item (at, octets) in
-    let t = text_at ssrc pts item in
-    let r = hearing pts ssrc in
+    let t = text_at ssrc payload_types item in
+    let r = hearing payload_types ssrc in
     record {
       from = m.from ∙ (ap (λ n. min n item.time) i.from ∙ sym (least_more came item));
       to = m.to ∙ (ap (λ n. max n item.time) i.to ∙ sym (greatest_more came item));
       refused = m.refused ∙ (ap (λ ns. refused_after ns (seen t)) i.refused ∙ (counts_more (refused_as r came) t ∙ map_alike _ (refused_as r (came ++ item ∷ [])) (λ fault. sym (refused_more r came item fault)) all_faults));
-      sources = m.sources ∙ (ap (λ f. names_after f (seen t)) i.sources ∙ (sym (sources_more (sources ssrc pts came) t) ∙ sym (firsts_more (λ x. source_in (text_at ssrc pts x)) came item)));
-      spread = subst (λ (past : List Arrival). IsSpread new.spread (numbered past)) (sym (arrives_more pts ssrc came at octets)) (spread_more old.spread new.spread (arrivals_after ssrc pts [] came) at (text_of octets (Some ssrc) pts) i.spread m.spread);
+      sources = m.sources ∙ (ap (λ f. names_after f (seen t)) i.sources ∙ (sym (sources_more (sources ssrc payload_types came) t) ∙ sym (firsts_more (λ x. source_in (text_at ssrc payload_types x)) came item)));
+      spread = subst (λ (past : List Arrival). IsSpread new.spread (numbered past)) (sym (arrives_more payload_types ssrc came at octets)) (spread_more old.spread new.spread (arrivals_after ssrc payload_types [] came) at (text_of octets (Some ssrc) payload_types) i.spread m.spread);
     }
 
 -- ---- whether packets are like texts
@@ -136,8 +136,8 @@ and_true : (b : Bool) → (b && true) ≡ b
 and_true true = refl
 and_true false = refl
 
-pub likes_more : (ssrc : ℕ) (pts : Pts) (old new : Bool) (came : List Item) (item : Item) → old ≡ are_like_text ssrc pts came → new ≡ (old && is_like (seen (text_at ssrc pts item))) → new ≡ are_like_text ssrc pts (came ++ item ∷ [])
-likes_more ssrc pts old new came item e n =
-    let p : Item → Bool = λ i. is_like_text (text_at ssrc pts i) in
-    n ∙ (ap (λ b. old && b) (like_seen (text_at ssrc pts item)) ∙ (ap (λ b. b && p item) e
+pub likes_more : (ssrc : ℕ) (payload_types : PayloadTypes) (old new : Bool) (came : List Item) (item : Item) → old ≡ are_like_text ssrc payload_types came → new ≡ (old && is_like (seen (text_at ssrc payload_types item))) → new ≡ are_like_text ssrc payload_types (came ++ item ∷ [])
+likes_more ssrc payload_types old new came item e n =
+    let p : Item → Bool = λ i. is_like_text (text_at ssrc payload_types i) in
+    n ∙ (ap (λ b. old && b) (like_seen (text_at ssrc payload_types item)) ∙ (ap (λ b. b && p item) e
     ∙ (ap (λ b. list_all p came && b) (sym (and_true (p item))) ∙ sym (list_all-append p came (item ∷ [])))))

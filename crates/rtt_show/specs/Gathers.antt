@@ -6,12 +6,12 @@ use Rattle.rtpdump_io.specs.declared.items.RecordingFault.{RecordingFault}
 use Rattle.rtpdump_io.specs.declared.items.RecordingFault.TheVariants.{Dump, NoMemory}
 use Rattle.rtpdump_io.specs.Reading.{is_of_source}
 use Rattle.command_spec.specs.Showing.{if_no_recording}
-use Rattle.rtt_show.specs.declared.found.Found.{Found}
+use Rattle.rtt_show.specs.declared.findings.Findings.{Findings}
 use Rattle.rtt_show.specs.Finds.{IsFound, IsSmall}
 use Rattle.rtt_show.specs.Whole.{ends}
 
 -- some records came, up to the end or to this fault; they are the recording's, where this tells it
-pub record Gathered (tells : Type 0) (recording : Recording) (found : Found) (end : Option DumpFault) : Type 0 where
+pub record Gathered (tells : Type 0) (recording : Recording) (found : Findings) (end : Option DumpFault) : Type 0 where
   pub items : List Item
   pub is_found : IsFound found items
   pub small : IsSmall (length items) found
@@ -20,6 +20,6 @@ pub record Gathered (tells : Type 0) (recording : Recording) (found : Found) (en
   pub accepted : if_no_recording (ends end) ≡ None
 
 -- there is no recording, where the fault is none of the source
-abbrev pub IsRefused : Recording → RecordingFault → Type 0
-IsRefused recording (Dump fault) = is_of_source fault.kind ≡ false → if_no_recording recording.fault ≡ Some (record { byte = fault.offset; kind = fault.kind })
-IsRefused recording NoMemory = Unit {0}
+abbrev pub RecordingIsRefused : Recording → RecordingFault → Type 0
+RecordingIsRefused recording (Dump fault) = is_of_source fault.kind ≡ false → if_no_recording recording.fault ≡ Some (record { byte = fault.offset; kind = fault.kind })
+RecordingIsRefused recording NoMemory = Unit {0}

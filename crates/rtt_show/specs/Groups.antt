@@ -27,7 +27,7 @@ pub record AddedAt (place : ℕ) (r : ℕ × List ℕ) (old new : List Group) : 
   pub is : new ≡ slice_set old place (with_record group r)
 
 -- the group has the packets of these records that name what it is named
-pub record Holds (of : Sort → Option ℕ) (items : List Item) (group : Group) : Type 0 where
+pub record GroupHolds (of : Sort → Option ℕ) (items : List Item) (group : Group) : Type 0 where
   pub records : List (ℕ × List ℕ)
   pub is : group.records ≡ flat_map record_written records
   pub each : AllByRecursion IsRecord records
@@ -40,7 +40,7 @@ firsts_in g = record { kept = map (λ group. group.name) g.groups.items; others 
 pub record Grouped (of : Sort → Option ℕ) (limit : ℕ) (g : Groups) (items : List Item) : Type 0 where
   pub firsts : firsts_in g ≡ named of items
   pub below : All (λ name. name < limit) (firsts_in g).kept
-  pub each : (k : ℕ) (d : Group) → k < length g.groups.items → Holds of items (slice_index_or g.groups.items k d)
+  pub each : (k : ℕ) (d : Group) → k < length g.groups.items → GroupHolds of items (slice_index_or g.groups.items k d)
 
 -- a record came besides that names this
 abbrev pub GroupsMore : Groups → ℕ → ℕ × List ℕ → Groups → Type 0

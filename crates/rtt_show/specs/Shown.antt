@@ -1,13 +1,13 @@
 -- What is printed of the packets of a stream or a pair, from what was found out of them.
 use Rattle.std.specs.Prelude.{ℕ, Bool, List, [], ◌∷◌, ◌++◌, length, map, flat_map, slice_index, codes, decimal, if◌then◌else◌}
-use Rattle.rtt_base.specs.declared.text_packets.Pts.{Pts}
+use Rattle.rtt_base.specs.declared.text_packets.PayloadTypes.{PayloadTypes}
 use Rattle.wire_spec.specs.declared.faults.TextFault.{TextFault}
 use Rattle.wire_spec.specs.Dump.{Item}
 use Rattle.view_spec.specs.Views.{printed_line, source_view, counts_line}
 use Rattle.command_spec.specs.Reading.{usual_wait}
 use Rattle.command_spec.specs.Showing.{refusals, place_of, refusal_line, number_line}
 use Rattle.show_spec.specs.Guesses.{guess_line}
-use Rattle.terminal.specs.declared.confs.TermConf.{TermConf}
+use Rattle.terminal.specs.declared.settings.TerminalSettings.{TerminalSettings}
 use Rattle.terminal.specs.declared.terminals.Terminal.{Terminal}
 use Rattle.terminal.specs.Terminals.{texts_of, counts_of}
 use Rattle.terminal.specs.Views.{named}
@@ -17,8 +17,8 @@ use Rattle.rtt_show.specs.declared.pairs.Guess.TheVariants.{Nothing, Red, Text}
 
 -- ---- a stream
 
-abbrev pub conf_of : Pts → ℕ → TermConf
-conf_of pts ssrc = record { ssrc = ssrc; pts = pts; wait = usual_wait }
+abbrev pub settings_of : PayloadTypes → ℕ → TerminalSettings
+settings_of payload_types ssrc = record { ssrc = ssrc; payload_types = payload_types; wait = usual_wait }
 
 -- whom a terminal hears where these are named: the SSRC, where none is
 abbrev pub asked : ℕ → List ℕ → List ℕ

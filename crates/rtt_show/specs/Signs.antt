@@ -2,7 +2,7 @@
 use Rattle.std.specs.Prelude.{◌≡◌, ℕ, ◌+◌, ◌==◌, ◌||◌, Bool, List, length, if◌then◌else◌}
 use Rattle.std.specs.List.{list_any}
 use Rattle.wire_spec.specs.Packets.{has_text}
-use Rattle.rtt_base.specs.declared.text_packets.Pts.{Pts}
+use Rattle.rtt_base.specs.declared.text_packets.PayloadTypes.{PayloadTypes}
 use Rattle.wire_spec.specs.Dump.{Item, Whole}
 use Rattle.command_spec.specs.Streams.{payload_of, first_type, has_redundant, type_inside}
 use Rattle.show_spec.specs.Guesses.{filled, is_accepted}
@@ -23,5 +23,5 @@ pub record SignsMore (old : Signs) (payload : List ℕ) (new : Signs) : Type 0 w
   pub filled : new.filled ≡ old.filled + one_if (has_text payload)
 
 -- a packet with these octets has a payload, and is a text
-abbrev pub is_filled_text : ℕ → Pts → List ℕ → Bool
-is_filled_text ssrc pts octets = is_accepted ssrc pts (record { time = 0; what = Whole octets })
+abbrev pub is_filled_text : ℕ → PayloadTypes → List ℕ → Bool
+is_filled_text ssrc payload_types octets = is_accepted ssrc payload_types (record { time = 0; what = Whole octets })

@@ -12,7 +12,7 @@ use Rattle.gap_tracker.specs.States.{State, arrival_count, has_ready, current_of
 use Rattle.gap_tracker.specs.Tracks.{Tracks}
 use Rattle.ear.specs.Hears.{IsToldOf}
 use Rattle.show_spec.specs.Missed.{late_count}
-use Rattle.rtt_show.specs.declared.strays.Came.{Came}
+use Rattle.rtt_show.specs.declared.strays.NumberedPacket.{NumberedPacket}
 use Rattle.rtt_show.specs.declared.strays.Follower.{Follower}
 use Rattle.rtt_show.specs.declared.strays.Strays.{Strays}
 use Rattle.rtt_show.specs.Finds.{one_if}
@@ -27,15 +27,15 @@ Drains old new = (story : Story) → Tracks old story → (given : List Given) �
 -- it was told of these arrivals, newest first
 pub record Follows (f : Follower) (past : List Arrival) : Type 0 where
   pub story : Story
-  pub tracks : Tracks f.tracker story
+  pub tracks : Tracks f.buffer story
   pub wait : story.wait ≡ usual_wait
   pub told : IsToldOf story past
   pub spread : IsSpread f.spread (numbered past)
 
 -- so many packets came at most, and all that is settled was given
 pub record IsShort (n : ℕ) (f : Follower) : Type 0 where
-  pub arrivals : arrival_count f.tracker ≤ n
-  pub quiet : has_ready f.tracker ≡ false
+  pub arrivals : arrival_count f.buffer ≤ n
+  pub quiet : has_ready f.buffer ≡ false
   pub narrow : IsNarrow n f.spread
 
 -- a packet that comes at this moment after these
@@ -43,22 +43,22 @@ abbrev pub arriving : List Arrival → ℕ → Packet → Arrival
 arriving past at packet = record { time = max at (latest past); packet = packet }
 
 -- it is e, after these
-pub record IsCame (c : Came) (past : List Numbered) (e : Numbered) : Type 0 where
+pub record IsCame (c : NumberedPacket) (past : List Numbered) (e : Numbered) : Type 0 where
   pub number : c.number ≡ e.number
   pub in_time : c.in_time ≡ in_time usual_wait e past
 
 -- this packet came besides
-abbrev pub ComesMore : Follower → ℕ → Packet → Came → Follower → Type 0
+abbrev pub ComesMore : Follower → ℕ → Packet → NumberedPacket → Follower → Type 0
 ComesMore old at packet c new =
     (past : List Arrival) → Follows old past
     → Follows new (arriving past at packet ∷ past) × IsCame c (numbered past) (number_it (numbered past) (arriving past at packet))
 
 -- the packet that the tracker has came besides
-abbrev pub CurrentComes : Follower → ℕ → Came → Follower → Type 0
-CurrentComes old at c new = ComesMore old at (packet_of (current_of old.tracker)) c new
+abbrev pub CurrentComes : Follower → ℕ → NumberedPacket → Follower → Type 0
+CurrentComes old at c new = ComesMore old at (packet_of (current_of old.buffer)) c new
 
 -- a packet of text came besides, or another, with which nothing comes
-abbrev pub FollowsMore : Follower → ℕ → Result Packet TextFault → Option Came → Follower → Type 0
+abbrev pub FollowsMore : Follower → ℕ → Result Packet TextFault → Option NumberedPacket → Follower → Type 0
 FollowsMore old at (Ok packet) (Some c) new = ComesMore old at packet c new
 FollowsMore old at (Err fault) None new = (past : List Arrival) → Follows old past → Follows new past
 FollowsMore old at (Ok packet) None new = ⊥
@@ -98,7 +98,7 @@ pub record LatesMore (old : Strays) (number first : ℕ) (new : Strays) : Type 0
   pub packets : new.packets ≡ old.packets + 1
   pub above : new.above ≡ old.above + one_if (nat_lt first number && not (has old.late number))
 
-abbrev pub StraysMore : Strays → Came → ℕ → Strays → Type 0
+abbrev pub StraysMore : Strays → NumberedPacket → ℕ → Strays → Type 0
 StraysMore old c first new =
     (past : List Numbered) (e : Numbered)
     → IsCame c past e → first ≡ first_number e.number past → AreStrays old past → AreStrays new (e ∷ past)

@@ -1,6 +1,6 @@
 -- What is found out of the packets of a stream or of a pair.
 use Rattle.std.specs.Prelude.{◌≡◌, ℕ, ◌≤◌, suc, Bool, true, false, List, [], ◌∷◌, ◌++◌, map, slice_index, slice_set, All, min, max, Result, Ok, Err}
-use Rattle.rtt_base.specs.declared.text_packets.Pts.{Pts}
+use Rattle.rtt_base.specs.declared.text_packets.PayloadTypes.{PayloadTypes}
 use Rattle.wire_spec.specs.declared.faults.TextFault.{TextFault}
 use Rattle.wire_spec.specs.declared.faults.TextFault.TheVariants.{Long, NotText, Foreign}
 use Rattle.wire_spec.specs.Packets.{Packet}
@@ -12,8 +12,8 @@ use Rattle.command_spec.specs.Streams as sorts
 use Rattle.show_spec.specs.Showing.{numbers_of}
 use Rattle.command_spec.specs.Showing.{refusals, place_of, hearing, least_time, greatest_time, refused_as}
 use Rattle.rtt_show.specs.declared.surveys.Survey.{Survey}
-use Rattle.rtt_show.specs.declared.sorts.Sorted.{Sorted}
-use Rattle.rtt_show.specs.declared.sorts.Sorted.TheVariants.{Headed, NoRtp, Rtcp}
+use Rattle.rtt_show.specs.declared.sorts.RecordClass.{RecordClass}
+use Rattle.rtt_show.specs.declared.sorts.RecordClass.TheVariants.{Headed, NoRtp, Rtcp}
 use Rattle.rtt_show.specs.declared.first_sources.FirstSources.{FirstSources}
 use Rattle.rtt_show.specs.declared.origins.Origin.{Origin}
 use Rattle.rtt_show.specs.declared.spreads.Spread.{Spread}
@@ -21,7 +21,7 @@ use Rattle.rtt_show.specs.Spreads.{IsSpread, IsNarrow, SpreadsBy}
 
 -- ---- one packet
 
-abbrev pub sorted : Sorted → Sort
+abbrev pub sorted : RecordClass → Sort
 sorted (Headed view) = sorts.Headed (reading view)
 sorted NoRtp = sorts.NoRtp
 sorted Rtcp = sorts.Rtcp
@@ -53,12 +53,12 @@ abbrev pub all_faults : List TextFault
 all_faults = refusals ++ Foreign ∷ []
 
 -- what was found out of these packets of the stream
-pub record IsSurvey (pts : Pts) (ssrc : ℕ) (s : Survey) (came : List Item) : Type 0 where
+pub record IsSurvey (payload_types : PayloadTypes) (ssrc : ℕ) (s : Survey) (came : List Item) : Type 0 where
   pub from : s.from ≡ least_time came
   pub to : s.to ≡ greatest_time came
-  pub refused : s.refused ≡ map (refused_as (hearing pts ssrc) came) all_faults
-  pub sources : firsts_of s.sources ≡ sorts.sources ssrc pts came
-  pub spread : IsSpread s.spread (numbers_of pts ssrc came)
+  pub refused : s.refused ≡ map (refused_as (hearing payload_types ssrc) came) all_faults
+  pub sources : firsts_of s.sources ≡ sorts.sources ssrc payload_types came
+  pub spread : IsSpread s.spread (numbers_of payload_types ssrc came)
 
 -- no count is greater
 pub record IsFew (n : ℕ) (s : Survey) : Type 0 where

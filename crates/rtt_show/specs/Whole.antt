@@ -8,21 +8,21 @@ use Rattle.show_spec.specs.Showing.{stream_view, pair_view, recording_view}
 use Rattle.rtt_show.specs.declared.views.Shape.{Shape}
 use Rattle.rtt_show.specs.declared.views.Shape.TheVariants.{Stream, Pair}
 use Rattle.rtt_show.specs.declared.groups.Group.{Group}
-use Rattle.rtt_show.specs.declared.found.Found.{Found}
+use Rattle.rtt_show.specs.declared.findings.Findings.{Findings}
 use Rattle.rtpdump_io.specs.InMemory.{HasRecords}
 use Rattle.rtt_show.specs.Records.{OfRecords}
-use Rattle.rtt_show.specs.Groups.{Holds}
+use Rattle.rtt_show.specs.Groups.{GroupHolds}
 use Rattle.rtt_show.specs.Finds.{IsFound}
 
 -- ---- groups
 
 -- an SSRC has 32 bits, and a payload type seven
 abbrev pub shape_limit : Shape → ℕ
-shape_limit (Stream pts) = 2 ^ 32
+shape_limit (Stream payload_types) = 2 ^ 32
 shape_limit Pair = 2 ^ 39
 
 abbrev pub shape_view : Shape → ℕ → List Item → List ℕ
-shape_view (Stream pts) name came = stream_view pts name came
+shape_view (Stream payload_types) name came = stream_view payload_types name came
 shape_view Pair name came = pair_view name came
 
 -- a group has records, and a name that fits
@@ -37,12 +37,12 @@ IsGroupShown shape group old new = OfRecords group.records (λ came. new ≡ old
 abbrev pub AreShown : Shape → List Group → List ℕ → List ℕ → Type 0
 AreShown shape groups old new =
     (of : Sort → Option ℕ) (items : List Item)
-    → length items < 2 ^ 32 → All (Holds of items) groups
+    → length items < 2 ^ 32 → All (GroupHolds of items) groups
     → new ≡ old ++ flat_map (λ name. shape_view shape name (naming of name items)) (map (λ group. group.name) groups)
 
 -- ---- others
 
-abbrev pub others_text : Found → List ℕ
+abbrev pub others_text : Findings → List ℕ
 others_text f =
     number_line (codes "-- rtcp ") f.rtcp ++ number_line (codes "-- cut ") f.cut ++ number_line (codes "-- large ") f.large
     ++ number_line (codes "-- no RTP ") f.no_rtp ++ number_line (codes "-- more ") (f.streams.others + f.pairs.others)
@@ -55,7 +55,7 @@ ends (Some fault) = Some (record { byte = fault.offset; kind = fault.kind })
 -- ---- all
 
 -- this is what is printed
-abbrev pub IsShownOf : Found → Option ℕ → Option DumpFault → List ℕ → Type 0
+abbrev pub IsShownOf : Findings → Option ℕ → Option DumpFault → List ℕ → Type 0
 IsShownOf found start end printed =
     (items : List Item) → length items < 2 ^ 32 → IsFound found items
-    → printed ≡ recording_view found.pts start (record { items = items; fault = ends end })
+    → printed ≡ recording_view found.payload_types start (record { items = items; fault = ends end })

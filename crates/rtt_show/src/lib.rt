@@ -1,16 +1,16 @@
 //! All that a recording has: what was typed in each stream of text, and what else is there.
 #![tactic(auto)]
 
-mod counting;
+mod sums;
 mod first_sources;
-mod found;
+mod findings;
 mod groups;
-mod hearing;
+mod receptions;
 mod likes;
-mod missed;
+mod losses;
 mod origins;
 mod pairs;
-mod printing;
+mod print_lines;
 mod rows;
 mod shows;
 mod signs;
@@ -22,7 +22,7 @@ mod surveys;
 mod views;
 
 pub use first_sources::FirstSources;
-pub use found::Found;
+pub use findings::Findings;
 pub use groups::{Group, Groups};
 pub use rows::{Row, row_of};
 pub use shows::{gather, show_recording};

@@ -8,10 +8,10 @@ ghost use Rattle.rtt_show.specs.Signs.{AreSigns};
 ghost use Rattle.rtt_show.specs.Shown.{first_guess, guessed, pair_text, pair_line};
 
 use crate::likes::{accepted_of, all_near_text};
-use crate::printing::append_number;
+use crate::print_lines::append_number;
 use crate::signs::{Signs, signs_of};
 use crate::sorts::may_be_given;
-use rtt_base::{Bytes, NoMemory, Pts};
+use rtt_base::{Bytes, NoMemory, PayloadTypes};
 
 /// What packets may be: red with texts of a type inside, or plain texts.
 #[derive(Clone, Copy)]
@@ -29,13 +29,13 @@ fn show_red(signs: Signs, pt: u8) -> bool
 }
 
 /// Whether the payloads show that they may be so, and each packet is like a text of these types.
-fn are_near_where(shown: bool, records: &[u8], ssrc: u32, pts: Pts) -> bool
-    ensures { OfRecords records.now (λ came. result ≡ (shown && are_like_text ssrc pts came)) }
+fn are_near_where(shown: bool, records: &[u8], ssrc: u32, payload_types: PayloadTypes) -> bool
+    ensures { OfRecords records.now (λ came. result ≡ (shown && are_like_text ssrc payload_types came)) }
 {
     if !shown {
         return false;
     }
-    all_near_text(records, ssrc, pts)
+    all_near_text(records, ssrc, payload_types)
 }
 
 /// Whether a payload is not empty.
@@ -47,14 +47,14 @@ fn has_filled(signs: Signs) -> bool
 
 /// Whether that is so, and of those of these packets that have a payload, so many, at least half are texts of this SSRC and
 /// these payload types.
-fn are_mostly_texts(near: bool, records: &[u8], ssrc: u32, pts: Pts, number: u64) -> bool
+fn are_mostly_texts(near: bool, records: &[u8], ssrc: u32, payload_types: PayloadTypes, number: u64) -> bool
     requires { HasRecords records.now }
-    ensures { OfRecords records.now (λ came. number ≡ length (filled came) → result ≡ (near && are_mostly_text ssrc pts came)) }
+    ensures { OfRecords records.now (λ came. number ≡ length (filled came) → result ≡ (near && are_mostly_text ssrc payload_types came)) }
 {
     if !near {
         return false;
     }
-    number <= 2 * accepted_of(records, ssrc, pts)
+    number <= 2 * accepted_of(records, ssrc, payload_types)
 }
 
 /// The first of the two that they may be.
@@ -78,11 +78,11 @@ fn guess_of(ssrc: u32, pt: u8, records: &[u8], signs: Signs) -> Guess
     if !may_be_given(pt) {
         return Guess::Nothing;
     }
-    let inside = Pts {
+    let inside = PayloadTypes {
         t140: signs.inside,
         red: pt,
     };
-    let plain = Pts { t140: pt, red: 0 };
+    let plain = PayloadTypes { t140: pt, red: 0 };
     let red = are_near_where(show_red(signs, pt), records, ssrc, inside);
     let near = are_near_where(has_filled(signs), records, ssrc, plain);
     let text = are_mostly_texts(near, records, ssrc, plain, signs.filled);

@@ -5,12 +5,12 @@ ghost use Rattle.rtpdump_io.specs.Faults.{HasCause};
 ghost use Rattle.command_spec.specs.Showing.{if_no_recording, is_no_recording};
 ghost use Rattle.show_spec.specs.Showing.{recording_view};
 ghost use Rattle.rtt_show.specs.Finds.{IsFound, IsSmall};
-ghost use Rattle.rtt_show.specs.Gathers.{Gathered, IsRefused};
+ghost use Rattle.rtt_show.specs.Gathers.{Gathered, RecordingIsRefused};
 
-use crate::found::Found;
+use crate::findings::Findings;
 use crate::views::show_found;
 use rtpdump_io::{DumpFault, DumpItem, DumpReader, RecordingFault};
-use rtt_base::{Bytes, Packet, Pts};
+use rtt_base::{Bytes, Packet, PayloadTypes};
 use rtt_io::Source;
 use std::alloc::Global;
 use wire_spec::DumpKind;
@@ -29,14 +29,14 @@ fn is_end(kind: DumpKind) -> bool
 pub fn gather<S: Source>(
     alloc: Global,
     reader: &mut DumpReader<S>,
-    found: &mut Found,
+    found: &mut Findings,
 ) -> Result<Option<DumpFault>, RecordingFault>
     requires open { is_ended reader.old ≡ Bool.false }
     requires nothing { IsFound found.old [] }
     requires small { IsSmall 0 found.old }
     ensures gathered { IfOk result (Gathered S.tells (to_come S.left reader.old) found.new) }
-    ensures pts { found.new.pts ≡ found.old.pts }
-    ensures refused { S.tells → IfErr result (IsRefused (to_come S.left reader.old)) }
+    ensures payload_types { found.new.payload_types ≡ found.old.payload_types }
+    ensures refused { S.tells → IfErr result (RecordingIsRefused (to_come S.left reader.old)) }
     ensures read { IfErr result (HasCause S.faults reader.old reader.new) }
     ensures never_falls { S.faults (source_of reader.old) ≤ S.faults (source_of reader.new) }
     ensures same_name { S.name (source_of reader.new) ≡ S.name (source_of reader.old) }
@@ -69,18 +69,19 @@ pub fn show_recording<S: Source>(
     alloc: Global,
     reader: &mut DumpReader<S>,
     start: Option<u64>,
-    pts: Pts,
+    payload_types: PayloadTypes,
 ) -> Result<Bytes, RecordingFault>
     requires open { is_ended reader.old ≡ Bool.false }
     requires start { IfSome start (λ start. start < 2 ^ 48) }
-    ensures shown { S.tells → IfOk result (λ printed. printed ≡ recording_view pts start (to_come S.left reader.old)) }
+    ensures shown { S.tells → IfOk result (λ printed. printed
+        ≡ recording_view payload_types start (to_come S.left reader.old)) }
     ensures accepted { S.tells → OnOk result (if_no_recording (to_come S.left reader.old).fault ≡ None) }
-    ensures refused { S.tells → IfErr result (IsRefused (to_come S.left reader.old)) }
+    ensures refused { S.tells → IfErr result (RecordingIsRefused (to_come S.left reader.old)) }
     ensures read { IfErr result (HasCause S.faults reader.old reader.new) }
     ensures never_falls { S.faults (source_of reader.old) ≤ S.faults (source_of reader.new) }
     ensures same_name { S.name (source_of reader.new) ≡ S.name (source_of reader.old) }
 {
-    let mut found = Found::new(alloc, pts);
+    let mut found = Findings::new(alloc, payload_types);
     let end = match gather(alloc, reader, &mut found) {
         Ok(end) => end,
         Err(fault) => return Err(fault),

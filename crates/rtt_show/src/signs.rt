@@ -5,7 +5,7 @@ ghost use Rattle.rtpdump_io.specs.InMemory.{HasRecords};
 ghost use Rattle.rtt_show.specs.Records.{OfRecords};
 ghost use Rattle.rtt_show.specs.Signs.{AreSigns, SignsMore};
 
-use crate::counting::one_if;
+use crate::sums::one_if;
 use crate::sorts::{has_octets, payload_of};
 use rtpdump_io::next_record;
 

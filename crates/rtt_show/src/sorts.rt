@@ -12,12 +12,12 @@ use crate::origins::Origin;
 use file_spec::limits::{FIRST_TYPE, LAST_TYPE};
 use red_blocks::{read_text, view_text};
 use rtp_header::{RtpView, read_rtp};
-use rtt_base::{Pts, TextPacket};
+use rtt_base::{PayloadTypes, TextPacket};
 use wire_spec::TextFault;
 
 /// A packet whose header is read, or none.
 #[derive(Clone, Copy)]
-pub(crate) enum Sorted<'a> {
+pub(crate) enum RecordClass<'a> {
     Headed(RtpView<'a>),
     NoRtp,
     Rtcp,
@@ -32,15 +32,15 @@ fn is_of_rtcp(octets: &[u8]) -> bool
 
 /// What a packet is by its header.
 #[inline(always)]
-pub(crate) fn sort_packet(octets: &[u8]) -> Sorted<'_>
+pub(crate) fn sort_packet(octets: &[u8]) -> RecordClass<'_>
     ensures { sorted result ≡ sort_of_what (Whole octets.now) }
 {
     if is_of_rtcp(octets) {
-        return Sorted::Rtcp;
+        return RecordClass::Rtcp;
     }
     match read_rtp(octets) {
-        Ok(view) => Sorted::Headed(view),
-        Err(_) => Sorted::NoRtp,
+        Ok(view) => RecordClass::Headed(view),
+        Err(_) => RecordClass::NoRtp,
     }
 }
 
@@ -49,8 +49,8 @@ pub(crate) fn payload_of(octets: &[u8]) -> &[u8]
     ensures { result.now ≡ payload_in (sort_of_what (Whole octets.now)) }
 {
     match sort_packet(octets) {
-        Sorted::Headed(view) => view.payload,
-        Sorted::NoRtp | Sorted::Rtcp => &[],
+        RecordClass::Headed(view) => view.payload,
+        RecordClass::NoRtp | RecordClass::Rtcp => &[],
     }
 }
 
@@ -62,10 +62,10 @@ pub(crate) fn has_octets(payload: &[u8]) -> bool
 }
 
 /// Whether a packet's payload type is one of the two of text.
-pub(crate) fn has_text_type(view: &RtpView<'_>, pts: Pts) -> bool
-    ensures { result ≡ is_of_text pts (reading view.now) }
+pub(crate) fn has_text_type(view: &RtpView<'_>, payload_types: PayloadTypes) -> bool
+    ensures { result ≡ is_of_text payload_types (reading view.now) }
 {
-    view.pt == pts.t140 || view.pt == pts.red
+    view.pt == payload_types.t140 || view.pt == payload_types.red
 }
 
 /// Whether a payload type may be given to text (RFC 3551, section 3).
@@ -80,16 +80,16 @@ pub(crate) fn may_be_given(pt: u8) -> bool
 pub(crate) fn read_source(
     octets: &[u8],
     ssrc: u32,
-    pts: Pts,
+    payload_types: PayloadTypes,
     packet: &mut TextPacket,
 ) -> Result<Origin, TextFault>
-    ensures { result ≡ seen (text_of octets.now (Some ssrc) pts) }
+    ensures { result ≡ seen (text_of octets.now (Some ssrc) payload_types) }
 {
-    if let Some(view) = view_text(octets, Some(ssrc), pts) {
+    if let Some(view) = view_text(octets, Some(ssrc), payload_types) {
         let (source, seq) = (view.source, view.seq);
         return Ok(Origin { source, seq });
     }
-    match read_text(octets, Some(ssrc), pts, packet) {
+    match read_text(octets, Some(ssrc), payload_types, packet) {
         Ok(()) => Ok(Origin {
             source: packet.source,
             seq: packet.seq,

@@ -8,20 +8,20 @@ ghost use Rattle.rtt_show.specs.Records.{OfRecords};
 ghost use Rattle.rtt_show.specs.Missed.{IsMissed};
 ghost use Rattle.rtt_show.specs.Strays.{Drains, Follows, CurrentComes, FollowsMore, IsShort, AreStrays, IsFewStrays, UsesMore, LatesMore, StraysMore, IsBound, StrayedMore};
 
-use crate::counting::one_if;
-use crate::missed::{Missed, missing};
+use crate::sums::one_if;
+use crate::losses::{Losses, missing};
 use crate::spreads::Spread;
-use gap_tracker::{Taken, Tracker};
+use gap_tracker::{Taken, ReorderBuffer};
 use red_blocks::read_text;
 use rtpdump_io::next_record;
 use rtt_base::limits::USUAL_WAIT;
-use rtt_base::{NoMemory, Pts};
+use rtt_base::{NoMemory, PayloadTypes};
 use std::alloc::Global;
 use std::collections::BTreeSet;
 
 /// A packet of text that came: its number, and whether it came in time, and so is used.
 #[derive(Clone, Copy)]
-pub(crate) struct Came {
+pub(crate) struct NumberedPacket {
     pub number: u64,
     pub in_time: bool,
 }
@@ -29,7 +29,7 @@ pub(crate) struct Came {
 /// Follows the packets of a stream by their numbers.
 #[derive(Drop)]
 pub(crate) struct Follower {
-    pub tracker: Tracker,
+    pub buffer: ReorderBuffer,
     pub spread: Spread,
 }
 
@@ -44,12 +44,12 @@ fn is_used_as(taken: Taken) -> bool
 }
 
 /// Lets the tracker give what is settled.
-fn drain(tracker: &mut Tracker)
-    ensures drains { Drains tracker.old tracker.new }
-    ensures quiet { has_ready tracker.new ≡ false }
-    ensures arrivals { arrival_count tracker.new ≡ arrival_count tracker.old }
+fn drain(buffer: &mut ReorderBuffer)
+    ensures drains { Drains buffer.old buffer.new }
+    ensures quiet { has_ready buffer.new ≡ false }
+    ensures arrivals { arrival_count buffer.new ≡ arrival_count buffer.old }
 {
-    while let Some(due) = tracker.next() {
+    while let Some(due) = buffer.next() {
         let _given = due;
     }
 }
@@ -60,33 +60,33 @@ impl Follower {
         ensures short { IfOk result (IsShort 0) }
     {
         Ok(Follower {
-            tracker: Tracker::new(alloc, u64::from(USUAL_WAIT))?,
+            buffer: ReorderBuffer::new(alloc, u64::from(USUAL_WAIT))?,
             spread: Spread::none(),
         })
     }
 
     /// Takes the packet that the tracker has now, and came at this moment.
-    fn take_read(&mut self, at: u32) -> Came
+    fn take_read(&mut self, at: u32) -> NumberedPacket
         requires { (n : ℕ) × (n < 2 ^ 32) × IsShort n self.old }
         ensures more { CurrentComes self.old at result self.new }
         ensures short { (n : ℕ) → IsShort n self.old → IsShort (n + 1) self.new }
     {
-        let number = self.spread.take(self.tracker.packet().seq);
-        let taken = self.tracker.arrive(u64::from(at));
-        drain(&mut self.tracker);
-        Came {
+        let number = self.spread.take(self.buffer.packet().seq);
+        let taken = self.buffer.arrive(u64::from(at));
+        drain(&mut self.buffer);
+        NumberedPacket {
             number,
             in_time: is_used_as(taken),
         }
     }
 
     /// Takes a packet that came at this moment, if it is one of text of the stream.
-    fn follow(&mut self, at: u32, octets: &[u8], ssrc: u32, pts: Pts) -> Option<Came>
+    fn follow(&mut self, at: u32, octets: &[u8], ssrc: u32, payload_types: PayloadTypes) -> Option<NumberedPacket>
         requires { (n : ℕ) × (n < 2 ^ 32) × IsShort n self.old }
-        ensures more { FollowsMore self.old at (text_of octets.now (Some ssrc) pts) result self.new }
+        ensures more { FollowsMore self.old at (text_of octets.now (Some ssrc) payload_types) result self.new }
         ensures short { (n : ℕ) → IsShort n self.old → IsShort (n + 1) self.new }
     {
-        match read_text(octets, Some(ssrc), pts, self.tracker.packet_mut()) {
+        match read_text(octets, Some(ssrc), payload_types, self.buffer.packet_mut()) {
             Ok(()) => Some(self.take_read(at)),
             Err(_fault) => None,
         }
@@ -146,7 +146,7 @@ impl Strays {
     }
 
     /// A packet came, of a stream whose first packet has the number `first`.
-    fn take(&mut self, came: Came, first: u64) -> Result<(), NoMemory>
+    fn take(&mut self, came: NumberedPacket, first: u64) -> Result<(), NoMemory>
         requires { (n : ℕ) × (n < 2 ^ 32) × IsFewStrays n self.old }
         ensures more { OnOk result (StraysMore self.old came first self.new) }
         ensures few { OnOk result ((n : ℕ) → IsFewStrays n self.old → IsFewStrays (n + 1) self.new) }
@@ -168,13 +168,13 @@ fn take_packet(
     at: u32,
     octets: &[u8],
     ssrc: u32,
-    pts: Pts,
+    payload_types: PayloadTypes,
 ) -> Result<(), NoMemory>
     requires { (n : ℕ) × (n < 2 ^ 32) × IsBound n follower.old strays.old }
-    ensures more { OnOk result (StrayedMore follower.old strays.old at (text_of octets.now (Some ssrc) pts) follower.new strays.new) }
+    ensures more { OnOk result (StrayedMore follower.old strays.old at (text_of octets.now (Some ssrc) payload_types) follower.new strays.new) }
     ensures few { OnOk result ((n : ℕ) → IsBound n follower.old strays.old → IsBound (n + 1) follower.new strays.new) }
 {
-    match follower.follow(at, octets, ssrc, pts) {
+    match follower.follow(at, octets, ssrc, payload_types) {
         Some(came) => strays.take(came, follower.spread.first),
         None => Ok(()),
     }
@@ -185,20 +185,20 @@ fn take_packet(
 pub(crate) fn strays_of(
     alloc: Global,
     ssrc: u32,
-    pts: Pts,
+    payload_types: PayloadTypes,
     records: &[u8],
-) -> Result<Missed, NoMemory>
+) -> Result<Losses, NoMemory>
     requires { HasRecords records.now }
-    ensures { IfOk result (λ missed. OfRecords records.now (IsMissed pts ssrc missed)) }
+    ensures { IfOk result (λ missed. OfRecords records.now (IsMissed payload_types ssrc missed)) }
 {
     let mut follower = Follower::new(alloc)?;
     let mut strays = Strays::new(alloc);
     let mut rest = records;
     while let Some((at, octets, more)) = next_record(rest) {
-        take_packet(&mut follower, &mut strays, at, octets, ssrc, pts)?;
+        take_packet(&mut follower, &mut strays, at, octets, ssrc, payload_types)?;
         rest = more;
     }
-    Ok(Missed {
+    Ok(Losses {
         lost: missing(follower.spread, strays.above),
         late: strays.packets,
     })

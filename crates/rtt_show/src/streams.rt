@@ -11,23 +11,23 @@ ghost use Rattle.rtpdump_io.specs.InMemory.{HasRecords};
 ghost use Rattle.rtt_show.specs.Records.{OfRecords};
 ghost use Rattle.rtt_show.specs.Rows.{IsRow};
 ghost use Rattle.rtt_show.specs.Surveys.{IsSurvey};
-ghost use Rattle.rtt_show.specs.Shown.{asked, conf_of, heard_text, refusal_lines};
+ghost use Rattle.rtt_show.specs.Shown.{asked, settings_of, heard_text, refusal_lines};
 
 use crate::first_sources::FirstSources;
-use crate::hearing::hear_all;
-use crate::missed::missed_of;
-use crate::printing::{append_number_line, append_title};
+use crate::receptions::hear_all;
+use crate::losses::missed_of;
+use crate::print_lines::{append_number_line, append_title};
 use crate::rows::{Row, row_of};
 use crate::sorts::place_among;
 use crate::surveys::{Survey, survey_of};
 use command_spec::fault_name;
 use itoa::Buffer;
 use rtt_base::limits::USUAL_WAIT;
-use rtt_base::{Bytes, NoMemory, Pts};
+use rtt_base::{Bytes, NoMemory, PayloadTypes};
 use std::alloc::Global;
 use t140_text::show;
 use t140_text::views::{append_counts, append_source_view};
-use terminal::{SourceText, TermConf, Terminal};
+use terminal::{SourceText, TerminalSettings, Terminal};
 use wire_spec::TextFault;
 
 /// The refusals, in the order of their tests.
@@ -44,12 +44,12 @@ const REFUSALS: [TextFault; 9] = [
 ];
 
 /// Who hears the stream.
-fn conf_for(ssrc: u32, pts: Pts) -> TermConf
-    ensures { result ≡ conf_of pts ssrc }
+fn settings_for(ssrc: u32, payload_types: PayloadTypes) -> TerminalSettings
+    ensures { result ≡ settings_of payload_types ssrc }
 {
-    TermConf {
+    TerminalSettings {
         ssrc,
-        pts,
+        payload_types,
         wait: u64::from(USUAL_WAIT),
     }
 }
@@ -58,20 +58,20 @@ fn conf_for(ssrc: u32, pts: Pts) -> TermConf
 fn hear_sources(
     alloc: Global,
     ssrc: u32,
-    pts: Pts,
+    payload_types: PayloadTypes,
     sources: &FirstSources,
     records: &[u8],
 ) -> Result<Terminal, NoMemory>
     requires few { length sources.now.kept.items ≤ MOST_SOURCES }
     requires differ { AllPairs (λ a b. a ≢ b) sources.now.kept.items }
     requires records { HasRecords records.now }
-    ensures { IfOk result (HasHeard (conf_of pts ssrc) (asked ssrc sources.now.kept.items) records.now) }
+    ensures { IfOk result (HasHeard (settings_of payload_types ssrc) (asked ssrc sources.now.kept.items) records.now) }
 {
-    let conf = conf_for(ssrc, pts);
+    let settings = settings_for(ssrc, payload_types);
     if sources.kept.is_empty() {
-        return hear_all(alloc, conf, &[ssrc], records);
+        return hear_all(alloc, settings, &[ssrc], records);
     }
-    hear_all(alloc, conf, sources.kept.as_slice(), records)
+    hear_all(alloc, settings, sources.kept.as_slice(), records)
 }
 
 /// Appends what one source shows.
@@ -153,19 +153,20 @@ fn append_heard(
 fn append_stream(
     alloc: Global,
     ssrc: u32,
-    pts: Pts,
+    payload_types: PayloadTypes,
     records: &[u8],
     found: &Survey,
     terminal: &Terminal,
     out: &mut Bytes,
 ) -> Result<(), NoMemory>
     requires records { HasRecords records.now }
-    requires found { OfRecords records.now (IsSurvey pts ssrc found.now) }
-    requires heard { HasHeard (conf_of pts ssrc) (asked ssrc found.now.sources.kept.items) records.now terminal.now }
-    ensures { OnOk result (OfRecords records.now (λ came. out.new ≡ out.old ++ stream_view pts ssrc came)) }
+    requires found { OfRecords records.now (IsSurvey payload_types ssrc found.now) }
+    requires heard { HasHeard (settings_of payload_types ssrc) (asked ssrc found.now.sources.kept.items) records.now
+        terminal.now }
+    ensures { OnOk result (OfRecords records.now (λ came. out.new ≡ out.old ++ stream_view payload_types ssrc came)) }
 {
     let used = terminal.counts().used;
-    let missed = missed_of(alloc, ssrc, pts, records, found.spread, used)?;
+    let missed = missed_of(alloc, ssrc, payload_types, records, found.spread, used)?;
     append_title(ssrc, found.from, found.to, missed, out)?;
     append_heard(alloc, found, terminal, out)
 }
@@ -175,27 +176,27 @@ fn append_stream(
 fn show_row(
     alloc: Global,
     ssrc: u32,
-    pts: Pts,
+    payload_types: PayloadTypes,
     records: &[u8],
     row: Row,
     out: &mut Bytes,
 ) -> Result<bool, NoMemory>
     requires records { HasRecords records.now }
     requires row { OfRecords records.now (IsRow row) }
-    ensures shown { IfOk result (λ shown. shown ≡ true → OfRecords records.now (λ came. out.new ≡ out.old ++ stream_view pts ssrc came)) }
+    ensures shown { IfOk result (λ shown. shown ≡ true → OfRecords records.now (λ came. out.new ≡ out.old ++ stream_view payload_types ssrc came)) }
     ensures unchanged { IfOk result (λ shown. shown ≡ false → out.new ≡ out.old) }
 {
     if row.packets == 0 {
         return Ok(false);
     }
-    let conf = conf_for(ssrc, pts);
-    let terminal = hear_all(alloc, conf, &[row.source], records)?;
+    let settings = settings_for(ssrc, payload_types);
+    let terminal = hear_all(alloc, settings, &[row.source], records)?;
     let used = terminal.counts().used;
     if used != row.packets {
         return Ok(false);
     }
     let found = Survey::of_row(alloc, row)?;
-    append_stream(alloc, ssrc, pts, records, &found, &terminal, out)?;
+    append_stream(alloc, ssrc, payload_types, records, &found, &terminal, out)?;
     Ok(true)
 }
 
@@ -204,16 +205,16 @@ fn show_row(
 fn show_if_row(
     alloc: Global,
     ssrc: u32,
-    pts: Pts,
+    payload_types: PayloadTypes,
     records: &[u8],
     out: &mut Bytes,
 ) -> Result<bool, NoMemory>
     requires { HasRecords records.now }
-    ensures shown { IfOk result (λ shown. shown ≡ true → OfRecords records.now (λ came. out.new ≡ out.old ++ stream_view pts ssrc came)) }
+    ensures shown { IfOk result (λ shown. shown ≡ true → OfRecords records.now (λ came. out.new ≡ out.old ++ stream_view payload_types ssrc came)) }
     ensures unchanged { IfOk result (λ shown. shown ≡ false → out.new ≡ out.old) }
 {
     match row_of(records) {
-        Some(row) => show_row(alloc, ssrc, pts, records, row, out),
+        Some(row) => show_row(alloc, ssrc, payload_types, records, row, out),
         None => Ok(false),
     }
 }
@@ -222,31 +223,31 @@ fn show_if_row(
 fn show_any(
     alloc: Global,
     ssrc: u32,
-    pts: Pts,
+    payload_types: PayloadTypes,
     records: &[u8],
     out: &mut Bytes,
 ) -> Result<(), NoMemory>
     requires { HasRecords records.now }
-    ensures { OnOk result (OfRecords records.now (λ came. out.new ≡ out.old ++ stream_view pts ssrc came)) }
+    ensures { OnOk result (OfRecords records.now (λ came. out.new ≡ out.old ++ stream_view payload_types ssrc came)) }
 {
-    let found = survey_of(alloc, records, ssrc, pts)?;
-    let terminal = hear_sources(alloc, ssrc, pts, &found.sources, records)?;
-    append_stream(alloc, ssrc, pts, records, &found, &terminal, out)
+    let found = survey_of(alloc, records, ssrc, payload_types)?;
+    let terminal = hear_sources(alloc, ssrc, payload_types, &found.sources, records)?;
+    append_stream(alloc, ssrc, payload_types, records, &found, &terminal, out)
 }
 
 /// Appends what is shown of a stream with these packets.
 pub(crate) fn show_stream(
     alloc: Global,
     ssrc: u32,
-    pts: Pts,
+    payload_types: PayloadTypes,
     records: &[u8],
     out: &mut Bytes,
 ) -> Result<(), NoMemory>
     requires { HasRecords records.now }
-    ensures { OnOk result (OfRecords records.now (λ came. out.new ≡ out.old ++ stream_view pts ssrc came)) }
+    ensures { OnOk result (OfRecords records.now (λ came. out.new ≡ out.old ++ stream_view payload_types ssrc came)) }
 {
-    if show_if_row(alloc, ssrc, pts, records, out)? {
+    if show_if_row(alloc, ssrc, payload_types, records, out)? {
         return Ok(());
     }
-    show_any(alloc, ssrc, pts, records, out)
+    show_any(alloc, ssrc, payload_types, records, out)
 }

@@ -4,7 +4,7 @@ ghost use Rattle.rtpdump_io.specs.InMemory.{HasRecords};
 ghost use Rattle.rtt_show.specs.Records.{OfRecords};
 ghost use Rattle.rtt_show.specs.Rows.{SurveysRow};
 ghost use Rattle.rtt_show.specs.Surveys.{IsFew, IsSurvey, SurveysMore};
-ghost use Rattle.rtt_base.specs.declared.text_packets.Pts.{Pts as PayloadTypes};
+ghost use Rattle.rtt_base.specs.declared.text_packets.PayloadTypes.{PayloadTypes as Types};
 
 use crate::first_sources::FirstSources;
 use crate::origins::Origin;
@@ -12,7 +12,7 @@ use crate::rows::Row;
 use crate::sorts::{place_among, read_source};
 use crate::spreads::Spread;
 use rtpdump_io::next_record;
-use rtt_base::{NoMemory, Pts, TextPacket};
+use rtt_base::{NoMemory, PayloadTypes, TextPacket};
 use std::alloc::Global;
 use wire_spec::TextFault;
 use wire_spec::limits::LAST_RECORD_MOMENT;
@@ -41,7 +41,7 @@ fn count_at(counts: &mut [u64; 10], place: usize)
 impl Survey {
     /// No packet came yet.
     fn new(alloc: Global) -> Survey
-        ensures nothing { (pts : PayloadTypes) (ssrc : ℕ) → IsSurvey pts ssrc result [] }
+        ensures nothing { (payload_types : Types) (ssrc : ℕ) → IsSurvey payload_types ssrc result [] }
         ensures few { IsFew 0 result }
     {
         Survey {
@@ -102,16 +102,16 @@ pub(crate) fn survey_of(
     alloc: Global,
     records: &[u8],
     ssrc: u32,
-    pts: Pts,
+    payload_types: PayloadTypes,
 ) -> Result<Survey, NoMemory>
     requires { HasRecords records.now }
-    ensures { IfOk result (λ found. OfRecords records.now (IsSurvey pts ssrc found)) }
+    ensures { IfOk result (λ found. OfRecords records.now (IsSurvey payload_types ssrc found)) }
 {
     let mut packet = TextPacket::default();
     let mut found = Survey::new(alloc);
     let mut rest = records;
     while let Some((at, octets, more)) = next_record(rest) {
-        let read = read_source(octets, ssrc, pts, &mut packet);
+        let read = read_source(octets, ssrc, payload_types, &mut packet);
         found.take(at, read)?;
         rest = more;
     }

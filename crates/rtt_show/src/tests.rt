@@ -1,14 +1,14 @@
 use crate::show_recording;
-use recording_starts::Opened;
+use recording_starts::HeadReader;
 use rtpdump_io::{DumpReader, RecordingFault};
-use rtt_base::{Bytes, Pts};
+use rtt_base::{Bytes, PayloadTypes};
 use rtt_io::SteadySource;
 use std::alloc::Global;
 use std::process::Abort;
 use std::test::Fail;
 use wire_spec::DumpKind;
 
-const USUAL: Pts = Pts { t140: 98, red: 100 };
+const USUAL: PayloadTypes = PayloadTypes { t140: 98, red: 100 };
 
 // The line of a recording, and what its head has behind the start.
 const LINE: [u8; 28] = *b"#!rtpplay1.0 127.0.0.1/5004\n";
@@ -65,7 +65,7 @@ fn expect_shown_from(
     alloc: Global,
     start: [u8; 8],
     records: &[&[u8]],
-    pts: Pts,
+    payload_types: PayloadTypes,
     expected: &str,
 ) -> Result<(), Fail> {
     let mut recording = Bytes::new(alloc);
@@ -75,12 +75,12 @@ fn expect_shown_from(
     for record in records {
         recording.append(record)?;
     }
-    let (opened, looked) = Opened::open(SteadySource::new(recording));
+    let (opened, looked) = HeadReader::open(SteadySource::new(recording));
     let Ok(began) = looked else {
         panic!(rt; "the head is not read");
     };
     let mut reader = DumpReader::new(opened);
-    match show_recording(alloc, &mut reader, began, pts) {
+    match show_recording(alloc, &mut reader, began, payload_types) {
         Ok(shown) => assert!(rt; shown.as_slice() == expected.as_bytes()),
         Err(_) => panic!(rt; "the recording is not shown"),
     }
@@ -92,10 +92,10 @@ fn expect_shown(
     rt: &impl Abort,
     alloc: Global,
     records: &[&[u8]],
-    pts: Pts,
+    payload_types: PayloadTypes,
     expected: &str,
 ) -> Result<(), Fail> {
-    expect_shown_from(rt, alloc, AT_NO_TIME, records, pts, expected)
+    expect_shown_from(rt, alloc, AT_NO_TIME, records, payload_types, expected)
 }
 
 #[test]
@@ -122,7 +122,7 @@ fn the_source_of_a_mixed_stream_is_shown(rt: HostRuntime) -> Result<(), Fail> {
 
 #[test]
 fn what_other_packets_are_is_told(rt: HostRuntime) -> Result<(), Fail> {
-    let types = Pts { t140: 96, red: 97 };
+    let types = PayloadTypes { t140: 96, red: 97 };
     let red = "-- ssrc 1001 type 100 packets 4 red of 98\n-- whole\n";
     expect_shown(&rt, rt.alloc(), &[&LETTERS], types, red)?;
     let plain = "-- ssrc 7 type 97 packets 1 text\n-- whole\n";

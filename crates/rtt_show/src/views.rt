@@ -8,21 +8,21 @@ ghost use Rattle.rtpdump_io.specs.InMemory.{HasRecords};
 ghost use Rattle.rtt_show.specs.Finds.{IsFound, IsSmall};
 ghost use Rattle.rtt_show.specs.Whole.{AreShown, IsGroupOf, IsGroupShown, IsShownOf, ends, others_text, shape_limit};
 
-use crate::found::Found;
+use crate::findings::Findings;
 use crate::groups::{Group, Groups};
 use crate::pairs::show_pair;
-use crate::printing::{append_number, append_number_line};
+use crate::print_lines::{append_number, append_number_line};
 use crate::streams::show_stream;
 use command_spec::dump_kind_name;
 use recording_starts::append_began;
 use rtpdump_io::DumpFault;
-use rtt_base::{Bytes, NoMemory, Pts};
+use rtt_base::{Bytes, NoMemory, PayloadTypes};
 use std::alloc::Global;
 
 /// What groups of packets are: streams of text with these payload types, or pairs.
 #[derive(Clone, Copy)]
 pub(crate) enum Shape {
-    Stream(Pts),
+    Stream(PayloadTypes),
     Pair,
 }
 
@@ -49,7 +49,7 @@ fn show_group(alloc: Global, shape: Shape, group: &Group, out: &mut Bytes) -> Re
 {
     let records = group.records.as_slice();
     match shape {
-        Shape::Stream(pts) => show_stream(alloc, group.name as u32, pts, records, out),
+        Shape::Stream(payload_types) => show_stream(alloc, group.name as u32, payload_types, records, out),
         Shape::Pair => show_pair(ssrc_in(group.name), type_in(group.name), records, out),
     }
 }
@@ -71,7 +71,7 @@ fn show_groups(
 }
 
 /// Appends how many records are no packets of a stream or a pair.
-fn append_others(found: &Found, out: &mut Bytes) -> Result<(), NoMemory>
+fn append_others(found: &Findings, out: &mut Bytes) -> Result<(), NoMemory>
     requires { (n : ℕ) × (n < 2 ^ 32) × IsSmall n found.now }
     ensures { OnOk result (out.new ≡ out.old ++ others_text found.now) }
 {
@@ -113,7 +113,7 @@ fn append_start(start: Option<u64>, out: &mut Bytes) -> Result<(), NoMemory>
 /// All that is shown of a recording that began at `start`, with the fault that ends it.
 pub(crate) fn show_found(
     alloc: Global,
-    found: &Found,
+    found: &Findings,
     start: Option<u64>,
     end: Option<DumpFault>,
 ) -> Result<Bytes, NoMemory>
@@ -123,7 +123,7 @@ pub(crate) fn show_found(
     ensures { IfOk result (IsShownOf found.now start end) }
 {
     let mut out = Bytes::new(alloc);
-    let shape = Shape::Stream(found.pts);
+    let shape = Shape::Stream(found.payload_types);
     show_groups(alloc, shape, found.streams.groups.as_slice(), &mut out)?;
     show_groups(alloc, Shape::Pair, found.pairs.groups.as_slice(), &mut out)?;
     append_others(found, &mut out)?;

@@ -3,7 +3,7 @@ use Rattle.std.proofs.Common.{◌≡◌, ℕ, zero, suc, ◌+◌, ◌-◌, ◌<�
 use Rattle.std.specs.Prelude.{All, reverse, Option, None, ◌&&◌}
 use Rattle.std.proofs.lemmas.List.{reverse-append}
 use Rattle.std.proofs.lemmas.List.Elements.{All-nil, All-cons, All-append}
-use Rattle.rtt_base.specs.declared.text_packets.Pts.{Pts}
+use Rattle.rtt_base.specs.declared.text_packets.PayloadTypes.{PayloadTypes}
 use Rattle.wire_spec.specs.declared.faults.TextFault.{TextFault}
 use Rattle.wire_spec.specs.Packets.{Packet, Arrival, has_text}
 use Rattle.wire_spec.specs.Text.{text_of}
@@ -58,22 +58,22 @@ latest_by : (t : ℕ) (past : List Arrival) → AreBy t past → latest past ≤
 latest_by t [] b = omega arith
 latest_by t (a ∷ past) b = b.0
 
-with_by : (t ssrc : ℕ) (pts : Pts) (item : Item) (past : List Arrival) → item.time ≤ t → AreBy t past → AreBy t (arrivals_with ssrc pts item past)
-with_by t ssrc pts item past l b = go item.what
+with_by : (t ssrc : ℕ) (payload_types : PayloadTypes) (item : Item) (past : List Arrival) → item.time ≤ t → AreBy t past → AreBy t (arrivals_with ssrc payload_types item past)
+with_by t ssrc payload_types item past l b = go item.what
   where
     came : (x : Result Packet TextFault) → AreBy t (arrived item.time x past)
     came (Ok p) = (let h = latest_by t past b in omega (arith, l, h), b)
     came (Err f) = b
 
-    go : (w : What) → AreBy t (elim w [ Whole octets ↦ arrived item.time (text_of octets (Some ssrc) pts) past | Rtcp ↦ past | Cut ↦ past | Large ↦ past ])
-    go (Whole octets) = came (text_of octets (Some ssrc) pts)
+    go : (w : What) → AreBy t (elim w [ Whole octets ↦ arrived item.time (text_of octets (Some ssrc) payload_types) past | Rtcp ↦ past | Cut ↦ past | Large ↦ past ])
+    go (Whole octets) = came (text_of octets (Some ssrc) payload_types)
     go Rtcp = b
     go Cut = b
     go Large = b
 
-pub after_by : (t ssrc : ℕ) (pts : Pts) (past : List Arrival) (items : List Item) → ((item : Item) → In item items → item.time ≤ t) → AreBy t past → AreBy t (arrivals_after ssrc pts past items)
-after_by t ssrc pts past [] l b = b
-after_by t ssrc pts past (item ∷ items) l b = after_by t ssrc pts (arrivals_with ssrc pts item past) items (λ x i. l x (inr i)) (with_by t ssrc pts item past (l item (inl refl)) b)
+pub after_by : (t ssrc : ℕ) (payload_types : PayloadTypes) (past : List Arrival) (items : List Item) → ((item : Item) → In item items → item.time ≤ t) → AreBy t past → AreBy t (arrivals_after ssrc payload_types past items)
+after_by t ssrc payload_types past [] l b = b
+after_by t ssrc payload_types past (item ∷ items) l b = after_by t ssrc payload_types (arrivals_with ssrc payload_types item past) items (λ x i. l x (inr i)) (with_by t ssrc payload_types item past (l item (inl refl)) b)
 
 pub numbered_by : (t : ℕ) (past : List Arrival) → AreBy t past → CameBy t (numbered past)
 numbered_by t [] b e i = absurd i

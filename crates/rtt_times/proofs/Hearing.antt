@@ -3,7 +3,7 @@ use Rattle.std.proofs.Common.{◌≡◌, ℕ, ◌+◌, ◌≤◌, false, cond, S
 use Rattle.std.specs.Prelude.{max, ◌==◌}
 use Rattle.std.proofs.lemmas.Bool.{ne_eqb}
 use Rattle.std.proofs.lemmas.List.{map-append}
-use Rattle.rtt_base.specs.declared.text_packets.Pts.{Pts}
+use Rattle.rtt_base.specs.declared.text_packets.PayloadTypes.{PayloadTypes}
 use Rattle.rtt_base.specs.declared.text_packets.TextPacket.{TextPacket}
 use Rattle.wire_spec.specs.declared.faults.TextFault.{TextFault}
 use Rattle.wire_spec.specs.Packets.{Packet, Arrival}
@@ -18,14 +18,14 @@ use Rattle.gap_tracker.specs.Stories.{Story, Given, begun, came, ended, given_of
 use Rattle.gap_tracker.specs.States.{State, with_packet}
 use Rattle.gap_tracker.specs.Tracks.{Tracks}
 use Rattle.gap_tracker.specs.Views.{next_number}
-use Rattle.gap_tracker.specs.Told.{Leads, Gives, GivesAtOnce, GaveReady, AllReady}
+use Rattle.gap_tracker.specs.Told.{LeadsStory, Gives, GivesAtOnce, GaveReady, AllReady}
 use Rattle.gap_tracker.proofs.Steps.{tracks_with}
 use Rattle.ear.specs.Hears.{IsToldOf, told}
 use Rattle.ear.proofs.ReadyBy.{told_arrived}
 use Rattle.rtt_show.specs.Surveys.{firsts_of}
 use Rattle.rtt_show.proofs.Surveying.{firsts_more}
-use Rattle.rtt_times.specs.declared.heard.Came.{Came}
-use Rattle.rtt_times.specs.declared.heard.Heard.{Heard}
+use Rattle.rtt_times.specs.declared.stream_packets.TimedPacket.{TimedPacket}
+use Rattle.rtt_times.specs.declared.stream_packets.StreamPackets.{StreamPackets}
 use Rattle.rtt_times.specs.Heard.{Counts, Drains, Hearing, HearsOctets, HearsPacket, IsEmpty, IsHeard, Listening, came_in, due_in, number_from, with_given}
 
 -- ---- numbers
@@ -62,7 +62,7 @@ drained_all old now used more d all story k e =
 
 -- ---- a packet
 -- what is kept of it, whatever was given
-counted_as : (old new : Heard) (t u : State) (story : Story) (names : Firsts) (p : Packet) (at : ℕ) (given : List Given) → Hearing t old story names
+counted_as : (old new : StreamPackets) (t u : State) (story : Story) (names : Firsts) (p : Packet) (at : ℕ) (given : List Given) → Hearing t old story names
     → firsts_of new.sources ≡ with_name (firsts_of old.sources) p.source → new.came.items ≡ old.came.items ++ record { number = number_from old.top p.seq; time = max old.moment at } ∷ []
     → new.top ≡ max old.top (number_from old.top p.seq) → new.moment ≡ max old.moment at → new.used.items ≡ map due_in given
     → Tracks u (with_given (came story at p) given) → Hearing u new (with_given (came story at p) given) (with_name names p.source)
@@ -74,7 +74,7 @@ counted_as old new t u story names p at given h s c to m e k =
       tracks = k;
       sources = s ∙ ap (λ (f : Firsts). with_name f p.source) h.sources;
       used = e;
-      came = c ∙ (ap (λ (xs : List Came). xs ++ record { number = number_from old.top p.seq; time = max old.moment at } ∷ []) h.came
+      came = c ∙ (ap (λ (xs : List TimedPacket). xs ++ record { number = number_from old.top p.seq; time = max old.moment at } ∷ []) h.came
           ∙ (ap (λ (n : ℕ). came_in (numbered story.past) ++ record { number = n; time = max old.moment at } ∷ []) number
           ∙ ap (λ (n : ℕ). came_in (numbered story.past) ++ record { number = number_after (numbered story.past) p.seq; time = n } ∷ []) time));
       top = to ∙ (ap (λ (n : ℕ). max n (number_from old.top p.seq)) h.top ∙ ap (λ (n : ℕ). max (greatest (numbered story.past)) n) number);
@@ -82,14 +82,14 @@ counted_as old new t u story names p at given h s c to m e k =
     }
 
 -- it comes, and the tracker gives what is ready
-pub hears_current : (t u v : State) (old mid new : Heard) (p : Packet) (at : ℕ) → Counts p.source p.seq at old mid → Leads t u (λ story. came story at p) → Drains u mid.used.items v new.used.items
+pub hears_current : (t u v : State) (old mid new : StreamPackets) (p : Packet) (at : ℕ) → Counts p.source p.seq at old mid → LeadsStory t u (λ story. came story at p) → Drains u mid.used.items v new.used.items
     → new.sources ≡ mid.sources → new.came ≡ mid.came → new.top ≡ mid.top → new.moment ≡ mid.moment → HearsPacket at p t old v new
 hears_current t u v old mid new p at c l d s ca to m story names h =
     let q = d (came story at p) (l story h.tracks) (ap (λ us. us.items) c.used ∙ h.used) in
     (ready_dues (came story at p), counted_as old new t v story names p at (ready_dues (came story at p)) h (ap firsts_of s ∙ c.sources) (ap (λ xs. xs.items) ca ∙ c.came) (to ∙ c.top) (m ∙ c.moment) q.1 q.0)
 
 -- it is given at once
-pub hears_viewed : (t u : State) (old mid new : Heard) (p : Packet) (at number ready : ℕ) → Counts p.source p.seq at old mid → number ≡ next_number t p.seq → GivesAtOnce t u at number ready
+pub hears_viewed : (t u : State) (old mid new : StreamPackets) (p : Packet) (at number ready : ℕ) → Counts p.source p.seq at old mid → number ≡ next_number t p.seq → GivesAtOnce t u at number ready
     → new.used.items ≡ mid.used.items ++ record { number = number; ready = ready } ∷ [] → new.sources ≡ mid.sources → new.came ≡ mid.came → new.top ≡ mid.top → new.moment ≡ mid.moment → HearsPacket at p t old u new
 hears_viewed t u old mid new p at number ready c n g us s ca to m story names h =
     let given = story.given ++ given_packet number ready p ∷ [] in
@@ -97,7 +97,7 @@ hears_viewed t u old mid new p at number ready c n g us s ca to m story names h 
     (given, counted_as old new t u story names p at given h (ap firsts_of s ∙ c.sources) (ap (λ xs. xs.items) ca ∙ c.came) (to ∙ c.top) (m ∙ c.moment) used (g p n story h.tracks))
 
 -- another packet was current
-pub with_packet_heard : (t u : State) (q : TextPacket) (old new : Heard) (p : Packet) (at : ℕ) → HearsPacket at p (with_packet t q) old u new → HearsPacket at p t old u new
+pub with_packet_heard : (t u : State) (q : TextPacket) (old new : StreamPackets) (p : Packet) (at : ℕ) → HearsPacket at p (with_packet t q) old u new → HearsPacket at p t old u new
 with_packet_heard t u q old new p at h story names k = h story names (record {
   wait = k.wait;
   tracks = tracks_with t q story k.tracks;
@@ -109,39 +109,39 @@ with_packet_heard t u q old new p at h story names k = h story names (record {
 })
 
 -- ---- records
-after_more : (ssrc : ℕ) (pts : Pts) (before : List Arrival) (came : List Item) (item : Item) → arrivals_after ssrc pts before (came ++ item ∷ []) ≡ arrivals_with ssrc pts item (arrivals_after ssrc pts before came)
-after_more ssrc pts before [] item = refl
-after_more ssrc pts before (x ∷ came) item = after_more ssrc pts (arrivals_with ssrc pts x before) came item
+after_more : (ssrc : ℕ) (payload_types : PayloadTypes) (before : List Arrival) (came : List Item) (item : Item) → arrivals_after ssrc payload_types before (came ++ item ∷ []) ≡ arrivals_with ssrc payload_types item (arrivals_after ssrc payload_types before came)
+after_more ssrc payload_types before [] item = refl
+after_more ssrc payload_types before (x ∷ came) item = after_more ssrc payload_types (arrivals_with ssrc payload_types x before) came item
 
-sources_more : (ssrc : ℕ) (pts : Pts) (items : List Item) (at : ℕ) (octets : List ℕ) (p : Packet) → text_of octets (Some ssrc) pts ≡ Ok p → sources ssrc pts (items ++ sent_item (at, octets) ∷ []) ≡ with_name (sources ssrc pts items) p.source
-sources_more ssrc pts items at octets p x = firsts_more (λ item. source_in (text_at ssrc pts item)) items (sent_item (at, octets)) ∙ rw x refl
+sources_more : (ssrc : ℕ) (payload_types : PayloadTypes) (items : List Item) (at : ℕ) (octets : List ℕ) (p : Packet) → text_of octets (Some ssrc) payload_types ≡ Ok p → sources ssrc payload_types (items ++ sent_item (at, octets) ∷ []) ≡ with_name (sources ssrc payload_types items) p.source
+sources_more ssrc payload_types items at octets p x = firsts_more (λ item. source_in (text_at ssrc payload_types item)) items (sent_item (at, octets)) ∙ rw x refl
 
-sources_same : (ssrc : ℕ) (pts : Pts) (items : List Item) (at : ℕ) (octets : List ℕ) (f : TextFault) → text_of octets (Some ssrc) pts ≡ Err f → sources ssrc pts (items ++ sent_item (at, octets) ∷ []) ≡ sources ssrc pts items
-sources_same ssrc pts items at octets f x = firsts_more (λ item. source_in (text_at ssrc pts item)) items (sent_item (at, octets)) ∙ rw x refl
+sources_same : (ssrc : ℕ) (payload_types : PayloadTypes) (items : List Item) (at : ℕ) (octets : List ℕ) (f : TextFault) → text_of octets (Some ssrc) payload_types ≡ Err f → sources ssrc payload_types (items ++ sent_item (at, octets) ∷ []) ≡ sources ssrc payload_types items
+sources_same ssrc payload_types items at octets f x = firsts_more (λ item. source_in (text_at ssrc payload_types item)) items (sent_item (at, octets)) ∙ rw x refl
 
 -- a packet of text of the stream
-pub text_heard : (ssrc : ℕ) (pts : Pts) (at : ℕ) (octets : List ℕ) (p : Packet) (t u : State) (old new : Heard) → text_of octets (Some ssrc) pts ≡ Ok p → HearsPacket at p t old u new → HearsOctets ssrc pts at octets t old u new
-text_heard ssrc pts at octets p t u old new x h items l =
-    let past = arrivals_after ssrc pts [] items in
-    let q = h l.story (sources ssrc pts items) l.hearing in
-    let now = told_arrived l.story past at (text_of octets (Some ssrc) pts) l.told in
-    let now_p : IsToldOf (came l.story at p) (arrivals_with ssrc pts (sent_item (at, octets)) past) = subst (λ (r : Result Packet TextFault). IsToldOf (told l.story at r) (arrivals_with ssrc pts (sent_item (at, octets)) past)) x now in
+pub text_heard : (ssrc : ℕ) (payload_types : PayloadTypes) (at : ℕ) (octets : List ℕ) (p : Packet) (t u : State) (old new : StreamPackets) → text_of octets (Some ssrc) payload_types ≡ Ok p → HearsPacket at p t old u new → HearsOctets ssrc payload_types at octets t old u new
+text_heard ssrc payload_types at octets p t u old new x h items l =
+    let past = arrivals_after ssrc payload_types [] items in
+    let q = h l.story (sources ssrc payload_types items) l.hearing in
+    let now = told_arrived l.story past at (text_of octets (Some ssrc) payload_types) l.told in
+    let now_p : IsToldOf (came l.story at p) (arrivals_with ssrc payload_types (sent_item (at, octets)) past) = subst (λ (r : Result Packet TextFault). IsToldOf (told l.story at r) (arrivals_with ssrc payload_types (sent_item (at, octets)) past)) x now in
     record {
       story = with_given (came l.story at p) q.0;
-      told = subst (IsToldOf (with_given (came l.story at p) q.0)) (sym (after_more ssrc pts [] items (sent_item (at, octets)))) (record { arrivals = now_p.arrivals; moment = now_p.moment });
-      hearing = subst (Hearing u new (with_given (came l.story at p) q.0)) (sym (sources_more ssrc pts items at octets p x)) q.1;
+      told = subst (IsToldOf (with_given (came l.story at p) q.0)) (sym (after_more ssrc payload_types [] items (sent_item (at, octets)))) (record { arrivals = now_p.arrivals; moment = now_p.moment });
+      hearing = subst (Hearing u new (with_given (came l.story at p) q.0)) (sym (sources_more ssrc payload_types items at octets p x)) q.1;
     }
 
 -- what is none
-pub no_text_heard : (ssrc : ℕ) (pts : Pts) (at : ℕ) (octets : List ℕ) (f : TextFault) (t : State) (q : TextPacket) (old : Heard) → text_of octets (Some ssrc) pts ≡ Err f → HearsOctets ssrc pts at octets t old (with_packet t q) old
-no_text_heard ssrc pts at octets f t q old x items l =
-    let past = arrivals_after ssrc pts [] items in
-    let now = told_arrived l.story past at (text_of octets (Some ssrc) pts) l.told in
-    let same : IsToldOf l.story (arrivals_with ssrc pts (sent_item (at, octets)) past) = subst (λ (r : Result Packet TextFault). IsToldOf (told l.story at r) (arrivals_with ssrc pts (sent_item (at, octets)) past)) x now in
+pub no_text_heard : (ssrc : ℕ) (payload_types : PayloadTypes) (at : ℕ) (octets : List ℕ) (f : TextFault) (t : State) (q : TextPacket) (old : StreamPackets) → text_of octets (Some ssrc) payload_types ≡ Err f → HearsOctets ssrc payload_types at octets t old (with_packet t q) old
+no_text_heard ssrc payload_types at octets f t q old x items l =
+    let past = arrivals_after ssrc payload_types [] items in
+    let now = told_arrived l.story past at (text_of octets (Some ssrc) payload_types) l.told in
+    let same : IsToldOf l.story (arrivals_with ssrc payload_types (sent_item (at, octets)) past) = subst (λ (r : Result Packet TextFault). IsToldOf (told l.story at r) (arrivals_with ssrc payload_types (sent_item (at, octets)) past)) x now in
     record {
       story = l.story;
-      told = subst (IsToldOf l.story) (sym (after_more ssrc pts [] items (sent_item (at, octets)))) same;
-      hearing = subst (Hearing (with_packet t q) old l.story) (sym (sources_same ssrc pts items at octets f x)) (record {
+      told = subst (IsToldOf l.story) (sym (after_more ssrc payload_types [] items (sent_item (at, octets)))) same;
+      hearing = subst (Hearing (with_packet t q) old l.story) (sym (sources_same ssrc payload_types items at octets f x)) (record {
         wait = l.hearing.wait;
         tracks = tracks_with t q l.story l.hearing.tracks;
         sources = l.hearing.sources;
@@ -153,18 +153,18 @@ no_text_heard ssrc pts at octets f t q old x items l =
     }
 
 -- ---- the begin and the end
-pub nothing_heard : (ssrc : ℕ) (pts : Pts) (t : State) (h : Heard) → Tracks t (begun usual_wait) → IsEmpty h → Listening ssrc pts t h []
-nothing_heard ssrc pts t h k e = record {
+pub nothing_heard : (ssrc : ℕ) (payload_types : PayloadTypes) (t : State) (h : StreamPackets) → Tracks t (begun usual_wait) → IsEmpty h → Listening ssrc payload_types t h []
+nothing_heard ssrc payload_types t h k e = record {
   story = begun usual_wait;
   told = record { arrivals = refl; moment = refl };
   hearing = record { wait = refl; tracks = k; sources = e.sources; used = e.used; came = e.came; top = e.top; moment = e.moment };
 }
 
-pub all_heard : (ssrc : ℕ) (pts : Pts) (t u v : State) (old new : Heard) (items : List Item) → Listening ssrc pts t old items → Leads t u ended → AllReady t → Drains u old.used.items v new.used.items → new.sources ≡ old.sources → new.came ≡ old.came
-    → IsHeard ssrc pts new items
-all_heard ssrc pts t u v old new items l e all d s c =
+pub all_heard : (ssrc : ℕ) (payload_types : PayloadTypes) (t u v : State) (old new : StreamPackets) (items : List Item) → Listening ssrc payload_types t old items → LeadsStory t u ended → AllReady t → Drains u old.used.items v new.used.items → new.sources ≡ old.sources → new.came ≡ old.came
+    → IsHeard ssrc payload_types new items
+all_heard ssrc payload_types t u v old new items l e all d s c =
     let story = l.story in
-    let past = arrivals_after ssrc pts [] items in
+    let past = arrivals_after ssrc payload_types [] items in
     let q = d (ended story) (e story l.hearing.tracks) l.hearing.used in
     let whole : new.used.items ≡ map due_in (dues story) = q.1 ∙ ap (map due_in) (all story l.hearing.tracks) in
     record {

@@ -19,7 +19,7 @@ use Rattle.times_spec.specs.Times as times
 use Rattle.times_spec.specs.Times.{name_of, day_of}
 use Rattle.rtt_times.specs.declared.lines.Span.{Span}
 use Rattle.rtt_times.specs.declared.lines.Lines.{Lines}
-use Rattle.rtt_times.specs.Lines.{Adds, AddsText, AreEarly, Keeps, KeepsFrom, LiesIn, Line, Sorts, at_of, chunk_written, line_in, name_before, said_line, line_with, timed_line, timed_written, written}
+use Rattle.rtt_times.specs.Lines.{AddsLines, AddsText, AreEarly, Keeps, KeepsFrom, LiesIn, Line, Sorts, at_of, chunk_written, line_in, name_before, said_line, line_with, timed_line, timed_written, written}
 use Rattle.rtt_times.proofs.Writing.{adds_same}
 
 -- ---- one more
@@ -51,7 +51,7 @@ more_octets old new more o s lines k = record {
 }
 
 -- a line that was appended
-pub kept : (old mid new : Lines) (at : ℕ) (text : List ℕ) → mid.spans ≡ old.spans → mid.octets ≡ old.octets ++ text → KeepsFrom at (length old.octets) mid new → Adds old (record { at = at; text = text } ∷ []) new
+pub kept : (old mid new : Lines) (at : ℕ) (text : List ℕ) → mid.spans ≡ old.spans → mid.octets ≡ old.octets ++ text → KeepsFrom at (length old.octets) mid new → AddsLines old (record { at = at; text = text } ∷ []) new
 kept old mid new at text s o f lines k =
     let m : Keeps mid lines = more_octets old mid text o s lines k in
     let span : Span = record { at = at; from = length old.octets; to = length mid.octets } in

@@ -18,11 +18,11 @@ use Rattle.gap_tracker.specs.Stories.{dues_of, due_at}
 use Rattle.times_spec.specs.Numbers.{Lost, Row, is_late, late, lost, lost_among, lost_before, lost_from, missing, with_number}
 use Rattle.times_spec.specs.Times as times
 use Rattle.times_spec.specs.Times.{late_line, lost_line, number_lines}
-use Rattle.rtt_times.specs.declared.heard.Came.{Came}
-use Rattle.rtt_times.specs.declared.heard.Heard.{Heard}
+use Rattle.rtt_times.specs.declared.stream_packets.TimedPacket.{TimedPacket}
+use Rattle.rtt_times.specs.declared.stream_packets.StreamPackets.{StreamPackets}
 use Rattle.rtt_times.specs.declared.lines.Lines.{Lines}
 use Rattle.rtt_times.specs.Heard.{HasNumbers, came_in, came_of, due_in}
-use Rattle.rtt_times.specs.Lines.{Adds, Line, written}
+use Rattle.rtt_times.specs.Lines.{AddsLines, Line, written}
 use Rattle.rtt_times.proofs.Writing.{adds_both, adds_none, adds_same}
 use Rattle.rtt_times.specs.Numbers.{AddsBefore, AddsMissing, AddsNumbers, AreAbove, AreLateNumbers, IsLate, IsPart, came_line, due_number, gap_lines, has_due, has_one, late_among, late_lines, row_lines}
 
@@ -199,10 +199,10 @@ map_twice f g (x ∷ xs) = ap (λ ys. f (g x) ∷ ys) (map_twice f g xs)
 dues_rising : (past : List Numbered) → RisingBy due_number (map due_in (dues_of usual_wait past))
 dues_rising past = subst (RisingBy due_number) (sym (map_twice due_in (due_at usual_wait past) (used usual_wait past))) (rising_map due_number (λ u. due_in (due_at usual_wait past u)) (used usual_wait past) (used_rises usual_wait past))
 
-pub dues_never_fall : (h : Heard) (past : List Numbered) → HasNumbers h past → IsNonDecreasingBy due_number h.used.items
+pub dues_never_fall : (h : StreamPackets) (past : List Numbered) → HasNumbers h past → IsNonDecreasingBy due_number h.used.items
 dues_never_fall h past n = subst (IsNonDecreasingBy due_number) (sym n.used) (rising_never_falls due_number (map due_in (dues_of usual_wait past)) (dues_rising past))
 
-pub dues_above : (h : Heard) (past : List Numbered) → HasNumbers h past → AreAbove h.used.items
+pub dues_above : (h : StreamPackets) (past : List Numbered) → HasNumbers h past → AreAbove h.used.items
 dues_above h past n = subst AreAbove (sym n.used) (rising_next due_number (map due_in (dues_of usual_wait past)) (dues_rising past))
 
 -- ---- what came late
@@ -221,7 +221,7 @@ late_in heard us (p ∷ past) e =
     go true = sym (map-append came_of (reverse (filter (is_late us) past)) (p ∷ [])) ∙ ap (map came_of) (sym (reverse-append (p ∷ []) (filter (is_late us) past)))
     go false = append-nil (map came_of (reverse (filter (is_late us) past)))
 
-pub late_is : (h : Heard) (found : List Came) → found ≡ late_among h.used.items h.came.items → IsLate h found
+pub late_is : (h : StreamPackets) (found : List TimedPacket) → found ≡ late_among h.used.items h.came.items → IsLate h found
 late_is h found e past n =
     e ∙ (ap (λ (ds : List Due). late_among ds h.came.items) n.used
     ∙ (ap (late_among (map due_in (dues_of usual_wait past))) n.came
@@ -267,7 +267,7 @@ none_late wait (e ∷ past) l more h = go (none_late wait past) (in_time wait e 
         right false b q = q
     go rest false t k = absurd (let f = used_few wait past in omega (arith, k, f))
 
-pub nothing_late : (h : Heard) → length h.came.items ≡ length h.used.items → IsLate h []
+pub nothing_late : (h : StreamPackets) → length h.came.items ≡ length h.used.items → IsLate h []
 nothing_late h l past n =
     let us = used usual_wait past in
     let long : length us ≡ length past = lengths past us (sym (ap length n.used) ∙ (sym l ∙ ap length n.came)) in
@@ -277,7 +277,7 @@ nothing_late h l past n =
     came_long [] = refl
     came_long (e ∷ es) = let r = came_long es in one (came_in es) (came_of e) ∙ ap suc r
       where
-        one : (cs : List Came) (c : Came) → length (cs ++ c ∷ []) ≡ suc (length cs)
+        one : (cs : List TimedPacket) (c : TimedPacket) → length (cs ++ c ∷ []) ≡ suc (length cs)
         one [] c = refl
         one (x ∷ cs) c = ap suc (one cs c)
 
@@ -356,7 +356,7 @@ gaps_among ssrc came past [] e s r = refl
 gaps_among ssrc came past (u ∷ us) e s r =
     gaps_from ssrc came past e u us r (λ n l. ap (λ (vs : List Numbered). has_number vs n) s ∙ ap (λ b. b || has_number us n) (ne_eqb u.number n (λ q. omega (arith, q, l))))
 
-gaps_are : (ssrc : ℕ) (came : List ℕ) (h : Heard) (past : List Numbered) → HasNumbers h past → ((n : ℕ) → has_one n came ≡ has_number (late usual_wait past) n) → gap_lines ssrc came h.used.items ≡ map (λ l. written (lost_line ssrc l)) (lost usual_wait past)
+gaps_are : (ssrc : ℕ) (came : List ℕ) (h : StreamPackets) (past : List Numbered) → HasNumbers h past → ((n : ℕ) → has_one n came ≡ has_number (late usual_wait past) n) → gap_lines ssrc came h.used.items ≡ map (λ l. written (lost_line ssrc l)) (lost usual_wait past)
 gaps_are ssrc came h past n e =
     ap (gap_lines ssrc came) n.used
     ∙ gaps_among ssrc came past (used usual_wait past) e refl (used_rises usual_wait past)
@@ -370,11 +370,11 @@ came_any [] n = refl
 came_any (e ∷ es) n = ap (λ b. (e.number == n) || b) (came_any es n)
 
 -- the lines of what was lost, and then of what came late
-pub numbers_added : (ssrc : ℕ) (h : Heard) (found : List Came) (numbers : List ℕ) (one two three : Lines) → IsLate h found → AreLateNumbers found numbers → Adds one (gap_lines ssrc numbers h.used.items) two → Adds two (late_lines ssrc found) three → AddsNumbers ssrc h one three
+pub numbers_added : (ssrc : ℕ) (h : StreamPackets) (found : List TimedPacket) (numbers : List ℕ) (one two three : Lines) → IsLate h found → AreLateNumbers found numbers → AddsLines one (gap_lines ssrc numbers h.used.items) two → AddsLines two (late_lines ssrc found) three → AddsNumbers ssrc h one three
 numbers_added ssrc h found numbers one two three l a gaps lates past n =
     let es = late usual_wait past in
     let is : found ≡ map came_of es = l past n in
-    let same : (k : ℕ) → has_one k numbers ≡ has_number es k = λ k. a.same k ∙ (ap (λ (cs : List Came). list_any (λ c. c.number == k) cs) is ∙ came_any es k) in
+    let same : (k : ℕ) → has_one k numbers ≡ has_number es k = λ k. a.same k ∙ (ap (λ (cs : List TimedPacket). list_any (λ c. c.number == k) cs) is ∙ came_any es k) in
     let whole : gap_lines ssrc numbers h.used.items ++ late_lines ssrc found ≡ map written (number_lines ssrc past) =
     ap (λ ls. ls ++ late_lines ssrc found) (gaps_are ssrc numbers h past n same)
     ∙ (ap (λ ls. map (λ x. written (lost_line ssrc x)) (lost usual_wait past) ++ ls) (ap (late_lines ssrc) is ∙ late_lines_are ssrc es)
@@ -397,28 +397,28 @@ drop_over [] (suc n) l = refl
 drop_over (x ∷ xs) zero l = absurd (omega (arith, l))
 drop_over (x ∷ xs) (suc n) l = drop_over xs n (omega (arith, l))
 
-pub unused_more : (used : List Due) (came : List Came) (i : ℕ) (one : Came) (late new : List Came) → i < length came → one ≡ get_or came i one → new ≡ late ++ late_among used (one ∷ []) → late ++ late_among used (drop i came) ≡ late_among used came
+pub unused_more : (used : List Due) (came : List TimedPacket) (i : ℕ) (one : TimedPacket) (late new : List TimedPacket) → i < length came → one ≡ get_or came i one → new ≡ late ++ late_among used (one ∷ []) → late ++ late_among used (drop i came) ≡ late_among used came
     → new ++ late_among used (drop (i + 1) came) ≡ late_among used came
 unused_more used came i one late new l e n h =
     let rest = late_among used (drop (i + 1) came) in
-    let parts : drop i came ≡ (one ∷ []) ++ drop (i + 1) came = drop_next came i one l ∙ ap (λ (c : Came). c ∷ drop (i + 1) came) (sym e) in
+    let parts : drop i came ≡ (one ∷ []) ++ drop (i + 1) came = drop_next came i one l ∙ ap (λ (c : TimedPacket). c ∷ drop (i + 1) came) (sym e) in
     ap (λ xs. xs ++ rest) n
     ∙ (append_assoc late (late_among used (one ∷ [])) rest
     ∙ (ap (λ xs. late ++ xs) (sym (filter-append (λ c. not (has_due c.number used)) (one ∷ []) (drop (i + 1) came)))
     ∙ (ap (λ xs. late ++ late_among used xs) (sym parts) ∙ h)))
 
-pub unused_end : (used : List Due) (came : List Came) (i : ℕ) (late : List Came) → length came ≤ i → late ++ late_among used (drop i came) ≡ late_among used came → late ≡ late_among used came
+pub unused_end : (used : List Due) (came : List TimedPacket) (i : ℕ) (late : List TimedPacket) → length came ≤ i → late ++ late_among used (drop i came) ≡ late_among used came → late ≡ late_among used came
 unused_end used came i late l h = sym (append-nil late) ∙ (ap (λ xs. late ++ late_among used xs) (sym (drop_over came i l)) ∙ h)
 
 -- what is added so far, and what is still missing
 abbrev pub RowsSoFar : ℕ → ℕ → ℕ → ℕ → List ℕ → List ℕ → ℕ → Lines → Lines → Type 0
 RowsSoFar at ssrc low high all left from old now =
-    (rows : List Row) × Adds old (row_lines at ssrc rows) now × (missing (λ n. has_one n all) low (high - low) ≡ rows ++ missing (λ n. has_one n left) from (high - from))
+    (rows : List Row) × AddsLines old (row_lines at ssrc rows) now × (missing (λ n. has_one n all) low (high - low) ≡ rows ++ missing (λ n. has_one n left) from (high - from))
 
 pub rows_none : (at ssrc low high : ℕ) (all : List ℕ) (l : Lines) → RowsSoFar at ssrc low high all all low l l
 rows_none at ssrc low high all l = ([], adds_none l, refl)
 
-rows_both : (at ssrc : ℕ) (xs ys : List Row) (one two three : Lines) → Adds one (row_lines at ssrc xs) two → Adds two (row_lines at ssrc ys) three → Adds one (row_lines at ssrc (xs ++ ys)) three
+rows_both : (at ssrc : ℕ) (xs ys : List Row) (one two three : Lines) → AddsLines one (row_lines at ssrc xs) two → AddsLines two (row_lines at ssrc ys) three → AddsLines one (row_lines at ssrc (xs ++ ys)) three
 rows_both at ssrc xs ys one two three f g =
     adds_same one three _ _ (sym (map-append (λ (row : Row). written (lost_line ssrc (record { row = row; at = at }))) xs ys)) (adds_both one two three (row_lines at ssrc xs) (row_lines at ssrc ys) f g)
 
@@ -449,7 +449,7 @@ pub before_out : (at ssrc low number high : ℕ) (l : Lines) → (low ≤ number
 before_out at ssrc low number high l o rest up = ([], adds_none l, rows_same low high number rest o)
 
 -- the row of what is between
-pub row_added : (at ssrc low high : ℕ) (old new : Lines) → low < high → Adds old (written (record { at = at; ssrc = ssrc; told = times.LostRow (low, high - 1) }) ∷ []) new → AddsMissing at ssrc [] low high old new
+pub row_added : (at ssrc low high : ℕ) (old new : Lines) → low < high → AddsLines old (written (record { at = at; ssrc = ssrc; told = times.LostRow (low, high - 1) }) ∷ []) new → AddsMissing at ssrc [] low high old new
 row_added at ssrc low high old new l f = adds_same old new _ _ (ap (row_lines at ssrc) (sym (one_row low high l))) f
 
 pub no_row_added : (at ssrc low high : ℕ) (all : List ℕ) (l : Lines) → high ≤ low → AddsMissing at ssrc all low high l l
@@ -460,7 +460,7 @@ part_added at ssrc low high all part old new p f = adds_same old new _ _ (ap (ro
 
 -- all gaps
 abbrev pub GapsSoFar : ℕ → List ℕ → List Due → List Due → Lines → Lines → Type 0
-GapsSoFar ssrc late all left old now = (lines : List Line) × Adds old lines now × (gap_lines ssrc late all ≡ lines ++ gap_lines ssrc late left)
+GapsSoFar ssrc late all left old now = (lines : List Line) × AddsLines old lines now × (gap_lines ssrc late all ≡ lines ++ gap_lines ssrc late left)
 
 pub gaps_none : (ssrc : ℕ) (late : List ℕ) (all : List Due) (l : Lines) → GapsSoFar ssrc late all all l l
 gaps_none ssrc late all l = ([], adds_none l, refl)
@@ -476,7 +476,7 @@ gaps_more ssrc late all i d e old now new l one two adds h =
       h.2 ∙ (ap (λ xs. h.0 ++ gap_lines ssrc late xs) parts ∙ (sym (append_assoc h.0 rows (gap_lines ssrc late (e ∷ drop (i + 1 + 1) all))) ∙ ap (λ xs. (h.0 ++ rows) ++ gap_lines ssrc late xs) (sym first))),
     )
 
-pub gaps_end : (ssrc : ℕ) (late : List ℕ) (all : List Due) (i : ℕ) (old now : Lines) → length all ≤ i + 1 → GapsSoFar ssrc late all (drop i all) old now → Adds old (gap_lines ssrc late all) now
+pub gaps_end : (ssrc : ℕ) (late : List ℕ) (all : List Due) (i : ℕ) (old now : Lines) → length all ≤ i + 1 → GapsSoFar ssrc late all (drop i all) old now → AddsLines old (gap_lines ssrc late all) now
 gaps_end ssrc late all i old now l h = adds_same old now _ _ (sym (h.2 ∙ (ap (λ ls. h.0 ++ ls) (none all i l) ∙ append-nil h.0))) h.1
   where
     none : (xs : List Due) (k : ℕ) → length xs ≤ k + 1 → gap_lines ssrc late (drop k xs) ≡ []
@@ -487,21 +487,21 @@ gaps_end ssrc late all i old now l h = adds_same old now _ _ (sym (h.2 ∙ (ap (
     none (x ∷ xs) (suc k) m = none xs k (omega (arith, m))
 
 -- what came late
-abbrev pub LateSoFar : ℕ → List Came → List Came → Lines → Lines → Type 0
-LateSoFar ssrc all left old now = (lines : List Line) × Adds old lines now × (late_lines ssrc all ≡ lines ++ late_lines ssrc left)
+abbrev pub LateSoFar : ℕ → List TimedPacket → List TimedPacket → Lines → Lines → Type 0
+LateSoFar ssrc all left old now = (lines : List Line) × AddsLines old lines now × (late_lines ssrc all ≡ lines ++ late_lines ssrc left)
 
-pub late_none : (ssrc : ℕ) (all : List Came) (l : Lines) → LateSoFar ssrc all all l l
+pub late_none : (ssrc : ℕ) (all : List TimedPacket) (l : Lines) → LateSoFar ssrc all all l l
 late_none ssrc all l = ([], adds_none l, refl)
 
-pub late_more : (ssrc : ℕ) (all : List Came) (i : ℕ) (one : Came) (old now new : Lines) → i < length all → one ≡ get_or all i one → Adds now (came_line ssrc one ∷ []) new → LateSoFar ssrc all (drop i all) old now → LateSoFar ssrc all (drop (i + 1) all) old new
+pub late_more : (ssrc : ℕ) (all : List TimedPacket) (i : ℕ) (one : TimedPacket) (old now new : Lines) → i < length all → one ≡ get_or all i one → AddsLines now (came_line ssrc one ∷ []) new → LateSoFar ssrc all (drop i all) old now → LateSoFar ssrc all (drop (i + 1) all) old new
 late_more ssrc all i one old now new l e adds h =
-    let parts : drop i all ≡ one ∷ drop (i + 1) all = drop_next all i one l ∙ ap (λ (c : Came). c ∷ drop (i + 1) all) (sym e) in (
+    let parts : drop i all ≡ one ∷ drop (i + 1) all = drop_next all i one l ∙ ap (λ (c : TimedPacket). c ∷ drop (i + 1) all) (sym e) in (
       h.0 ++ came_line ssrc one ∷ [],
       adds_both old now new h.0 (came_line ssrc one ∷ []) h.1 adds,
       h.2 ∙ (ap (λ xs. h.0 ++ late_lines ssrc xs) parts ∙ sym (append_assoc h.0 (came_line ssrc one ∷ []) (late_lines ssrc (drop (i + 1) all)))),
     )
 
-pub late_end : (ssrc : ℕ) (all : List Came) (i : ℕ) (old now : Lines) → length all ≤ i → LateSoFar ssrc all (drop i all) old now → Adds old (late_lines ssrc all) now
+pub late_end : (ssrc : ℕ) (all : List TimedPacket) (i : ℕ) (old now : Lines) → length all ≤ i → LateSoFar ssrc all (drop i all) old now → AddsLines old (late_lines ssrc all) now
 late_end ssrc all i old now l h = adds_same old now _ _ (sym (h.2 ∙ (ap (λ xs. h.0 ++ late_lines ssrc xs) (drop_over all i l) ∙ append-nil h.0))) h.1
 
 -- ---- looking for numbers
@@ -571,11 +571,11 @@ is_part low high all from count below above n l h =
     ∙ has_behind n from all (λ k d m j e. let b = below k d m j in omega (arith, b, e, l))
 
 -- the numbers of those that came late
-list_any_map : (late : List Came) (n : ℕ) → has_one n (map (λ (c : Came). c.number) late) ≡ list_any (λ c. c.number == n) late
+list_any_map : (late : List TimedPacket) (n : ℕ) → has_one n (map (λ (c : TimedPacket). c.number) late) ≡ list_any (λ c. c.number == n) late
 list_any_map [] n = refl
 list_any_map (c ∷ late) n = ap (λ b. (c.number == n) || b) (list_any_map late n)
 
-pub late_numbers : (late : List Came) (found numbers : List ℕ) → found ≡ map (λ c. c.number) late → IsPermutation found numbers → IsNonDecreasing numbers → AreLateNumbers late numbers
+pub late_numbers : (late : List TimedPacket) (found numbers : List ℕ) → found ≡ map (λ c. c.number) late → IsPermutation found numbers → IsNonDecreasing numbers → AreLateNumbers late numbers
 late_numbers late found numbers e p up = record {
   same = λ n. sym (list_any-IsPermutation (λ x. x == n) found numbers p) ∙ (ap (λ xs. has_one n xs) e ∙ list_any_map late n);
   rise = up;

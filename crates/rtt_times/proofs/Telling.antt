@@ -6,7 +6,7 @@ use Rattle.std.proofs.lemmas.List.Elements.{All-head, All-tail}
 use Rattle.std.proofs.lemmas.Grind.{flat_map-append}
 use Rattle.std.proofs.lemmas.List.Sums.{sum_by-append}
 use Rattle.std.proofs.lemmas.List.{map-append, length-map, get_or-map}
-use Rattle.rtt_base.specs.declared.text_packets.Pts.{Pts}
+use Rattle.rtt_base.specs.declared.text_packets.PayloadTypes.{PayloadTypes}
 use Rattle.wire_spec.specs.Dump.{Item, arrivals_after, sent_item}
 use Rattle.stream_spec.specs.Lists.{In}
 use Rattle.stream_spec.specs.Numbering.{numbered}
@@ -17,10 +17,10 @@ use Rattle.command_spec.specs.Showing.{end_line, number_line}
 use Rattle.rtpdump_io.specs.InMemory.{IsRecord}
 use Rattle.rtpdump_io.specs.declared.items.DumpFault.{DumpFault}
 use Rattle.rtt_show.specs.declared.first_sources.FirstSources.{FirstSources}
-use Rattle.rtt_show.specs.declared.found.Found.{Found}
+use Rattle.rtt_show.specs.declared.findings.Findings.{Findings}
 use Rattle.rtt_show.specs.declared.groups.Group.{Group}
 use Rattle.rtt_show.specs.Finds.{IsFound}
-use Rattle.rtt_show.specs.Groups.{Holds}
+use Rattle.rtt_show.specs.Groups.{GroupHolds}
 use Rattle.rtt_show.specs.Records.{OfRecords}
 use Rattle.rtt_show.specs.Surveys.{firsts_of}
 use Rattle.rtt_show.specs.Whole.{ends}
@@ -31,7 +31,7 @@ use Rattle.times_spec.specs.Times.{all_lines, arrivals_in, began_line, began_and
 use Rattle.times_spec.specs.Ordered.{ordered_by}
 use Rattle.times_spec.proofs.Ordered.{ordered_made}
 use Rattle.rtt_times.specs.declared.lines.Lines.{Lines}
-use Rattle.rtt_times.specs.Lines.{Adds, AreEarly, Keeps, Line, at_of, timed_line, timed_written, written}
+use Rattle.rtt_times.specs.Lines.{AddsLines, AreEarly, Keeps, Line, at_of, timed_line, timed_written, written}
 use Rattle.rtt_times.specs.Found.{AddsTexts, AreNumbered, AreTexted, HasNumbersAdded, IsFoundOf, IsPrintedOf, IsStream, IsTimedFrom, IsToldOf, NamesSources, all_numbers, all_texts, began_and_written, names, sources_of, sum_others}
 use Rattle.rtt_times.proofs.Early.{AreBy, after_by, in_flat, in_map, numbered_by, numbers_early, ordered_early, texts_early}
 use Rattle.rtt_times.proofs.Writing.{adds_both, adds_none, adds_same}
@@ -58,23 +58,23 @@ made_more f xs i d l =
     ∙ map-append written (flat_map f (take i xs)) (f (get_or xs i d)))
 
 -- ---- the sources of a stream
-abbrev pub TextsSoFar : ℕ → Pts → List ℕ → ℕ → List ℕ → Lines → Lines → Type 0
-TextsSoFar ssrc pts sources i octets old now = AddsTexts ssrc pts (take i sources) octets old now
+abbrev pub TextsSoFar : ℕ → PayloadTypes → List ℕ → ℕ → List ℕ → Lines → Lines → Type 0
+TextsSoFar ssrc payload_types sources i octets old now = AddsTexts ssrc payload_types (take i sources) octets old now
 
-pub texts_none : (ssrc : ℕ) (pts : Pts) (sources octets : List ℕ) (l : Lines) → TextsSoFar ssrc pts sources 0 octets l l
-texts_none ssrc pts sources octets l records a = adds_none l
+pub texts_none : (ssrc : ℕ) (payload_types : PayloadTypes) (sources octets : List ℕ) (l : Lines) → TextsSoFar ssrc payload_types sources 0 octets l l
+texts_none ssrc payload_types sources octets l records a = adds_none l
 
-pub texts_more : (ssrc : ℕ) (pts : Pts) (sources octets : List ℕ) (i source : ℕ) (old now new : Lines) → i < length sources → source ≡ get_or sources i source → TextsSoFar ssrc pts sources i octets old now
-    → OfRecords octets (λ came. Adds now (map written (source_lines ssrc (arrivals_after ssrc pts [] came) source)) new) → TextsSoFar ssrc pts sources (i + 1) octets old new
-texts_more ssrc pts sources octets i source old now new l e h g records a =
-    let f : ℕ → List times.Line = source_lines ssrc (arrivals_after ssrc pts [] (map sent_item records)) in
+pub texts_more : (ssrc : ℕ) (payload_types : PayloadTypes) (sources octets : List ℕ) (i source : ℕ) (old now new : Lines) → i < length sources → source ≡ get_or sources i source → TextsSoFar ssrc payload_types sources i octets old now
+    → OfRecords octets (λ came. AddsLines now (map written (source_lines ssrc (arrivals_after ssrc payload_types [] came) source)) new) → TextsSoFar ssrc payload_types sources (i + 1) octets old new
+texts_more ssrc payload_types sources octets i source old now new l e h g records a =
+    let f : ℕ → List times.Line = source_lines ssrc (arrivals_after ssrc payload_types [] (map sent_item records)) in
     adds_same old new (map written (flat_map f (take i sources)) ++ map written (f source)) (map written (flat_map f (take (i + 1) sources)))
     (ap (λ (s : ℕ). map written (flat_map f (take i sources)) ++ map written (f s)) e ∙ sym (made_more f sources i source l))
     (adds_both old now new (map written (flat_map f (take i sources))) (map written (f source)) (h records a) (g records a))
 
-pub texts_end : (ssrc : ℕ) (pts : Pts) (sources octets : List ℕ) (i : ℕ) (old now : Lines) → length sources ≤ i → TextsSoFar ssrc pts sources i octets old now → AddsTexts ssrc pts sources octets old now
-texts_end ssrc pts sources octets i old now l h records a =
-    adds_same old now _ _ (ap (λ (ss : List ℕ). map written (text_lines ssrc (arrivals_after ssrc pts [] (map sent_item records)) ss)) (take_over sources i l)) (h records a)
+pub texts_end : (ssrc : ℕ) (payload_types : PayloadTypes) (sources octets : List ℕ) (i : ℕ) (old now : Lines) → length sources ≤ i → TextsSoFar ssrc payload_types sources i octets old now → AddsTexts ssrc payload_types sources octets old now
+texts_end ssrc payload_types sources octets i old now l h records a =
+    adds_same old now _ _ (ap (λ (ss : List ℕ). map written (text_lines ssrc (arrivals_after ssrc payload_types [] (map sent_item records)) ss)) (take_over sources i l)) (h records a)
 
 -- ---- all streams
 names_take : (groups : List Group) (i : ℕ) → names (take i groups) ≡ take i (names groups)
@@ -83,12 +83,12 @@ names_take [] (suc i) = refl
 names_take (g ∷ groups) zero = refl
 names_take (g ∷ groups) (suc i) = ap (λ (ns : List ℕ). g.name ∷ ns) (names_take groups i)
 
-module _ (pts : Pts) (groups : List Group) (items : List Item) where
+module _ (payload_types : PayloadTypes) (groups : List Group) (items : List Item) where
   abbrev numbers_of : ℕ → List times.Line
-  numbers_of ssrc = number_lines ssrc (numbered (arrivals_in pts items ssrc))
+  numbers_of ssrc = number_lines ssrc (numbered (arrivals_in payload_types items ssrc))
 
   abbrev texts_of : ℕ → List times.Line
-  texts_of ssrc = text_lines ssrc (arrivals_in pts items ssrc) (sources_in pts items ssrc)
+  texts_of ssrc = text_lines ssrc (arrivals_in payload_types items ssrc) (sources_in payload_types items ssrc)
 
   pub names_at : (i : ℕ) (g : Group) → i < length groups → get_or (names groups) i g.name ≡ (get_or groups i g).name
   names_at i g l = get_or-map (λ (group : Group). group.name) groups i g g.name l
@@ -97,73 +97,73 @@ module _ (pts : Pts) (groups : List Group) (items : List Item) where
   long i l = omega (arith, l, length-map groups (λ (group : Group). group.name))
 
   -- the records of a stream are those of the recording that name it
-  pub its : (g : Group) (P : List Item → Type 0) → length items < 2 ^ 32 → Holds (stream_of pts) items g → OfRecords g.records P → P (stream pts g.name items)
-  its g P few h f = subst P h.are (f h.records (records_of (stream_of pts) items g few h))
+  pub its : (g : Group) (P : List Item → Type 0) → length items < 2 ^ 32 → GroupHolds (stream_of payload_types) items g → OfRecords g.records P → P (stream payload_types g.name items)
+  its g P few h f = subst P h.are (f h.records (records_of (stream_of payload_types) items g few h))
 
 -- the first of them were numbered
-abbrev pub NumberedSoFar : Pts → List Group → ℕ → List FirstSources → Lines → Lines → Type 0
-NumberedSoFar pts groups i named old now = (items : List Item) → length items < 2 ^ 32 → All (Holds (stream_of pts) items) groups
-    → Adds old (all_numbers pts items (take i (names groups))) now × (map firsts_of named ≡ sources_of pts items (take i (names groups)))
+abbrev pub NumberedSoFar : PayloadTypes → List Group → ℕ → List FirstSources → Lines → Lines → Type 0
+NumberedSoFar payload_types groups i named old now = (items : List Item) → length items < 2 ^ 32 → All (GroupHolds (stream_of payload_types) items) groups
+    → AddsLines old (all_numbers payload_types items (take i (names groups))) now × (map firsts_of named ≡ sources_of payload_types items (take i (names groups)))
 
-pub numbered_none : (pts : Pts) (groups : List Group) (l : Lines) → NumberedSoFar pts groups 0 [] l l
-numbered_none pts groups l items few each = (adds_none l, refl)
+pub numbered_none : (payload_types : PayloadTypes) (groups : List Group) (l : Lines) → NumberedSoFar payload_types groups 0 [] l l
+numbered_none payload_types groups l items few each = (adds_none l, refl)
 
-pub numbered_more : (pts : Pts) (groups : List Group) (i : ℕ) (g : Group) (named : List FirstSources) (more : FirstSources) (old now new : Lines) → i < length groups → g ≡ get_or groups i g → HasNumbersAdded pts g now new → NamesSources pts g more
-    → NumberedSoFar pts groups i named old now → NumberedSoFar pts groups (i + 1) (named ++ more ∷ []) old new
-numbered_more pts groups i g named more old now new l e added names_it h items few each =
+pub numbered_more : (payload_types : PayloadTypes) (groups : List Group) (i : ℕ) (g : Group) (named : List FirstSources) (more : FirstSources) (old now new : Lines) → i < length groups → g ≡ get_or groups i g → HasNumbersAdded payload_types g now new → NamesSources payload_types g more
+    → NumberedSoFar payload_types groups i named old now → NumberedSoFar payload_types groups (i + 1) (named ++ more ∷ []) old new
+numbered_more payload_types groups i g named more old now new l e added names_it h items few each =
     let so_far = h items few each in
-    let holds : Holds (stream_of pts) items g = subst (Holds (stream_of pts) items) (sym e) (each i g l) in
-    let f : ℕ → List times.Line = λ ssrc. number_lines ssrc (numbered (arrivals_in pts items ssrc)) in
-    let at : g.name ≡ get_or (names groups) i g.name = ap (λ (x : Group). x.name) e ∙ sym (names_at pts groups items i g l) in
-    let one : Adds now (map written (f g.name)) new = its pts groups items g (λ came. Adds now (map written (number_lines g.name (numbered (arrivals_after g.name pts [] came)))) new) few holds added in
-    let named_one : firsts_of more ≡ sources g.name pts (stream pts g.name items) = its pts groups items g (λ came. firsts_of more ≡ sources g.name pts came) few holds names_it in
-    let s : ℕ → Firsts = λ ssrc. sources ssrc pts (stream pts ssrc items) in (
-      adds_same old new (all_numbers pts items (take i (names groups)) ++ map written (f g.name)) (all_numbers pts items (take (i + 1) (names groups)))
-          (ap (λ (n : ℕ). all_numbers pts items (take i (names groups)) ++ map written (f n)) at ∙ sym (made_more f (names groups) i g.name (long pts groups items i l)))
-          (adds_both old now new (all_numbers pts items (take i (names groups))) (map written (f g.name)) so_far.0 one),
+    let holds : GroupHolds (stream_of payload_types) items g = subst (GroupHolds (stream_of payload_types) items) (sym e) (each i g l) in
+    let f : ℕ → List times.Line = λ ssrc. number_lines ssrc (numbered (arrivals_in payload_types items ssrc)) in
+    let at : g.name ≡ get_or (names groups) i g.name = ap (λ (x : Group). x.name) e ∙ sym (names_at payload_types groups items i g l) in
+    let one : AddsLines now (map written (f g.name)) new = its payload_types groups items g (λ came. AddsLines now (map written (number_lines g.name (numbered (arrivals_after g.name payload_types [] came)))) new) few holds added in
+    let named_one : firsts_of more ≡ sources g.name payload_types (stream payload_types g.name items) = its payload_types groups items g (λ came. firsts_of more ≡ sources g.name payload_types came) few holds names_it in
+    let s : ℕ → Firsts = λ ssrc. sources ssrc payload_types (stream payload_types ssrc items) in (
+      adds_same old new (all_numbers payload_types items (take i (names groups)) ++ map written (f g.name)) (all_numbers payload_types items (take (i + 1) (names groups)))
+          (ap (λ (n : ℕ). all_numbers payload_types items (take i (names groups)) ++ map written (f n)) at ∙ sym (made_more f (names groups) i g.name (long payload_types groups items i l)))
+          (adds_both old now new (all_numbers payload_types items (take i (names groups))) (map written (f g.name)) so_far.0 one),
       map-append firsts_of named (more ∷ [])
           ∙ (ap (λ (xs : List Firsts). xs ++ firsts_of more ∷ []) so_far.1
-          ∙ (ap (λ (x : Firsts). sources_of pts items (take i (names groups)) ++ x ∷ []) (named_one ∙ ap s at)
+          ∙ (ap (λ (x : Firsts). sources_of payload_types items (take i (names groups)) ++ x ∷ []) (named_one ∙ ap s at)
           ∙ (sym (map-append s (take i (names groups)) (get_or (names groups) i g.name ∷ []))
-          ∙ ap (map s) (sym (take_more (names groups) i g.name (long pts groups items i l)))))),
+          ∙ ap (map s) (sym (take_more (names groups) i g.name (long payload_types groups items i l)))))),
     )
 
-pub numbered_end : (pts : Pts) (groups : List Group) (i : ℕ) (named : List FirstSources) (old now : Lines) → length groups ≤ i → NumberedSoFar pts groups i named old now → AreNumbered pts groups named old now
-numbered_end pts groups i named old now l h items few each =
+pub numbered_end : (payload_types : PayloadTypes) (groups : List Group) (i : ℕ) (named : List FirstSources) (old now : Lines) → length groups ≤ i → NumberedSoFar payload_types groups i named old now → AreNumbered payload_types groups named old now
+numbered_end payload_types groups i named old now l h items few each =
     let all : take i (names groups) ≡ names groups = take_over (names groups) i (omega (arith, l, length-map groups (λ (group : Group). group.name))) in
     let r = h items few each in
-    (adds_same old now _ _ (ap (all_numbers pts items) all) r.0, r.1 ∙ ap (sources_of pts items) all)
+    (adds_same old now _ _ (ap (all_numbers payload_types items) all) r.0, r.1 ∙ ap (sources_of payload_types items) all)
 
 -- the texts of the first of them were added
-abbrev pub TextedSoFar : Pts → List Group → ℕ → List FirstSources → Lines → Lines → Type 0
-TextedSoFar pts groups i named old now = (items : List Item) → length items < 2 ^ 32 → All (Holds (stream_of pts) items) groups → map firsts_of named ≡ sources_of pts items (names groups)
-    → Adds old (all_texts pts items (take i (names groups))) now
+abbrev pub TextedSoFar : PayloadTypes → List Group → ℕ → List FirstSources → Lines → Lines → Type 0
+TextedSoFar payload_types groups i named old now = (items : List Item) → length items < 2 ^ 32 → All (GroupHolds (stream_of payload_types) items) groups → map firsts_of named ≡ sources_of payload_types items (names groups)
+    → AddsLines old (all_texts payload_types items (take i (names groups))) now
 
-pub texted_none : (pts : Pts) (groups : List Group) (named : List FirstSources) (l : Lines) → TextedSoFar pts groups 0 named l l
-texted_none pts groups named l items few each e = adds_none l
+pub texted_none : (payload_types : PayloadTypes) (groups : List Group) (named : List FirstSources) (l : Lines) → TextedSoFar payload_types groups 0 named l l
+texted_none payload_types groups named l items few each e = adds_none l
 
-pub texted_more : (pts : Pts) (groups : List Group) (i : ℕ) (g : Group) (named : List FirstSources) (its_named : FirstSources) (old now new : Lines) → i < length groups → i < length named → g ≡ get_or groups i g → its_named ≡ get_or named i its_named
-    → AddsTexts g.name pts its_named.kept.items g.records now new → TextedSoFar pts groups i named old now → TextedSoFar pts groups (i + 1) named old new
-texted_more pts groups i g named its_named old now new l m e en added h items few each named_is =
+pub texted_more : (payload_types : PayloadTypes) (groups : List Group) (i : ℕ) (g : Group) (named : List FirstSources) (its_named : FirstSources) (old now new : Lines) → i < length groups → i < length named → g ≡ get_or groups i g → its_named ≡ get_or named i its_named
+    → AddsTexts g.name payload_types its_named.kept.items g.records now new → TextedSoFar payload_types groups i named old now → TextedSoFar payload_types groups (i + 1) named old new
+texted_more payload_types groups i g named its_named old now new l m e en added h items few each named_is =
     let so_far = h items few each named_is in
-    let holds : Holds (stream_of pts) items g = subst (Holds (stream_of pts) items) (sym e) (each i g l) in
-    let f : ℕ → List times.Line = λ ssrc. text_lines ssrc (arrivals_in pts items ssrc) (sources_in pts items ssrc) in
-    let s : ℕ → Firsts = λ ssrc. sources ssrc pts (stream pts ssrc items) in
-    let at : g.name ≡ get_or (names groups) i g.name = ap (λ (x : Group). x.name) e ∙ sym (names_at pts groups items i g l) in
+    let holds : GroupHolds (stream_of payload_types) items g = subst (GroupHolds (stream_of payload_types) items) (sym e) (each i g l) in
+    let f : ℕ → List times.Line = λ ssrc. text_lines ssrc (arrivals_in payload_types items ssrc) (sources_in payload_types items ssrc) in
+    let s : ℕ → Firsts = λ ssrc. sources ssrc payload_types (stream payload_types ssrc items) in
+    let at : g.name ≡ get_or (names groups) i g.name = ap (λ (x : Group). x.name) e ∙ sym (names_at payload_types groups items i g l) in
     let first : firsts_of its_named ≡ s g.name =
     ap firsts_of en ∙ (sym (get_or-map firsts_of named i its_named (firsts_of its_named) m)
     ∙ (ap (λ (xs : List Firsts). get_or xs i (firsts_of its_named)) named_is
-    ∙ (get_or-map s (names groups) i g.name (firsts_of its_named) (long pts groups items i l) ∙ ap s (sym at)))) in
-    let one : Adds now (map written (text_lines g.name (arrivals_in pts items g.name) its_named.kept.items)) new =
-    its pts groups items g (λ came. Adds now (map written (text_lines g.name (arrivals_after g.name pts [] came) its_named.kept.items)) new) few holds added in
-    let two : Adds now (map written (f g.name)) new = adds_same now new _ _ (ap (λ (x : Firsts). map written (text_lines g.name (arrivals_in pts items g.name) x.kept)) first) one in
-    adds_same old new (all_texts pts items (take i (names groups)) ++ map written (f g.name)) (all_texts pts items (take (i + 1) (names groups)))
-    (ap (λ (n : ℕ). all_texts pts items (take i (names groups)) ++ map written (f n)) at ∙ sym (made_more f (names groups) i g.name (long pts groups items i l)))
-    (adds_both old now new (all_texts pts items (take i (names groups))) (map written (f g.name)) so_far two)
+    ∙ (get_or-map s (names groups) i g.name (firsts_of its_named) (long payload_types groups items i l) ∙ ap s (sym at)))) in
+    let one : AddsLines now (map written (text_lines g.name (arrivals_in payload_types items g.name) its_named.kept.items)) new =
+    its payload_types groups items g (λ came. AddsLines now (map written (text_lines g.name (arrivals_after g.name payload_types [] came) its_named.kept.items)) new) few holds added in
+    let two : AddsLines now (map written (f g.name)) new = adds_same now new _ _ (ap (λ (x : Firsts). map written (text_lines g.name (arrivals_in payload_types items g.name) x.kept)) first) one in
+    adds_same old new (all_texts payload_types items (take i (names groups)) ++ map written (f g.name)) (all_texts payload_types items (take (i + 1) (names groups)))
+    (ap (λ (n : ℕ). all_texts payload_types items (take i (names groups)) ++ map written (f n)) at ∙ sym (made_more f (names groups) i g.name (long payload_types groups items i l)))
+    (adds_both old now new (all_texts payload_types items (take i (names groups))) (map written (f g.name)) so_far two)
 
-pub texted_end : (pts : Pts) (groups : List Group) (i : ℕ) (named : List FirstSources) (old now : Lines) → length groups ≤ i → TextedSoFar pts groups i named old now → AreTexted pts groups named old now
-texted_end pts groups i named old now l h items few each e =
-    adds_same old now _ _ (ap (all_texts pts items) (take_over (names groups) i (omega (arith, l, length-map groups (λ (group : Group). group.name))))) (h items few each e)
+pub texted_end : (payload_types : PayloadTypes) (groups : List Group) (i : ℕ) (named : List FirstSources) (old now : Lines) → length groups ≤ i → TextedSoFar payload_types groups i named old now → AreTexted payload_types groups named old now
+texted_end payload_types groups i named old now l h items few each e =
+    adds_same old now _ _ (ap (all_texts payload_types items) (take_over (names groups) i (omega (arith, l, length-map groups (λ (group : Group). group.name))))) (h items few each e)
 
 -- ---- a recording
 sum_cons : (n : ℕ) (ns : List ℕ) → sum (n ∷ ns) ≡ n + sum ns
@@ -177,26 +177,26 @@ sum_made : (s : ℕ → Firsts) (xs : List ℕ) → sum (map (λ (f : Firsts). f
 sum_made s [] = refl
 sum_made s (x ∷ xs) = sum_cons (s x).others (map (λ (f : Firsts). f.others) (map s xs)) ∙ (ap (λ k. (s x).others + k) (sum_made s xs) ∙ sym (sum_cons (s x).others (map (λ ssrc. (s ssrc).others) xs)))
 
-pub all_told : (found : Found) (named : List FirstSources) (others : ℕ) (one two three four : Lines) → Keeps one [] → AreNumbered found.pts found.streams.groups.items named one two → AreTexted found.pts found.streams.groups.items named two three
+pub all_told : (found : Findings) (named : List FirstSources) (others : ℕ) (one two three four : Lines) → Keeps one [] → AreNumbered found.payload_types found.streams.groups.items named one two → AreTexted found.payload_types found.streams.groups.items named two three
     → ((lines : List Line) → Keeps three lines → Keeps four (ordered_by at_of lines)) → others ≡ sum_others named → IsToldOf found four others
 unfolding in_order
 all_told found named others one two three four none numbers texts sorts o items few w =
-    let pts = found.pts in
+    let payload_types = found.payload_types in
     let groups = found.streams.groups.items in
-    let kept = (streams pts items).kept in
+    let kept = (streams payload_types items).kept in
     let is : names groups ≡ kept = ap (λ (f : Firsts). f.kept) w.streams.firsts in
-    let each : All (Holds (stream_of pts) items) groups = λ k d l. w.streams.each k d l in
+    let each : All (GroupHolds (stream_of payload_types) items) groups = λ k d l. w.streams.each k d l in
     let n = numbers items few each in
     let t = texts items few each n.1 in
-    let lines = all_numbers pts items (names groups) ++ all_texts pts items (names groups) in
-    let all : Keeps three lines = adds_both one two three (all_numbers pts items (names groups)) (all_texts pts items (names groups)) n.0 t [] none in
-    let same : lines ≡ map written (all_lines pts items) =
-    ap (λ (ns : List ℕ). all_numbers pts items ns ++ all_texts pts items ns) is
-    ∙ sym (map-append written (flat_map (λ ssrc. number_lines ssrc (numbered (arrivals_in pts items ssrc))) kept) (flat_map (λ ssrc. text_lines ssrc (arrivals_in pts items ssrc) (sources_in pts items ssrc)) kept)) in (
-      subst (Keeps four) (ap (ordered_by at_of) same ∙ sym (ordered_made moment_of at_of written (λ l. refl) (all_lines pts items))) (sorts lines all),
+    let lines = all_numbers payload_types items (names groups) ++ all_texts payload_types items (names groups) in
+    let all : Keeps three lines = adds_both one two three (all_numbers payload_types items (names groups)) (all_texts payload_types items (names groups)) n.0 t [] none in
+    let same : lines ≡ map written (all_lines payload_types items) =
+    ap (λ (ns : List ℕ). all_numbers payload_types items ns ++ all_texts payload_types items ns) is
+    ∙ sym (map-append written (flat_map (λ ssrc. number_lines ssrc (numbered (arrivals_in payload_types items ssrc))) kept) (flat_map (λ ssrc. text_lines ssrc (arrivals_in payload_types items ssrc) (sources_in payload_types items ssrc)) kept)) in (
+      subst (Keeps four) (ap (ordered_by at_of) same ∙ sym (ordered_made moment_of at_of written (λ l. refl) (all_lines payload_types items))) (sorts lines all),
       o ∙ (sum_of named ∙ (ap (λ (xs : List Firsts). sum (map (λ (f : Firsts). f.others) xs)) n.1
-          ∙ (sum_made (λ ssrc. sources ssrc pts (stream pts ssrc items)) (names groups)
-          ∙ ap (λ (ns : List ℕ). sum (map (λ ssrc. (sources ssrc pts (stream pts ssrc items)).others) ns)) is))),
+          ∙ (sum_made (λ ssrc. sources ssrc payload_types (stream payload_types ssrc items)) (names groups)
+          ∙ ap (λ (ns : List ℕ). sum (map (λ ssrc. (sources ssrc payload_types (stream payload_types ssrc items)).others) ns)) is))),
     )
 
 -- what is printed of the lines is that of the definition
@@ -214,79 +214,79 @@ timed_from : (start : Option ℕ) (lines : List times.Line) → began_and_writte
 timed_from None lines = refl
 timed_from (Some start) lines = ap (λ (xs : List ℕ). began_line start ++ xs) (timed_is start (day_of start) lines)
 
-pub printed_is : (found : Found) (start : Option ℕ) (end : Option DumpFault) (lines : Lines) (others : ℕ) (one two three four : List ℕ) → IsToldOf found lines others → IsTimedFrom lines start [] one
+pub printed_is : (found : Findings) (start : Option ℕ) (end : Option DumpFault) (lines : Lines) (others : ℕ) (one two three four : List ℕ) → IsToldOf found lines others → IsTimedFrom lines start [] one
     → two ≡ one ++ number_line (codes "-- other sources ") others → three ≡ two ++ number_line (codes "-- more ") found.streams.others → four ≡ three ++ end_line (ends end) → IsPrintedOf found start end four
 unfolding others_text
 printed_is found start end lines others one two three four told began a b c items few w =
     let t = told items few w in
-    let all = in_order (all_lines found.pts items) in
+    let all = in_order (all_lines found.payload_types items) in
     let text = began_and_timed start all in
     let first = number_line (codes "-- other sources ") in
     let second = number_line (codes "-- more ") in
     let last = end_line (ends end) in
     let one_is : one ≡ text = began (map written all) t.0 ∙ timed_from start all in
-    let more : found.streams.others ≡ (streams found.pts items).others = ap (λ (f : Firsts). f.others) w.streams.firsts in
-    c ∙ (ap (λ (xs : List ℕ). xs ++ last) (b ∙ (ap (λ (xs : List ℕ). xs ++ second found.streams.others) (a ∙ (ap (λ (xs : List ℕ). xs ++ first others) one_is ∙ ap (λ (n : ℕ). text ++ first n) t.1)) ∙ (ap (λ (n : ℕ). (text ++ first (other_sources found.pts items)) ++ second n) more
-    ∙ append_assoc text (first (other_sources found.pts items)) (second (streams found.pts items).others)))))
+    let more : found.streams.others ≡ (streams found.payload_types items).others = ap (λ (f : Firsts). f.others) w.streams.firsts in
+    c ∙ (ap (λ (xs : List ℕ). xs ++ last) (b ∙ (ap (λ (xs : List ℕ). xs ++ second found.streams.others) (a ∙ (ap (λ (xs : List ℕ). xs ++ first others) one_is ∙ ap (λ (n : ℕ). text ++ first n) t.1)) ∙ (ap (λ (n : ℕ). (text ++ first (other_sources found.payload_types items)) ++ second n) more
+    ∙ append_assoc text (first (other_sources found.payload_types items)) (second (streams found.payload_types items).others)))))
 
 -- ---- no line is of a late moment
-early_items : (pts : Pts) (items : List Item) (g : Group) → Holds (stream_of pts) items g → (item : Item) → In item (stream pts g.name items) → item.time ≤ 2 ^ 32
-early_items pts items g h item i = by h.records h.each item (subst (In item) (sym h.are) i)
+early_items : (payload_types : PayloadTypes) (items : List Item) (g : Group) → GroupHolds (stream_of payload_types) items g → (item : Item) → In item (stream payload_types g.name items) → item.time ≤ 2 ^ 32
+early_items payload_types items g h item i = by h.records h.each item (subst (In item) (sym h.are) i)
   where
     by : (rs : List (ℕ × List ℕ)) → AllByRecursion IsRecord rs → (x : Item) → In x (map sent_item rs) → x.time ≤ 2 ^ 32
     by [] a x j = absurd j
     by (r ∷ rs) a x (inl e) = subst (λ (y : Item). y.time ≤ 2 ^ 32) (sym e) (let m = a.0.moment in omega (arith, m))
     by (r ∷ rs) a x (inr j) = by rs a.1 x j
 
-all_early : (found : Found) (items : List Item) → IsFound found items → (ssrc : ℕ) → In ssrc (names found.streams.groups.items) → (item : Item) → In item (stream found.pts ssrc items) → item.time ≤ 2 ^ 32
+all_early : (found : Findings) (items : List Item) → IsFound found items → (ssrc : ℕ) → In ssrc (names found.streams.groups.items) → (item : Item) → In item (stream found.payload_types ssrc items) → item.time ≤ 2 ^ 32
 all_early found items w ssrc i = go found.streams.groups.items (λ k d l. w.streams.each k d l) i
   where
-    go : (gs : List Group) → All (Holds (stream_of found.pts) items) gs → In ssrc (names gs) → (item : Item) → In item (stream found.pts ssrc items) → item.time ≤ 2 ^ 32
+    go : (gs : List Group) → All (GroupHolds (stream_of found.payload_types) items) gs → In ssrc (names gs) → (item : Item) → In item (stream found.payload_types ssrc items) → item.time ≤ 2 ^ 32
     go [] a j = absurd j
-    go (g ∷ gs) a (inl e) = λ item k. early_items found.pts items g (All-head (Holds (stream_of found.pts) items) g gs a) item (subst (λ (n : ℕ). In item (stream found.pts n items)) e k)
-    go (g ∷ gs) a (inr j) = go gs (All-tail (Holds (stream_of found.pts) items) g gs a) j
+    go (g ∷ gs) a (inl e) = λ item k. early_items found.payload_types items g (All-head (GroupHolds (stream_of found.payload_types) items) g gs a) item (subst (λ (n : ℕ). In item (stream found.payload_types n items)) e k)
+    go (g ∷ gs) a (inr j) = go gs (All-tail (GroupHolds (stream_of found.payload_types) items) g gs a) j
 
-arrived_by : (found : Found) (items : List Item) → IsFound found items → (ssrc : ℕ) → In ssrc (streams found.pts items).kept → AreBy (2 ^ 32) (arrivals_in found.pts items ssrc)
+arrived_by : (found : Findings) (items : List Item) → IsFound found items → (ssrc : ℕ) → In ssrc (streams found.payload_types items).kept → AreBy (2 ^ 32) (arrivals_in found.payload_types items ssrc)
 arrived_by found items w ssrc i =
-    let named : names found.streams.groups.items ≡ (streams found.pts items).kept = ap (λ (x : Firsts). x.kept) w.streams.firsts in
-    after_by (2 ^ 32) ssrc found.pts [] (stream found.pts ssrc items) (all_early found items w ssrc (subst (In ssrc) (sym named) i)) tt
+    let named : names found.streams.groups.items ≡ (streams found.payload_types items).kept = ap (λ (x : Firsts). x.kept) w.streams.firsts in
+    after_by (2 ^ 32) ssrc found.payload_types [] (stream found.payload_types ssrc items) (all_early found items w ssrc (subst (In ssrc) (sym named) i)) tt
 
-pub lines_early : (found : Found) (lines : Lines) (others : ℕ) → IsToldOf found lines others → IsFoundOf found → AreEarly lines
+pub lines_early : (found : Findings) (lines : Lines) (others : ℕ) → IsToldOf found lines others → IsFoundOf found → AreEarly lines
 unfolding in_order
 lines_early found lines others told f =
-    let pts = found.pts in
+    let payload_types = found.payload_types in
     let items = f.0 in
     let w = f.2 in
-    let kept = (streams pts items).kept in
-    let all = all_lines pts items in
+    let kept = (streams payload_types items).kept in
+    let all = all_lines payload_types items in
     let each : (l : times.Line) → In l all → l.at < 2 ^ 48 = λ l i.
-    split l (in_append l (flat_map (λ ssrc. number_lines ssrc (numbered (arrivals_in pts items ssrc))) kept) (flat_map (λ ssrc. text_lines ssrc (arrivals_in pts items ssrc) (sources_in pts items ssrc)) kept) i) in (
+    split l (in_append l (flat_map (λ ssrc. number_lines ssrc (numbered (arrivals_in payload_types items ssrc))) kept) (flat_map (λ ssrc. text_lines ssrc (arrivals_in payload_types items ssrc) (sources_in payload_types items ssrc)) kept) i) in (
       map written (in_order all),
       (told items f.1 w).0,
       subst (All (λ (line : Line). line.at < 2 ^ 48)) (sym (ordered_made moment_of at_of written (λ l. refl) all))
           (ordered_early (2 ^ 48) (map written all) (λ line i. let r = in_map written line all i in subst (λ (x : Line). x.at < 2 ^ 48) (sym r.2) (each r.0 r.1))),
     )
   where
-    split : (l : times.Line) → In l (flat_map (λ ssrc. number_lines ssrc (numbered (arrivals_in found.pts f.0 ssrc))) (streams found.pts f.0).kept) ⊎ In l (flat_map (λ ssrc. text_lines ssrc (arrivals_in found.pts f.0 ssrc) (sources_in found.pts f.0 ssrc)) (streams found.pts f.0).kept) → l.at < 2 ^ 48
+    split : (l : times.Line) → In l (flat_map (λ ssrc. number_lines ssrc (numbered (arrivals_in found.payload_types f.0 ssrc))) (streams found.payload_types f.0).kept) ⊎ In l (flat_map (λ ssrc. text_lines ssrc (arrivals_in found.payload_types f.0 ssrc) (sources_in found.payload_types f.0 ssrc)) (streams found.payload_types f.0).kept) → l.at < 2 ^ 48
     split l (inl j) =
-        let r = in_flat (λ ssrc. number_lines ssrc (numbered (arrivals_in found.pts f.0 ssrc))) l (streams found.pts f.0).kept j in
-        let e = numbers_early (2 ^ 32) r.0 (numbered (arrivals_in found.pts f.0 r.0)) (numbered_by (2 ^ 32) (arrivals_in found.pts f.0 r.0) (arrived_by found f.0 f.2 r.0 r.1)) l r.2 in
+        let r = in_flat (λ ssrc. number_lines ssrc (numbered (arrivals_in found.payload_types f.0 ssrc))) l (streams found.payload_types f.0).kept j in
+        let e = numbers_early (2 ^ 32) r.0 (numbered (arrivals_in found.payload_types f.0 r.0)) (numbered_by (2 ^ 32) (arrivals_in found.payload_types f.0 r.0) (arrived_by found f.0 f.2 r.0 r.1)) l r.2 in
         omega (arith, e)
     split l (inr j) =
-        let r = in_flat (λ ssrc. text_lines ssrc (arrivals_in found.pts f.0 ssrc) (sources_in found.pts f.0 ssrc)) l (streams found.pts f.0).kept j in
-        let e = texts_early (2 ^ 32) r.0 (arrivals_in found.pts f.0 r.0) (sources_in found.pts f.0 r.0) (arrived_by found f.0 f.2 r.0 r.1) l r.2 in
+        let r = in_flat (λ ssrc. text_lines ssrc (arrivals_in found.payload_types f.0 ssrc) (sources_in found.payload_types f.0 ssrc)) l (streams found.payload_types f.0).kept j in
+        let e = texts_early (2 ^ 32) r.0 (arrivals_in found.payload_types f.0 r.0) (sources_in found.payload_types f.0 r.0) (arrived_by found f.0 f.2 r.0 r.1) l r.2 in
         omega (arith, e)
 
 -- ---- the streams that were found
-pub are_streams : (found : Found) → IsFoundOf found → All IsStream found.streams.groups.items
+pub are_streams : (found : Findings) → IsFoundOf found → All IsStream found.streams.groups.items
 are_streams found f k d low =
     let g = found.streams in
     let h = f.2.streams.each k d low in (
-      (h.records, records_of (stream_of found.pts) f.0 (get_or g.groups.items k d) f.1 h),
+      (h.records, records_of (stream_of found.payload_types) f.0 (get_or g.groups.items k d) f.1 h),
       subst (λ (n : ℕ). n < 2 ^ 32) (get_or-map (λ (group : Group). group.name) g.groups.items k d d.name low) (f.2.streams.below k d.name (omega (arith, low, length-map g.groups.items (λ (group : Group). group.name)))),
     )
 
-pub few_streams : (found : Found) → IsFoundOf found → length found.streams.groups.items ≤ 64
+pub few_streams : (found : Findings) → IsFoundOf found → length found.streams.groups.items ≤ 64
 few_streams found f =
-    let kept = few (record { kept = []; others = 0 }) (filter_map (λ item. stream_of found.pts (sort_of item)) f.0) (omega arith) in
+    let kept = few (record { kept = []; others = 0 }) (filter_map (λ item. stream_of found.payload_types (sort_of item)) f.0) (omega arith) in
     omega (arith, kept, ap (λ (x : Firsts). length x.kept) f.2.streams.firsts, length-map found.streams.groups.items (λ (group : Group). group.name))

@@ -28,8 +28,8 @@ pub record Keeps (l : Lines) (lines : List Line) : Type 0 where
   pub are : map (line_in l.octets) l.spans.items ≡ lines
 
 -- these lines more are kept
-abbrev pub Adds : Lines → List Line → Lines → Type 0
-Adds old more new = (lines : List Line) → Keeps old lines → Keeps new (lines ++ more)
+abbrev pub AddsLines : Lines → List Line → Lines → Type 0
+AddsLines old more new = (lines : List Line) → Keeps old lines → Keeps new (lines ++ more)
 
 -- what was appended from here on is a line more
 pub record KeepsFrom (at from : ℕ) (old new : Lines) : Type 0 where
@@ -63,7 +63,7 @@ at_of l = l.at
 
 -- the lines of a text were added, behind this name
 abbrev pub AddsText : List ℕ → Chunk → Lines → Lines → Type 0
-AddsText name c old new = (r : ReadRequest) → name ≡ name_before r → Adds old (chunk_written r c) new
+AddsText name c old new = (r : ReadRequest) → name ≡ name_before r → AddsLines old (chunk_written r c) new
 
 -- the same lines are kept, in the order of their moments
 abbrev pub Sorts : Lines → Lines → Type 0

@@ -7,44 +7,44 @@ use Rattle.command_spec.specs.declared.requests.ReadRequest.{ReadRequest}
 use Rattle.command_spec.specs.Reading.{usual_wait}
 use Rattle.times_spec.specs.Times.{source_lines}
 use Rattle.gap_tracker.specs.Stories.{Story}
-use Rattle.ear.specs.declared.confs.EarConf.{EarConf}
+use Rattle.ear.specs.declared.settings.EarSettings.{EarSettings}
 use Rattle.ear.specs.declared.ears.Ear.{Ear}
 use Rattle.ear.specs.Hears.{GaveSome, IsToldOf, ready_chunks, story_chunks, text_for, told}
 use Rattle.rtt_show.specs.Records.{OfRecords}
 use Rattle.rtt_times.specs.declared.lines.Lines.{Lines}
-use Rattle.rtt_times.specs.Lines.{Line, Adds, chunk_written, name_before, written}
+use Rattle.rtt_times.specs.Lines.{Line, AddsLines, chunk_written, name_before, written}
 
 -- this holds of the request whose source is named so
 abbrev pub UnderName : List ℕ → (ReadRequest → Type 0) → Type 0
 UnderName name P = (r : ReadRequest) → name ≡ name_before r → P r
 
 -- what an ear is asked for
-abbrev pub asked_of : ReadRequest → EarConf
-asked_of r = record { ssrc = r.ssrc; pts = r.pts; wait = usual_wait }
+abbrev pub asked_of : ReadRequest → EarSettings
+asked_of r = record { ssrc = r.ssrc; payload_types = r.payload_types; wait = usual_wait }
 
 -- the lines of these
 abbrev pub lines_of : ReadRequest → List Chunk → List Line
 lines_of r chunks = flat_map (chunk_written r) chunks
 
 -- the ear was told this, and the lines of all that it gave were added to the first ones
-abbrev pub Written : ReadRequest → Lines → Ear → Lines → EarConf → ℕ → Story → Type 0
-Written r first ear lines conf source story = (gave : List Chunk) × GaveSome ear conf source story gave × Adds first (lines_of r gave) lines
+abbrev pub Written : ReadRequest → Lines → Ear → Lines → EarSettings → ℕ → Story → Type 0
+Written r first ear lines settings source story = (gave : List Chunk) × GaveSome ear settings source story gave × AddsLines first (lines_of r gave) lines
 
 -- ---- what calls make of it
 -- it was told nothing, and what is ready was written
 abbrev pub WritesReady : ReadRequest → Ear → Lines → Ear → Lines → Type 0
-WritesReady r before old after new = (first : Lines) (conf : EarConf) (source : ℕ) (story : Story) → Written r first before old conf source story
-    → Written r first after new conf source story × Adds first (lines_of r (ready_chunks conf source story)) new
+WritesReady r before old after new = (first : Lines) (settings : EarSettings) (source : ℕ) (story : Story) → Written r first before old settings source story
+    → Written r first after new settings source story × AddsLines first (lines_of r (ready_chunks settings source story)) new
 
 -- these octets came at this moment, and some of what is ready was written
 abbrev pub WritesPacket : ReadRequest → ℕ → List ℕ → Ear → Lines → Ear → Lines → Type 0
-WritesPacket r at octets before old after new = (first : Lines) (conf : EarConf) (source : ℕ) (story : Story) → Written r first before old conf source story
-    → Written r first after new conf source (told story at (text_for conf octets))
+WritesPacket r at octets before old after new = (first : Lines) (settings : EarSettings) (source : ℕ) (story : Story) → Written r first before old settings source story
+    → Written r first after new settings source (told story at (text_for settings octets))
 
 -- it was told of the end, and everything was written
 abbrev pub WritesEnd : ReadRequest → Ear → Lines → Lines → Type 0
-WritesEnd r before old new = (first : Lines) (conf : EarConf) (source : ℕ) (story : Story) → Written r first before old conf source story
-    → Adds first (lines_of r (story_chunks conf source story)) new
+WritesEnd r before old new = (first : Lines) (settings : EarSettings) (source : ℕ) (story : Story) → Written r first before old settings source story
+    → AddsLines first (lines_of r (story_chunks settings source story)) new
 
 -- ---- the records of a stream
 -- The ear for this request was told of these arrivals, newest first.
@@ -53,7 +53,7 @@ HasWritten r first past ear lines = (story : Story) × IsToldOf story past × Wr
 
 -- these items came, oldest first
 abbrev pub HasWrittenOf : ReadRequest → Lines → Ear → Lines → List Item → Type 0
-HasWrittenOf r first ear lines came = HasWritten r first (arrivals_after r.ssrc r.pts [] came) ear lines
+HasWrittenOf r first ear lines came = HasWritten r first (arrivals_after r.ssrc r.payload_types [] came) ear lines
 
 -- whatever was written before, nothing came
 abbrev pub BeginsWriting : ReadRequest → Ear → Type 0
@@ -65,8 +65,8 @@ WritesRecords r octets before old after new = (first : Lines) → HasWrittenOf r
 
 -- the lines of the source were added, of the stream with these records
 abbrev pub AddsSource : ReadRequest → List ℕ → Lines → Lines → Type 0
-AddsSource r octets old new = OfRecords octets (λ came. Adds old (map written (source_lines r.ssrc (arrivals_after r.ssrc r.pts [] came) r.source)) new)
+AddsSource r octets old new = OfRecords octets (λ came. AddsLines old (map written (source_lines r.ssrc (arrivals_after r.ssrc r.payload_types [] came) r.source)) new)
 
 -- so many of these records are packets of text of the stream
 abbrev pub HasArrivals : ReadRequest → List ℕ → ℕ → Type 0
-HasArrivals r octets n = OfRecords octets (λ came. n ≡ length (arrivals_after r.ssrc r.pts [] came))
+HasArrivals r octets n = OfRecords octets (λ came. n ≡ length (arrivals_after r.ssrc r.payload_types [] came))

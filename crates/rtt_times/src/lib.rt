@@ -1,7 +1,7 @@
 //! What came in a recording, by the clock: each text, and which numbers were lost or late.
 #![tactic(auto)]
 
-mod heard;
+mod stream_packets;
 mod lines;
 mod numbers;
 mod rows;

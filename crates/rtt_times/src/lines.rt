@@ -3,7 +3,7 @@ ghost use Rattle.std.specs.Prelude.{◌≡◌, ◌+◌, ◌<◌, ◌^◌, ◌++�
 ghost use Rattle.stream_spec.specs.Ready.{chunk_of};
 ghost use Rattle.view_spec.specs.Views.{printed_line};
 ghost use Rattle.times_spec.specs.Times.{LostRow, LateNumber, name_of, on_wire, told_text};
-ghost use Rattle.rtt_times.specs.Lines.{Adds, AddsText, AreEarly, IsTimed, Keeps, KeepsFrom, LiesIn, Sorts, said_line, timed_line, written};
+ghost use Rattle.rtt_times.specs.Lines.{AddsLines, AddsText, AreEarly, IsTimed, Keeps, KeepsFrom, LiesIn, Sorts, said_line, timed_line, written};
 
 use itoa::Buffer;
 use recording_starts::{append_day_line, append_time, day_of};
@@ -154,7 +154,7 @@ impl Lines {
         first: u64,
         last: u64,
     ) -> Result<(), NoMemory>
-        ensures { OnOk result (Adds self.old (written (record { at = at; ssrc = ssrc; told = LostRow (first, last) }) ∷ []) self.new) }
+        ensures { OnOk result (AddsLines self.old (written (record { at = at; ssrc = ssrc; told = LostRow (first, last) }) ∷ []) self.new) }
     {
         let from = self.octets.len();
         append_lost(ssrc, first, last, &mut self.octets)?;
@@ -163,7 +163,7 @@ impl Lines {
 
     /// Adds the line of a number that came late.
     pub(crate) fn add_late(&mut self, at: u64, ssrc: u32, number: u64) -> Result<(), NoMemory>
-        ensures { OnOk result (Adds self.old (written (record { at = at; ssrc = ssrc; told = LateNumber number }) ∷ []) self.new) }
+        ensures { OnOk result (AddsLines self.old (written (record { at = at; ssrc = ssrc; told = LateNumber number }) ∷ []) self.new) }
     {
         let from = self.octets.len();
         append_late(ssrc, number, &mut self.octets)?;

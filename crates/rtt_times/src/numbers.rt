@@ -1,10 +1,10 @@
 //! Which numbers of a stream were lost, and which came late.
 ghost use Rattle.std.specs.Prelude.{◌≡◌, ◌<◌, ◌++◌, ◌∷◌, [], suc, IfOk, OnOk};
 ghost use Rattle.std.specs.List.Sorted.{IsNonDecreasing, IsNonDecreasingBy};
-ghost use Rattle.rtt_times.specs.Lines.{Adds};
+ghost use Rattle.rtt_times.specs.Lines.{AddsLines};
 ghost use Rattle.rtt_times.specs.Numbers.{AddsBefore, AddsMissing, AddsNumbers, AreAbove, AreLateNumbers, AreThere, IsLate, IsPart, due_number, gap_lines, has_due, late_among, late_lines};
 
-use crate::heard::{Came, Heard};
+use crate::stream_packets::{TimedPacket, StreamPackets};
 use crate::lines::Lines;
 use gap_tracker::Due;
 use rtt_base::NoMemory;
@@ -20,7 +20,7 @@ fn is_used(used: &[Due], number: u64) -> bool
 }
 
 /// Adds one whose number is not used.
-fn add_unused(late: &mut Vec<Came>, used: &[Due], one: Came) -> Result<(), NoMemory>
+fn add_unused(late: &mut Vec<TimedPacket>, used: &[Due], one: TimedPacket) -> Result<(), NoMemory>
     requires { IsNonDecreasingBy due_number used.now }
     ensures { OnOk result (late.new.items ≡ late.old.items ++ late_among used.now (one ∷ [])) }
 {
@@ -32,7 +32,7 @@ fn add_unused(late: &mut Vec<Came>, used: &[Due], one: Came) -> Result<(), NoMem
 }
 
 /// Those of these whose number is not used, in their order.
-fn unused_among(alloc: Global, used: &[Due], came: &[Came]) -> Result<Vec<Came>, NoMemory>
+fn unused_among(alloc: Global, used: &[Due], came: &[TimedPacket]) -> Result<Vec<TimedPacket>, NoMemory>
     requires { IsNonDecreasingBy due_number used.now }
     ensures { IfOk result (λ late. late.items ≡ late_among used.now came.now) }
 {
@@ -44,7 +44,7 @@ fn unused_among(alloc: Global, used: &[Due], came: &[Came]) -> Result<Vec<Came>,
 }
 
 /// The numbers of these, in their order.
-fn numbers_of(alloc: Global, late: &[Came]) -> Result<Vec<u64>, NoMemory>
+fn numbers_of(alloc: Global, late: &[TimedPacket]) -> Result<Vec<u64>, NoMemory>
     ensures { IfOk result (λ numbers. AreLateNumbers late.now numbers.items) }
 {
     let mut numbers = Vec::new(alloc);
@@ -144,7 +144,7 @@ fn add_gap(
 fn add_gaps(ssrc: u32, used: &[Due], late: &[u64], lines: &mut Lines) -> Result<(), NoMemory>
     requires above { AreAbove used.now }
     requires rise { IsNonDecreasing late.now }
-    ensures { OnOk result (Adds lines.old (gap_lines ssrc late.now used.now) lines.new) }
+    ensures { OnOk result (AddsLines lines.old (gap_lines ssrc late.now used.now) lines.new) }
 {
     for index in 1..used.len() {
         let before = used[index - 1];
@@ -155,8 +155,8 @@ fn add_gaps(ssrc: u32, used: &[Due], late: &[u64], lines: &mut Lines) -> Result<
 }
 
 /// Adds the lines of these, which came late.
-fn add_late(ssrc: u32, late: &[Came], lines: &mut Lines) -> Result<(), NoMemory>
-    ensures { OnOk result (Adds lines.old (late_lines ssrc late.now) lines.new) }
+fn add_late(ssrc: u32, late: &[TimedPacket], lines: &mut Lines) -> Result<(), NoMemory>
+    ensures { OnOk result (AddsLines lines.old (late_lines ssrc late.now) lines.new) }
 {
     for index in 0..late.len() {
         let one = late[index];
@@ -166,7 +166,7 @@ fn add_late(ssrc: u32, late: &[Came], lines: &mut Lines) -> Result<(), NoMemory>
 }
 
 /// Those of a stream that came late, in the order in which they came.
-fn late_of(alloc: Global, heard: &Heard) -> Result<Vec<Came>, NoMemory>
+fn late_of(alloc: Global, heard: &StreamPackets) -> Result<Vec<TimedPacket>, NoMemory>
     requires { AreThere heard.now }
     ensures { IfOk result (λ late. IsLate heard.now late.items) }
 {
@@ -180,7 +180,7 @@ fn late_of(alloc: Global, heard: &Heard) -> Result<Vec<Came>, NoMemory>
 pub(crate) fn add_numbers(
     alloc: Global,
     ssrc: u32,
-    heard: &Heard,
+    heard: &StreamPackets,
     lines: &mut Lines,
 ) -> Result<(), NoMemory>
     requires { AreThere heard.now }

@@ -8,8 +8,8 @@ ghost use Rattle.rtt_times.specs.Rows.{AddsRow, AddsRows, AreRows};
 use crate::lines::Lines;
 use crate::texts::add_texts;
 use command_spec::ReadRequest;
-use rtt_base::{NoMemory, Pts};
-use rtt_show::{Found, Group, Row, row_of};
+use rtt_base::{NoMemory, PayloadTypes};
+use rtt_show::{Findings, Group, Row, row_of};
 use std::alloc::Global;
 
 /// The rows in which the packets of all these streams come, if those of each come in one.
@@ -30,19 +30,19 @@ fn rows_of(alloc: Global, streams: &[Group]) -> Result<Option<Vec<Row>>, NoMemor
 /// Adds the lines of the texts of a stream whose packets come in this row, and tells whether each of them is one of text.
 fn add_row(
     alloc: Global,
-    pts: Pts,
+    payload_types: PayloadTypes,
     stream: &Group,
     row: Row,
     lines: &mut Lines,
 ) -> Result<bool, NoMemory>
     requires stream { IsStream stream.now }
     requires row { OfRecords stream.now.records (IsRow row) }
-    ensures { IfOk result (λ whole. whole ≡ true → AddsRow pts stream.now lines.old lines.new) }
+    ensures { IfOk result (λ whole. whole ≡ true → AddsRow payload_types stream.now lines.old lines.new) }
 {
     let of = ReadRequest {
         ssrc: stream.name as u32,
         source: row.source,
-        pts,
+        payload_types,
     };
     let arrivals = add_texts(alloc, of, stream.records.as_slice(), lines)?;
     Ok(arrivals == row.packets)
@@ -52,17 +52,17 @@ fn add_row(
 /// text.
 fn add_rows(
     alloc: Global,
-    pts: Pts,
+    payload_types: PayloadTypes,
     streams: &[Group],
     rows: &[Row],
     lines: &mut Lines,
 ) -> Result<bool, NoMemory>
     requires streams { All IsStream streams.now }
     requires rows { AreRows streams.now rows.now }
-    ensures { IfOk result (λ whole. whole ≡ true → AddsRows pts streams.now lines.old lines.new) }
+    ensures { IfOk result (λ whole. whole ≡ true → AddsRows payload_types streams.now lines.old lines.new) }
 {
     for index in 0..streams.len() {
-        if !add_row(alloc, pts, &streams[index], rows[index], lines)? {
+        if !add_row(alloc, payload_types, &streams[index], rows[index], lines)? {
             return Ok(false);
         }
     }
@@ -70,7 +70,7 @@ fn add_rows(
 }
 
 /// The lines of all streams, in the order of their moments, where the packets of each are seen to come in a row.
-pub(crate) fn lines_in_rows(alloc: Global, found: &Found) -> Result<Option<Lines>, NoMemory>
+pub(crate) fn lines_in_rows(alloc: Global, found: &Findings) -> Result<Option<Lines>, NoMemory>
     requires { IsFoundOf found.now }
     ensures { IfOk result (λ lines. IfSome lines (λ lines. IsToldOf found.now lines 0)) }
 {
@@ -79,7 +79,7 @@ pub(crate) fn lines_in_rows(alloc: Global, found: &Found) -> Result<Option<Lines
         return Ok(None);
     };
     let mut lines = Lines::new(alloc);
-    if !add_rows(alloc, found.pts, streams, rows.as_slice(), &mut lines)? {
+    if !add_rows(alloc, found.payload_types, streams, rows.as_slice(), &mut lines)? {
         return Ok(None);
     }
     lines.sort()?;

@@ -1,14 +1,14 @@
 use crate::times_recording;
-use recording_starts::Opened;
+use recording_starts::HeadReader;
 use rtpdump_io::{DumpReader, RecordingFault};
-use rtt_base::{Bytes, NoMemory, Pts};
+use rtt_base::{Bytes, NoMemory, PayloadTypes};
 use rtt_io::SteadySource;
 use std::alloc::Global;
 use std::process::Abort;
 use std::test::Fail;
 use wire_spec::DumpKind;
 
-const USUAL: Pts = Pts { t140: 98, red: 100 };
+const USUAL: PayloadTypes = PayloadTypes { t140: 98, red: 100 };
 
 // The line of a recording, and what its head has behind the start.
 const LINE: [u8; 28] = *b"#!rtpplay1.0 127.0.0.1/5004\n";
@@ -62,7 +62,7 @@ fn printed(
     for record in records {
         recording.append(record)?;
     }
-    let (opened, looked) = Opened::open(SteadySource::new(recording));
+    let (opened, looked) = HeadReader::open(SteadySource::new(recording));
     let Ok(began) = looked else {
         return Err(NoMemory);
     };
@@ -135,7 +135,7 @@ fn what_breaks_off_is_told_up_to_there(rt: HostRuntime) -> Result<(), Fail> {
 
 #[test]
 fn what_is_no_recording_is_refused(rt: HostRuntime) {
-    let (opened, looked) = Opened::open(SteadySource::new(Bytes::new(rt.alloc())));
+    let (opened, looked) = HeadReader::open(SteadySource::new(Bytes::new(rt.alloc())));
     assert!(rt; looked.is_ok_and(|start| start.is_none()));
     let mut reader = DumpReader::new(opened);
     let Err(RecordingFault::Dump(fault)) = times_recording(rt.alloc(), &mut reader, None, USUAL)

@@ -8,7 +8,7 @@ ghost use Rattle.rtt_base.specs.declared.limits.TheConstants.{END_OF_MOMENTS, MO
 
 use crate::lines::{Lines, append_name};
 use command_spec::ReadRequest;
-use ear::{Ear, EarConf, PlainAnswer};
+use ear::{Ear, EarSettings, PlainAnswer};
 use rtpdump_io::next_record;
 use rtt_base::limits::USUAL_WAIT;
 use rtt_base::{Bytes, Chunk, NoMemory as OutOfMemory};
@@ -22,9 +22,9 @@ fn ear_for(alloc: Global, of: ReadRequest) -> Result<Ear, OutOfMemory>
     ensures none { IfOk result (λ ear. arrival_count ear ≡ 0) }
     ensures open { IfOk result (λ ear. is_finished ear ≡ Bool.false) }
 {
-    let asked = EarConf {
+    let asked = EarSettings {
         ssrc: of.ssrc,
-        pts: of.pts,
+        payload_types: of.payload_types,
         wait: u64::from(USUAL_WAIT),
     };
     Ear::new(alloc, asked, &[of.source])

@@ -4,12 +4,12 @@ ghost use Rattle.command_spec.specs.Showing.{if_no_recording, number_line};
 ghost use Rattle.rtpdump_io.specs.InMemory.{HasRecords};
 ghost use Rattle.rtpdump_io.specs.Reading.{is_ended, source_of, to_come};
 ghost use Rattle.rtpdump_io.specs.Faults.{HasCause};
-ghost use Rattle.rtt_show.specs.Gathers.{IsRefused};
+ghost use Rattle.rtt_show.specs.Gathers.{RecordingIsRefused};
 ghost use Rattle.times_spec.specs.Times.{timed_view};
 ghost use Rattle.rtt_times.specs.Found.{AddsTexts, AreFew, AreNumbered, AreTexted, HasNumbersAdded, IsFoundOf, IsPrintedOf, IsStream, IsTimedFrom, IsToldOf, NamesSources, sum_others};
 ghost use Rattle.rtt_times.specs.Lines.{AreEarly};
 
-use crate::heard::{Heard, heard_of};
+use crate::stream_packets::{StreamPackets, heard_of};
 use crate::lines::{Lines, append_decimal};
 use crate::numbers::add_numbers;
 use crate::rows::lines_in_rows;
@@ -17,26 +17,26 @@ use crate::texts::add_texts;
 use command_spec::ReadRequest;
 use recording_starts::append_began;
 use rtpdump_io::{DumpFault, DumpReader, RecordingFault};
-use rtt_base::{Bytes, NoMemory, Pts};
+use rtt_base::{Bytes, NoMemory, PayloadTypes};
 use rtt_io::Source;
-use rtt_show::{FirstSources, Found, Group, append_end, gather};
+use rtt_show::{FirstSources, Findings, Group, append_end, gather};
 use std::alloc::Global;
 
 /// Adds the lines of the texts of these sources of a stream.
 fn add_sources(
     alloc: Global,
     ssrc: u32,
-    pts: Pts,
+    payload_types: PayloadTypes,
     sources: &[u32],
     records: &[u8],
     lines: &mut Lines,
 ) -> Result<(), NoMemory>
     requires { HasRecords records.now }
-    ensures { OnOk result (AddsTexts ssrc pts sources.now records.now lines.old lines.new) }
+    ensures { OnOk result (AddsTexts ssrc payload_types sources.now records.now lines.old lines.new) }
 {
     for index in 0..sources.len() {
         let source = sources[index];
-        let of = ReadRequest { ssrc, source, pts };
+        let of = ReadRequest { ssrc, source, payload_types };
         let _arrivals = add_texts(alloc, of, records, lines)?;
     }
     Ok(())
@@ -45,37 +45,37 @@ fn add_sources(
 /// Adds the lines of the numbers of a stream, and answers its sources.
 fn add_stream_numbers(
     alloc: Global,
-    pts: Pts,
+    payload_types: PayloadTypes,
     stream: &Group,
     lines: &mut Lines,
 ) -> Result<FirstSources, NoMemory>
     requires { IsStream stream.now }
-    ensures numbers { OnOk result (HasNumbersAdded pts stream.now lines.old lines.new) }
-    ensures sources { IfOk result (NamesSources pts stream.now) }
+    ensures numbers { OnOk result (HasNumbersAdded payload_types stream.now lines.old lines.new) }
+    ensures sources { IfOk result (NamesSources payload_types stream.now) }
     ensures few { IfOk result AreFew }
 {
-    let heard = heard_of(alloc, stream.name as u32, pts, stream.records.as_slice())?;
+    let heard = heard_of(alloc, stream.name as u32, payload_types, stream.records.as_slice())?;
     add_numbers(alloc, stream.name as u32, &heard, lines)?;
-    let Heard { sources, .. } = heard;
+    let StreamPackets { sources, .. } = heard;
     Ok(sources)
 }
 
 /// Adds the lines of the numbers of all these streams, and answers the sources of each.
 fn add_all_numbers(
     alloc: Global,
-    pts: Pts,
+    payload_types: PayloadTypes,
     streams: &[Group],
     lines: &mut Lines,
 ) -> Result<Vec<FirstSources>, NoMemory>
     requires { All IsStream streams.now }
-    ensures numbers { IfOk result (λ named. AreNumbered pts streams.now named.items lines.old lines.new) }
+    ensures numbers { IfOk result (λ named. AreNumbered payload_types streams.now named.items lines.old lines.new) }
     ensures each { IfOk result (λ named. length named.items ≡ length streams.now) }
     ensures few { IfOk result (λ named. All AreFew named.items) }
 {
     let mut named = Vec::new(alloc);
     for index in 0..streams.len() {
         let stream = &streams[index];
-        let sources = add_stream_numbers(alloc, pts, stream, lines)?;
+        let sources = add_stream_numbers(alloc, payload_types, stream, lines)?;
         named.push(sources)?;
     }
     Ok(named)
@@ -84,14 +84,14 @@ fn add_all_numbers(
 /// Adds the lines of the texts of all these streams, the sources of each of which are there.
 fn add_all_texts(
     alloc: Global,
-    pts: Pts,
+    payload_types: PayloadTypes,
     streams: &[Group],
     named: &[FirstSources],
     lines: &mut Lines,
 ) -> Result<(), NoMemory>
     requires streams { All IsStream streams.now }
     requires each { length named.now ≡ length streams.now }
-    ensures { OnOk result (AreTexted pts streams.now named.now lines.old lines.new) }
+    ensures { OnOk result (AreTexted payload_types streams.now named.now lines.old lines.new) }
 {
     for index in 0..streams.len() {
         let stream = &streams[index];
@@ -100,7 +100,7 @@ fn add_all_texts(
         add_sources(
             alloc,
             stream.name as u32,
-            pts,
+            payload_types,
             sources,
             stream.records.as_slice(),
             lines,
@@ -150,22 +150,22 @@ fn append_lines(start: Option<u64>, lines: &Lines, out: &mut Bytes) -> Result<()
 }
 
 /// The lines of all streams, in the order of their moments, and how many packets are of sources behind the 64th, whatever came.
-fn any_lines_of(alloc: Global, found: &Found) -> Result<(Lines, u64), NoMemory>
+fn any_lines_of(alloc: Global, found: &Findings) -> Result<(Lines, u64), NoMemory>
     requires { IsFoundOf found.now }
     ensures told { IfOk result (λ told. IsToldOf found.now told.0 told.1) }
     ensures early { IfOk result (λ told. AreEarly told.0) }
 {
     let streams = found.streams.groups.as_slice();
     let mut lines = Lines::new(alloc);
-    let named = add_all_numbers(alloc, found.pts, streams, &mut lines)?;
-    add_all_texts(alloc, found.pts, streams, named.as_slice(), &mut lines)?;
+    let named = add_all_numbers(alloc, found.payload_types, streams, &mut lines)?;
+    add_all_texts(alloc, found.payload_types, streams, named.as_slice(), &mut lines)?;
     lines.sort()?;
     Ok((lines, others_of(named.as_slice())))
 }
 
 /// The lines of all streams, in the order of their moments, and how many packets are of sources behind the 64th. Where the
 /// packets of each stream come in a row, their numbers need not be kept.
-fn lines_of(alloc: Global, found: &Found) -> Result<(Lines, u64), NoMemory>
+fn lines_of(alloc: Global, found: &Findings) -> Result<(Lines, u64), NoMemory>
     requires { IsFoundOf found.now }
     ensures told { IfOk result (λ told. IsToldOf found.now told.0 told.1) }
     ensures early { IfOk result (λ told. AreEarly told.0) }
@@ -179,7 +179,7 @@ fn lines_of(alloc: Global, found: &Found) -> Result<(Lines, u64), NoMemory>
 /// All that is printed, with the fault that ends the recording.
 fn times_found(
     alloc: Global,
-    found: &Found,
+    found: &Findings,
     start: Option<u64>,
     end: Option<DumpFault>,
 ) -> Result<Bytes, NoMemory>
@@ -202,18 +202,19 @@ pub fn times_recording<S: Source>(
     alloc: Global,
     reader: &mut DumpReader<S>,
     start: Option<u64>,
-    pts: Pts,
+    payload_types: PayloadTypes,
 ) -> Result<Bytes, RecordingFault>
     requires open { is_ended reader.old ≡ Bool.false }
     requires start { IfSome start (λ start. start < 2 ^ 48) }
-    ensures told { S.tells → IfOk result (λ printed. printed ≡ timed_view pts start (to_come S.left reader.old)) }
+    ensures told { S.tells → IfOk result (λ printed. printed
+        ≡ timed_view payload_types start (to_come S.left reader.old)) }
     ensures accepted { S.tells → OnOk result (if_no_recording (to_come S.left reader.old).fault ≡ None) }
-    ensures refused { S.tells → IfErr result (IsRefused (to_come S.left reader.old)) }
+    ensures refused { S.tells → IfErr result (RecordingIsRefused (to_come S.left reader.old)) }
     ensures read { IfErr result (HasCause S.faults reader.old reader.new) }
     ensures never_falls { S.faults (source_of reader.old) ≤ S.faults (source_of reader.new) }
     ensures same_name { S.name (source_of reader.new) ≡ S.name (source_of reader.old) }
 {
-    let mut found = Found::new(alloc, pts);
+    let mut found = Findings::new(alloc, payload_types);
     let end = match gather(alloc, reader, &mut found) {
         Ok(end) => end,
         Err(fault) => return Err(fault),

@@ -5,9 +5,9 @@ use Rattle.wire_spec.specs.Dump.{dump, usual_limit}
 use Rattle.wire_spec.specs.Dump as dumps
 use Rattle.wire_spec.specs.declared.faults.DumpKind.{DumpKind}
 use Rattle.rtpdump_io.specs.Reading.{is_of_source}
-use Rattle.file_spec.specs.declared.conf_lines.Form.TheVariants.{Files}
-use Rattle.file_spec.specs.declared.conf_lines.LegLine.{LegLine}
-use Rattle.file_spec.specs.Conf.{Conf, conf}
+use Rattle.file_spec.specs.declared.conference_lines.Form.TheVariants.{Files}
+use Rattle.file_spec.specs.declared.conference_lines.LegLine.{LegLine}
+use Rattle.file_spec.specs.Conference.{Conference, conference_from}
 use Rattle.mixer_spec.specs.Setups.{leg_at, setup}
 use Rattle.mixer_spec.specs.Table.{Table}
 use Rattle.mixer_spec.specs.declared.limits.TheConstants.{MOST_INPUT_OF_MANY, PLACES}
@@ -21,9 +21,9 @@ use Rattle.command_spec.specs.Inputs.{AllLie, LieBelow, NoneReads, inputs_under}
 use Rattle.command_spec.specs.Mixing.{input_at, makes, mixes, unless_one_broken}
 use Rattle.command_spec.specs.Attending.{named, says_of}
 use Rattle.command_spec.proofs.SameFiles.{HaveFilesOf, back, same_inputs, same_many, there}
-use Rattle.bridge_run.specs.declared.mixed.MixFault.{MixFault}
-use Rattle.bridge_run.specs.declared.mixed.MixFault.TheVariants.{Open, Dump, TooLong}
-use Rattle.bridge_run.specs.declared.mixed.MixFault.TheVariants as mix
+use Rattle.bridge_run.specs.declared.results.MixFault.{MixFault}
+use Rattle.bridge_run.specs.declared.results.MixFault.TheVariants.{Open, Dump, TooLong}
+use Rattle.bridge_run.specs.declared.results.MixFault.TheVariants as mix
 use Rattle.bridge_run.specs.Mixes.{IsFirst, NoneFailed, Stops, steps_of}
 use Rattle.rtt_top.specs.Conferences.{ending_name, fault_name, fault_of_mixing, input_name, input_of}
 use Rattle.rtt_top.specs.Outside.{CallFailed, ObjectFailed, Outside}
@@ -66,7 +66,7 @@ same_told file olds news same turns TooLong = refl
 same_told file olds news same turns mix.NoMemory = refl
 
 -- ---- recordings that are refused
-makes_no_byte : (c : Conf) (o : Option Table) (n byte : ℕ) (kind : DumpKind) → makes c o ≡ Refuses n (AtByte byte kind) → ⊥
+makes_no_byte : (c : Conference) (o : Option Table) (n byte : ℕ) (kind : DumpKind) → makes c o ≡ Refuses n (AtByte byte kind) → ⊥
 makes_no_byte c None n byte kind e = cc e
 makes_no_byte c (Some table) n byte kind e = cc e
 
@@ -84,11 +84,11 @@ refused_too limit k (octets ∷ more) a b n byte kind none e = go (dump limit oc
     go (Some fault) e rest = e
 
 -- ---- a conference with other names and leavings
-module _ (held : Contents) (c now : Conf) (same : HaveFilesOf c.legs now.legs) (limits : input_limit now ≡ input_limit c) where
+module _ (held : Contents) (c now : Conference) (same : HaveFilesOf c.legs now.legs) (limits : input_limit now ≡ input_limit c) where
   mixing_refused_too : (n byte : ℕ) (kind : DumpKind) → steps_of held c ≡ Refuses n (AtByte byte kind) → steps_of held now ≡ Refuses n (AtByte byte kind)
   mixing_refused_too n byte kind e =
       let inputs = inputs_under held c.legs in
-      let table : Conf → Option Table = λ d. plain (setup d) d.tick d.turns (leg_chunks d (input_at inputs)) in
+      let table : Conference → Option Table = λ d. plain (setup d) d.tick d.turns (leg_chunks d (input_at inputs)) in
       ap (mixes now) (same_inputs held c.legs now.legs same)
       ∙ (ap (λ limit. unless_one_broken limit 1 inputs (makes now (table now))) limits
       ∙ refused_too (input_limit c) 1 inputs (makes c (table c)) (makes now (table now)) n byte kind (makes_no_byte c (table c) n byte kind) e)
@@ -132,21 +132,21 @@ first_too Told held olds news same before after mix.NoMemory first = first
 
 -- ---- the whole
 -- the conference as its inputs tell, whatever is told of them
-told_of : (WorldTells : Type 0) (held : Contents) (c : Conf) → IsToldOf WorldTells held c (named c (inputs_under held c.legs))
+told_of : (WorldTells : Type 0) (held : Contents) (c : Conference) → IsToldOf WorldTells held c (named c (inputs_under held c.legs))
 told_of WorldTells held c = record { says = says_of c (inputs_under held c.legs); is = refl; named = λ told. refl }
 
-same_limit : (c now : Conf) → length now.legs ≡ length c.legs → input_limit now ≡ input_limit c
+same_limit : (c now : Conference) → length now.legs ≡ length c.legs → input_limit now ≡ input_limit c
 same_limit c now many = ap (λ n. if nat_lt PLACES n then MOST_INPUT_OF_MANY else usual_limit) many
 
-pub unheard : (WorldTells OutTells : Type 0) (old new : Outside) (file octets : List ℕ) (c : Conf) (fault : MixFault) → (WorldTells → old.contents file ≡ Some octets) → conf Files octets ≡ Ok c
+pub unheard : (WorldTells OutTells : Type 0) (old new : Outside) (file octets : List ℕ) (c : Conference) (fault : MixFault) → (WorldTells → old.contents file ≡ Some octets) → conference_from Files octets ≡ Ok c
     → fault ≢ TooLong → Stops WorldTells (CallFailed old new) (ObjectFailed old new) old.contents c fault → NoneFailed WorldTells c.legs old.objects new.objects (Err fault)
     → IsFirst WorldTells old.contents c.legs old.calls new.calls fault → Unchanged WorldTells OutTells old new
-    → Ends (Attend (record { conf = file })) WorldTells OutTells old new (ending_name file c.legs (Err (fault_of_mixing c.turns fault))) (Err (fault_of_mixing c.turns fault))
+    → Ends (Attend (record { conference = file })) WorldTells OutTells old new (ending_name file c.legs (Err (fault_of_mixing c.turns fault))) (Err (fault_of_mixing c.turns fault))
 unheard WorldTells OutTells old new file octets c fault there_is read in_time stops none first u =
     let now = named c (inputs_under old.contents c.legs) in
     let is = told_of WorldTells old.contents c in
     let same = same_files_of WorldTells old.contents c now is in
-    subst (λ name. Ends (Attend (record { conf = file })) WorldTells OutTells old new name (Err (fault_of_mixing c.turns fault))) (same_told file c.legs now.legs same c.turns fault)
-    (stopped_mixing WorldTells OutTells old new file (Attend (record { conf = file })) now fault (attend_comes WorldTells old.contents file octets c now there_is read is)
+    subst (λ name. Ends (Attend (record { conference = file })) WorldTells OutTells old new name (Err (fault_of_mixing c.turns fault))) (same_told file c.legs now.legs same c.turns fault)
+    (stopped_mixing WorldTells OutTells old new file (Attend (record { conference = file })) now fault (attend_comes WorldTells old.contents file octets c now there_is read is)
     (stops_too old.contents c now same (same_limit c now (same_many c.legs now.legs same)) WorldTells (CallFailed old new) (ObjectFailed old new) fault in_time stops)
     (none_failed_too WorldTells c.legs now.legs same old.objects new.objects fault none) (first_too WorldTells old.contents c.legs now.legs same old.calls new.calls fault first) u)

@@ -2,7 +2,7 @@
 use Rattle.std.proofs.Common.{◌≡◌, ℕ, zero, suc, ◌+◌, ◌<◌, ◌≤◌, Option, Some, None, List, [], ◌∷◌, arith}
 use Rattle.wire_spec.specs.Dump.{dump}
 use Rattle.wire_spec.specs.Dump as dumps
-use Rattle.file_spec.specs.Conf.{Conf}
+use Rattle.file_spec.specs.Conference.{Conference}
 use Rattle.mixer_spec.specs.Table.{Table}
 use Rattle.command_spec.specs.declared.faults.Refusal.TheVariants.{AtByte, AtFrame, AtLine, AtTrunk, AfterTurns}
 use Rattle.command_spec.specs.Work.{Contents, Steps, Refuses}
@@ -50,6 +50,6 @@ none_broken held m limit n (o ∷ os) steps (suc k) w tail =
     go None e more = fewer (k + suc n) (suc k + n) (outcome_from m held (unless_one_broken limit (suc n) os steps)) (omega arith) more
     go (Some fault) e more = absurd (cc e)
 
-pub none_makes : (held : Contents) (m : ℕ) (c : Conf) (table : Option Table) (j : ℕ) → NoneBefore j (outcome_from m held (makes c table))
+pub none_makes : (held : Contents) (m : ℕ) (c : Conference) (table : Option Table) (j : ℕ) → NoneBefore j (outcome_from m held (makes c table))
 none_makes held m c None j = tt
 none_makes held m c (Some table) j = tt

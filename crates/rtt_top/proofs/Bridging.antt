@@ -4,8 +4,8 @@ use Rattle.std.specs.Prelude.{◌⊎◌, IfErr, OnOk, OnErr, if◌then◌else◌
 use Rattle.std.specs.Result.{is_err}
 use Rattle.rtpdump_io.specs.declared.items.DumpFault.{DumpFault}
 use Rattle.rtpdump_io.specs.Reading.{is_of_source}
-use Rattle.file_spec.specs.declared.conf_lines.LegLine.{LegLine}
-use Rattle.file_spec.specs.Conf.{Conf}
+use Rattle.file_spec.specs.declared.conference_lines.LegLine.{LegLine}
+use Rattle.file_spec.specs.Conference.{Conference}
 use Rattle.mixer_spec.specs.Setups.{leg_at}
 use Rattle.command_spec.specs.declared.faults.Refusal.TheVariants.{AtByte, AfterTurns}
 use Rattle.command_spec.specs.declared.faults.Fault.{Fault}
@@ -19,9 +19,9 @@ use Rattle.command_spec.specs.Inputs.{LieBelow, AllLie, inputs_under}
 use Rattle.command_spec.specs.Mixing.{counted}
 use Rattle.command_spec.proofs.Reached.{counted_makes}
 use Rattle.command_spec.specs.Messages.{Ending}
-use Rattle.bridge_run.specs.declared.mixed.MixFault.{MixFault}
-use Rattle.bridge_run.specs.declared.mixed.MixFault.TheVariants.{Open, Dump, TooLong}
-use Rattle.bridge_run.specs.declared.mixed.MixFault.TheVariants as mix
+use Rattle.bridge_run.specs.declared.results.MixFault.{MixFault}
+use Rattle.bridge_run.specs.declared.results.MixFault.TheVariants.{Open, Dump, TooLong}
+use Rattle.bridge_run.specs.declared.results.MixFault.TheVariants as mix
 use Rattle.bridge_run.specs.Mixes.{IsBroken, outputs_of, steps_of}
 use Rattle.bridge_run.specs.Mixes as bridge
 use Rattle.rtt_top.specs.Conferences.{ComesToMixing, MakesOutputs, NamesOutputs, ending_name, fault_of_mixing, input_name, input_of, output_of}
@@ -54,14 +54,14 @@ from_leg : (k j : ℕ) (b : Bool) → cond b k (k + 1) ≤ j → k + 1 ≤ suc j
 from_leg k j true le = omega arith
 from_leg k j false le = omega arith
 
-none_failed : (WorldTells : Type 0) (old new : Outside) (command : Command) (c : Conf) (k : ℕ) (fault : DumpFault) → ComesToMixing WorldTells old.contents command c → WorldTells
+none_failed : (WorldTells : Type 0) (old new : Outside) (command : Command) (c : Conference) (k : ℕ) (fault : DumpFault) → ComesToMixing WorldTells old.contents command c → WorldTells
     → AllLie old.contents c.legs → bridge.NoneFailed WorldTells c.legs old.objects new.objects (Err (Dump k fault)) → NoneFailedBefore (k + 1) command WorldTells old new
 none_failed WorldTells old new command c k fault m told there none n name less i later = none told name (λ j leg le at is.
     later (suc j) (from_leg k j (is_of_source fault.kind) le) (subst (λ f. IsInput WorldTells old.contents (work command).steps (suc j) f) is
     (m.input j leg at (λ t. lie_below old.contents c.legs j there))))
 
 -- ---- nothing is made
-broken : (WorldTells OutTells : Type 0) (old new : Outside) (file : List ℕ) (command : Command) (c : Conf) (k : ℕ) (leg : LegLine) (fault : DumpFault) (b : Bool)
+broken : (WorldTells OutTells : Type 0) (old new : Outside) (file : List ℕ) (command : Command) (c : Conference) (k : ℕ) (leg : LegLine) (fault : DumpFault) (b : Bool)
     → ComesToMixing WorldTells old.contents command c → is_of_source fault.kind ≡ b → leg_at c.legs k ≡ Some leg
     → IsBroken WorldTells (ObjectFailed old new) old.contents c k leg fault
     → bridge.NoneFailed WorldTells c.legs old.objects new.objects (Err (Dump k fault)) → Unchanged WorldTells OutTells old new
@@ -82,7 +82,7 @@ broken WorldTells OutTells old new file command c k leg fault false m is at s no
           ∙ ap (λ n. outcomes.Refused n (AtByte fault.offset fault.kind)) one),
     ) in (r.0, r.1, (λ told. (r.2 told, none_failed WorldTells old new command c k fault m told (s.lie told) none)), u)
 
-pub stopped_mixing : (WorldTells OutTells : Type 0) (old new : Outside) (file : List ℕ) (command : Command) (c : Conf) (fault : MixFault) → ComesToMixing WorldTells old.contents command c
+pub stopped_mixing : (WorldTells OutTells : Type 0) (old new : Outside) (file : List ℕ) (command : Command) (c : Conference) (fault : MixFault) → ComesToMixing WorldTells old.contents command c
     → bridge.Stops WorldTells (CallFailed old new) (ObjectFailed old new) old.contents c fault
     → bridge.NoneFailed WorldTells c.legs old.objects new.objects (Err fault) → bridge.IsFirst WorldTells old.contents c.legs old.calls new.calls fault → Unchanged WorldTells OutTells old new
     → Ends command WorldTells OutTells old new (ending_name file c.legs (Err (fault_of_mixing c.turns fault))) (Err (fault_of_mixing c.turns fault))
@@ -129,13 +129,13 @@ pub record IsBetween (WorldTells : Type 0) (old new : Outside) (contents : Conte
   pub calls_rise : (name : List ℕ) → old.calls name ≤ calls name
   pub objects_rise : (name : List ℕ) → old.objects name ≤ objects name
 
-output_is : (WorldTells : Type 0) (held : Contents) (command : Command) (c : Conf) (printed : List ℕ) (outs : List (List ℕ)) → ComesToMixing WorldTells held command c
+output_is : (WorldTells : Type 0) (held : Contents) (command : Command) (c : Conference) (printed : List ℕ) (outs : List (List ℕ)) → ComesToMixing WorldTells held command c
     → (WorldTells → AllLie held c.legs × (steps_of held c ≡ Makes printed (outputs_of c.legs outs)))
     → (n : ℕ) (leg : LegLine) → leg_at c.legs n ≡ Some leg → IsOutput WorldTells held (work command).steps n leg.output
 output_is WorldTells held command c printed outs m made n leg at =
     m.output (λ told. (made told).0) (λ told. (printed, outputs_of c.legs outs, (made told).1)) n leg at
 
-pub mixing_makes : (WorldTells : Type 0) (held : Contents) (command : Command) (c : Conf) (printed lines : List ℕ) (outs : List (List ℕ)) → ComesToMixing WorldTells held command c
+pub mixing_makes : (WorldTells : Type 0) (held : Contents) (command : Command) (c : Conference) (printed lines : List ℕ) (outs : List (List ℕ)) → ComesToMixing WorldTells held command c
     → (WorldTells → AllLie held c.legs × (steps_of held c ≡ Makes printed (outputs_of c.legs outs))) → (WorldTells → lines ≡ counted c (inputs_under held c.legs))
     → MakesOutputs WorldTells held command c.legs (printed ++ lines) (outputs_of c.legs outs)
 mixing_makes WorldTells held command c printed lines outs m made count = record {

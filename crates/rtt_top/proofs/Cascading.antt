@@ -3,9 +3,9 @@ use Rattle.std.proofs.Common.{◌≡◌, ℕ, zero, suc, Bool, true, false, Opti
 use Rattle.std.specs.Prelude.{if◌then◌else◌}
 use Rattle.rtpdump_io.specs.declared.items.DumpFault.{DumpFault}
 use Rattle.rtpdump_io.specs.Reading.{is_of_source}
-use Rattle.file_spec.specs.declared.conf_lines.Form.TheVariants.{Files}
-use Rattle.file_spec.specs.declared.conf_lines.LegLine.{LegLine}
-use Rattle.file_spec.specs.Conf.{Conf, conf}
+use Rattle.file_spec.specs.declared.conference_lines.Form.TheVariants.{Files}
+use Rattle.file_spec.specs.declared.conference_lines.LegLine.{LegLine}
+use Rattle.file_spec.specs.Conference.{Conference, conference_from}
 use Rattle.command_spec.specs.declared.faults.Refusal.TheVariants.{AtByte, AtFrame, AtLine, AtTrunk, AfterTurns}
 use Rattle.command_spec.specs.declared.faults.Fault.TheVariants.{CannotRead, Refused}
 use Rattle.rtt_words.specs.Words.{Cascade, Command}
@@ -20,7 +20,7 @@ use Rattle.rtt_cascade.specs.declared.faults.CascadeFault.TheVariants as behind
 use Rattle.rtt_cascade.specs.Cascades.{IsBroken, IsFirst, NoneFailed, Stops, outcome_behind}
 use Rattle.rtt_cascade.specs.Inputs.{IsInputBehind, NoneHasName, RefusesNoneBefore, input_name}
 use Rattle.rtt_cascade.proofs.WholeSplits.{splits_whole}
-use Rattle.rtt_top.specs.Conferences.{MakesOutputs, NamesOutputs, ReadsConf, ending_behind, fault_of_cascade, input_behind, output_of}
+use Rattle.rtt_top.specs.Conferences.{MakesOutputs, NamesOutputs, AsksConference, ending_behind, fault_of_cascade, input_behind, output_of}
 use Rattle.rtt_top.specs.Faults.{NoneBefore, RefusesSo, is_recording}
 use Rattle.rtt_top.specs.Outside.{Outside, CallFailed, ObjectFailed, OpenFailed}
 use Rattle.rtt_top.specs.Runs.{Ends, NoneFailedBefore, Unchanged}
@@ -28,11 +28,11 @@ use Rattle.rtt_top.proofs.Working.{lies}
 
 -- the command
 abbrev pub command_of : List ℕ → List ℕ → ℕ → Command
-command_of conference file ssrc = Cascade (record { file = file; ssrc = ssrc; conf = conference })
+command_of conference file ssrc = Cascade (record { file = file; ssrc = ssrc; conference = conference })
 
-pub cascade_reads : (conference file : List ℕ) (ssrc : ℕ) → ReadsConf Files conference (command_of conference file ssrc)
+pub cascade_reads : (conference file : List ℕ) (ssrc : ℕ) → AsksConference Files conference (command_of conference file ssrc)
 cascade_reads conference file ssrc =
-    record { next = λ octets. cascades_read file ssrc (conf Files octets); steps = refl; refuses = λ octets refusal e. ap (cascades_read file ssrc) e }
+    record { next = λ octets. cascades_read file ssrc (conference_from Files octets); steps = refl; refuses = λ octets refusal e. ap (cascades_read file ssrc) e }
 
 -- no input before this number is refused
 none_of : (n : ℕ) (o : Outcome) → RefusesNoneBefore n o → NoneBefore n o
@@ -46,7 +46,7 @@ none_of n (Done printed files) r = tt
 none_of n (Served c) r = tt
 
 -- A conference that was read, in which no leg behind the other mixer has other payload types.
-module _ (WorldTells : Type 0) (held : Contents) (conference octets file : List ℕ) (ssrc : ℕ) (c : Conf) (there : WorldTells → held conference ≡ Some octets) (read : conf Files octets ≡ Ok c)
+module _ (WorldTells : Type 0) (held : Contents) (conference octets file : List ℕ) (ssrc : ℕ) (c : Conference) (there : WorldTells → held conference ≡ Some octets) (read : conference_from Files octets ≡ Ok c)
     (even : odd_line c.legs ≡ None) where
   -- its inputs are those of the command
   input_is : (n : ℕ) (name : List ℕ) → IsInputBehind WorldTells held (cascades file ssrc c) n name → IsInput WorldTells held (cascading conference file ssrc) n name
@@ -71,7 +71,7 @@ module _ (WorldTells : Type 0) (held : Contents) (conference octets file : List 
   -- and its outcome is
   outcome_is : WorldTells → outcome held (cascading conference file ssrc) ≡ outcome_behind held file ssrc c
   outcome_is told =
-      lies held conference (λ o. cascades_read file ssrc (conf Files o)) octets (there told)
+      lies held conference (λ o. cascades_read file ssrc (conference_from Files o)) octets (there told)
       ∙ (ap (λ r. outcome_from 1 held (cascades_read file ssrc r)) read ∙ ap (λ o. outcome_from 1 held (unless_odd o (cascades file ssrc c))) even)
 
   pub cascade_makes : (printed : List ℕ) (files : List Made) → (WorldTells → outcome_behind held file ssrc c ≡ Done printed files)
@@ -84,12 +84,12 @@ module _ (WorldTells : Type 0) (held : Contents) (conference octets file : List 
   }
 
 -- an input behind the conference is a recording
-recorded : (WorldTells : Type 0) (held : Contents) (conference file : List ℕ) (ssrc : ℕ) (c : Conf) (n : ℕ) (name : List ℕ) → IsInputBehind WorldTells held (cascades file ssrc c) n name
+recorded : (WorldTells : Type 0) (held : Contents) (conference file : List ℕ) (ssrc : ℕ) (c : Conference) (n : ℕ) (name : List ℕ) → IsInputBehind WorldTells held (cascades file ssrc c) n name
     → is_recording (command_of conference file ssrc) n ≡ true
 recorded WorldTells held conference file ssrc c zero name i = absurd i
 recorded WorldTells held conference file ssrc c (suc n) name i = refl
 
-module _ (WorldTells OutTells : Type 0) (old new : Outside) (conference octets file : List ℕ) (ssrc : ℕ) (c : Conf) (there : WorldTells → old.contents conference ≡ Some octets) (read : conf Files octets ≡ Ok c)
+module _ (WorldTells OutTells : Type 0) (old new : Outside) (conference octets file : List ℕ) (ssrc : ℕ) (c : Conference) (there : WorldTells → old.contents conference ≡ Some octets) (read : conference_from Files octets ≡ Ok c)
     (even : odd_line c.legs ≡ None) (unchanged : Unchanged WorldTells OutTells old new) where
   none_failed : (input : ℕ) → WorldTells → ((name : List ℕ) → NoneHasName WorldTells old.contents (cascades file ssrc c) input name → new.objects name ≡ old.objects name)
       → NoneFailedBefore input (command_of conference file ssrc) WorldTells old new
@@ -130,7 +130,7 @@ module _ (WorldTells OutTells : Type 0) (old new : Outside) (conference octets f
   stopped_cascade behind.NoMemory s none first = unchanged
 
 -- ---- a leg behind the other mixer has other payload types
-pub odd_ends : (WorldTells OutTells : Type 0) (outside : Outside) (conference octets file : List ℕ) (ssrc : ℕ) (c : Conf) (line : ℕ) → (WorldTells → outside.contents conference ≡ Some octets) → conf Files octets ≡ Ok c
+pub odd_ends : (WorldTells OutTells : Type 0) (outside : Outside) (conference octets file : List ℕ) (ssrc : ℕ) (c : Conference) (line : ℕ) → (WorldTells → outside.contents conference ≡ Some octets) → conference_from Files octets ≡ Ok c
     → odd_line c.legs ≡ Some line → let ended : Ending = Err (Refused 0 (AtTrunk line)) in
     Ends (command_of conference file ssrc) WorldTells OutTells outside outside (ending_behind conference file c.legs ended) ended
 odd_ends WorldTells OutTells outside conference octets file ssrc c line there read odd = (

@@ -1,8 +1,8 @@
 -- A conference whose inputs are read one after another.
 use Rattle.std.proofs.Common.{◌≡◌, ℕ, zero, suc, ◌+◌, ◌-◌, ◌<◌, ◌≤◌, Bool, true, false, Option, Some, None, List, [], ◌∷◌, length, get_or, refl, ap, sym, subst, ◌∙◌, arith}
 use Rattle.std.specs.Prelude.{IsSome, if◌then◌else◌, unwrap_or}
-use Rattle.file_spec.specs.declared.conf_lines.LegLine.{LegLine}
-use Rattle.file_spec.specs.Conf.{Conf}
+use Rattle.file_spec.specs.declared.conference_lines.LegLine.{LegLine}
+use Rattle.file_spec.specs.Conference.{Conference}
 use Rattle.mixer_spec.specs.Setups.{leg_at, setup}
 use Rattle.mixer_spec.specs.Plain.{plain}
 use Rattle.mixer_spec.specs.Bridged.{input_limit, leg_chunks}
@@ -47,12 +47,12 @@ chain held n (l ∷ legs) next lie =
     ∙ (chain held (n + 1) legs (λ more. next (octets_under held l.input ∷ more)) rest
     ∙ ap (λ k. outcome_from k held (next (inputs_under held (l ∷ legs)))) count)
 
-pub outcome_done : (WorldTells : Type 0) (held : Contents) (command : Command) (c : Conf) (printed : List ℕ) (files : List Made) → ComesToMixing WorldTells held command c → WorldTells
+pub outcome_done : (WorldTells : Type 0) (held : Contents) (command : Command) (c : Conference) (printed : List ℕ) (files : List Made) → ComesToMixing WorldTells held command c → WorldTells
     → AllLie held c.legs → steps_counted held c ≡ Makes printed files → outcome held (work command).steps ≡ Done printed files
 outcome_done WorldTells held command c printed files m told lie is = m.comes told lie ∙ ap (outcome_from (length c.legs + 1) held) is
 
 -- what is refused, whatever is counted
-counted_refuses : (c : Conf) (inputs : List (List ℕ)) (input : ℕ) (refusal : Refusal) → mixed.mixes c inputs ≡ Refuses input refusal → mixed.mixes_counted c inputs ≡ Refuses input refusal
+counted_refuses : (c : Conference) (inputs : List (List ℕ)) (input : ℕ) (refusal : Refusal) → mixed.mixes c inputs ≡ Refuses input refusal → mixed.mixes_counted c inputs ≡ Refuses input refusal
 counted_refuses c inputs input refusal e = go c.service.counts
   where
     go : (b : Bool) → (if b then and_prints (mixed.counts_lines c inputs) (mixed.mixes c inputs) else mixed.mixes c inputs) ≡ Refuses input refusal
@@ -71,20 +71,20 @@ none_printed j more held m (Refuses input refusal) none = none
 none_printed j more held m (Makes printed files) none = none
 none_printed j more held m (Serves c) none = none
 
-none_counted : (j : ℕ) (held : Contents) (m : ℕ) (c : Conf) (inputs : List (List ℕ)) → NoneBefore j (outcome_from m held (mixed.mixes c inputs)) → NoneBefore j (outcome_from m held (mixed.mixes_counted c inputs))
+none_counted : (j : ℕ) (held : Contents) (m : ℕ) (c : Conference) (inputs : List (List ℕ)) → NoneBefore j (outcome_from m held (mixed.mixes c inputs)) → NoneBefore j (outcome_from m held (mixed.mixes_counted c inputs))
 none_counted j held m c inputs none = go c.service.counts
   where
     go : (b : Bool) → NoneBefore j (outcome_from m held (if b then and_prints (mixed.counts_lines c inputs) (mixed.mixes c inputs) else mixed.mixes c inputs))
     go true = none_printed j (mixed.counts_lines c inputs) held m (mixed.mixes c inputs) none
     go false = none
 
-pub outcome_refused : (WorldTells : Type 0) (held : Contents) (command : Command) (c : Conf) (input : ℕ) (refusal : Refusal) → ComesToMixing WorldTells held command c → WorldTells
+pub outcome_refused : (WorldTells : Type 0) (held : Contents) (command : Command) (c : Conference) (input : ℕ) (refusal : Refusal) → ComesToMixing WorldTells held command c → WorldTells
     → AllLie held c.legs → steps_of held c ≡ Refuses input refusal → outcome held (work command).steps ≡ outcomes.Refused input refusal
 outcome_refused WorldTells held command c input refusal m told lie is =
     m.comes told lie ∙ ap (outcome_from (length c.legs + 1) held) (counted_refuses c (inputs_under held c.legs) input refusal is)
 
 -- where the inputs of the first k legs have no fault, none of these is refused
-pub none_before : (WorldTells : Type 0) (held : Contents) (command : Command) (c : Conf) (k : ℕ) → ComesToMixing WorldTells held command c → WorldTells
+pub none_before : (WorldTells : Type 0) (held : Contents) (command : Command) (c : Conference) (k : ℕ) → ComesToMixing WorldTells held command c → WorldTells
     → AllLie held c.legs → WholeBelow k c (inputs_under held c.legs) → NoneBefore (suc k) (outcome held (work command).steps)
 none_before WorldTells held command c k m told lie whole =
     let inputs = inputs_under held c.legs in

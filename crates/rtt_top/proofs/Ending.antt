@@ -4,7 +4,7 @@ use Rattle.wire_spec.specs.Dump.{dump, usual_limit}
 use Rattle.wire_spec.specs.Dump as dumps
 use Rattle.stream_spec.specs.History.{History, Lawful, Come}
 use Rattle.rtt_io.specs.Fronts.{TakesFront}
-use Rattle.file_spec.specs.Conf.{Conf}
+use Rattle.file_spec.specs.Conference.{Conference}
 use Rattle.command_spec.specs.declared.faults.Refusal.{Refusal}
 use Rattle.command_spec.specs.declared.faults.Refusal.TheVariants.{AtByte, AtFrame, AtLine, AtTrunk, AfterTurns}
 use Rattle.rtt_words.specs.Words.{ReadWords, Command, Read, Mix, Attend, Cascade}
@@ -85,7 +85,7 @@ viewed WorldTells OutTells old new name h law told shown r octets view held come
     p.1 shown ∙ ap (λ (v : List ℕ). old.out.octets ++ v) (same_view h law (request_of r) octets come ∙ sym is)
 
 -- ---- a conference
-is_done : (o : Outcome) (P : List ℕ → List Made → Type 0) → ((c : Conf) → o ≡ Served c → ⊥) → IsDone o P → (printed : List ℕ) × (files : List Made) × (o ≡ Done printed files) × P printed files
+is_done : (o : Outcome) (P : List ℕ → List Made → Type 0) → ((c : Conference) → o ≡ Served c → ⊥) → IsDone o P → (printed : List ℕ) × (files : List Made) × (o ≡ Done printed files) × P printed files
 is_done (Missing n) P none d = absurd d
 is_done (outcomes.Refused n refusal) P none d = absurd d
 is_done (Done printed files) P none d = (printed, files, refl, d)
@@ -94,14 +94,14 @@ is_done (Served c) P none d = absurd (none c refl)
 -- what a command makes of a conference
 made : (c : Command) (WorldTells OutTells : Type 0) (old new : Outside) (name : List ℕ) → WorldTells → Ends c WorldTells OutTells old new name (Ok tt) → IsMadeBy c OutTells old new
 made (Mix m) WorldTells OutTells old new name told e =
-    let d = is_done (outcome old.contents (mixing m.conf)) (λ printed files. (WorldTells → AllStored files old.contents new.contents) × (OutTells → Prints printed old new)) (mixing_serves_none old.contents m.conf) (e told) in
-    record { printed = d.0; prints = d.3.1; made = bridged old.contents new.contents m.conf d.0 d.1 d.2 (d.3.0 told) }
+    let d = is_done (outcome old.contents (mixing m.conference)) (λ printed files. (WorldTells → AllStored files old.contents new.contents) × (OutTells → Prints printed old new)) (mixing_serves_none old.contents m.conference) (e told) in
+    record { printed = d.0; prints = d.3.1; made = bridged old.contents new.contents m.conference d.0 d.1 d.2 (d.3.0 told) }
 made (Attend m) WorldTells OutTells old new name told e =
-    let d = is_done (outcome old.contents (attending m.conf)) (λ printed files. (WorldTells → AllStored files old.contents new.contents) × (OutTells → Prints printed old new)) (attending_serves_none old.contents m.conf) (e told) in
-    record { printed = d.0; prints = d.3.1; made = attended old.contents new.contents m.conf d.0 d.1 d.2 (d.3.0 told) }
+    let d = is_done (outcome old.contents (attending m.conference)) (λ printed files. (WorldTells → AllStored files old.contents new.contents) × (OutTells → Prints printed old new)) (attending_serves_none old.contents m.conference) (e told) in
+    record { printed = d.0; prints = d.3.1; made = attended old.contents new.contents m.conference d.0 d.1 d.2 (d.3.0 told) }
 made (Cascade w) WorldTells OutTells old new name told e =
-    let d = is_done (outcome old.contents (cascading w.conf w.file w.ssrc)) (λ printed files. (WorldTells → AllStored files old.contents new.contents) × (OutTells → Prints printed old new)) (cascading_serves_none old.contents w.conf w.file w.ssrc) (e told) in
-    record { printed = d.0; prints = d.3.1; made = cascaded old.contents new.contents w.conf w.file w.ssrc d.0 d.1 d.2 (d.3.0 told) }
+    let d = is_done (outcome old.contents (cascading w.conference w.file w.ssrc)) (λ printed files. (WorldTells → AllStored files old.contents new.contents) × (OutTells → Prints printed old new)) (cascading_serves_none old.contents w.conference w.file w.ssrc) (e told) in
+    record { printed = d.0; prints = d.3.1; made = cascaded old.contents new.contents w.conference w.file w.ssrc d.0 d.1 d.2 (d.3.0 told) }
 made _ WorldTells OutTells old new name told e = tt
 
 the_same : (c : Command) (r : ReadWords) → Some c ≡ Some (Read r) → c ≡ Read r

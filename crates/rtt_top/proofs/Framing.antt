@@ -5,7 +5,7 @@ use Rattle.std.proofs.lemmas.Bool.{false≢true}
 use Rattle.wire_spec.specs.Dump.{dump, dump_opening, usual_limit, opening, dump_step, records_within, records, arrivals}
 use Rattle.wire_spec.specs.Dump as dumps
 use Rattle.frame_spec.specs.declared.frames.Frame.{Frame}
-use Rattle.frame_spec.specs.declared.frames.FrameFault.{FrameFault}
+use Rattle.frame_spec.specs.declared.frames.FrameRefusal.{FrameRefusal}
 use Rattle.frame_spec.specs.Frames.{read_frames}
 use Rattle.command_spec.specs.declared.faults.Refusal.TheVariants.{AtByte}
 use Rattle.command_spec.specs.declared.faults.Fault.TheVariants.{CannotRead, Refused}
@@ -39,7 +39,7 @@ relay_front s octets whole (inl e) = ap (relay s) e
 relay_front s octets whole (inr f) = ap (relay s) f.2 ∙ ap (λ r. relay_read s r.frames r.fault) (front_read octets f.1 (omega (arith, f.0)))
 
 -- frames that are read no further are not sent
-not_sent : (s : Sending) (fs : List Frame) (found : Option FrameFault) (file : List ℕ) → is_some found ≡ true → relay_read s fs found ≡ Ok file → ⊥
+not_sent : (s : Sending) (fs : List Frame) (found : Option FrameRefusal) (file : List ℕ) → is_some found ≡ true → relay_read s fs found ≡ Ok file → ⊥
 not_sent s fs None file e r = false≢true e
 not_sent s fs (Some fault) file e r = cc r
 
@@ -90,7 +90,7 @@ broken_outcome held c octets fault lie e =
     lies held c.file (channel_next c) octets lie
     ∙ ap (λ found. outcome_from 1 held (unless_broken found (saves_frames c.out (channel c.ssrc octets)))) e
 
-read_outcome : (held : Contents) (c : ChannelWords) (octets : List ℕ) (written : Result (List ℕ) FrameFault) → held c.file ≡ Some octets → recording_fault octets ≡ None → channel c.ssrc octets ≡ written
+read_outcome : (held : Contents) (c : ChannelWords) (octets : List ℕ) (written : Result (List ℕ) FrameRefusal) → held c.file ≡ Some octets → recording_fault octets ≡ None → channel c.ssrc octets ≡ written
     → outcome held (work (Channel c)).steps ≡ outcome_from 1 held (saves_frames c.out written)
 unfolding channel_next
 read_outcome held c octets written lie none e =
@@ -137,7 +137,7 @@ channel_path WorldTells held c file given = go (held c.file) refl
     same : (o : List ℕ) → held c.file ≡ Some o → (w : AreWritten held c file) → w.octets ≡ o
     same o e w = let lie = w.lie in cc (e, lie)
 
-    look : (o : List ℕ) → held c.file ≡ Some o → (found : Option dumps.Fault) → recording_fault o ≡ found → (written : Result (List ℕ) FrameFault) → channel c.ssrc o ≡ written
+    look : (o : List ℕ) → held c.file ≡ Some o → (found : Option dumps.Fault) → recording_fault o ≡ found → (written : Result (List ℕ) FrameRefusal) → channel c.ssrc o ≡ written
         → (octets : List ℕ) × (WorldTells → held c.file ≡ Some octets) × IsOutput WorldTells held (channel_next c octets) 0 c.out
     look o lie (Some fault) e written r =
         silent (λ told. let w = given told in false≢true (ap (λ (f : Option dumps.Fault). is_some f) (sym w.whole ∙ ap recording_fault (same o lie w) ∙ e)))

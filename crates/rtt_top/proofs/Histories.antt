@@ -3,10 +3,10 @@ use Rattle.std.proofs.Common.{◌≡◌, ℕ, ◌<◌, Option, Some, None, List,
 use Rattle.file_spec.specs.Script.{ScriptLine}
 use Rattle.file_spec.specs.Lines as lines
 use Rattle.file_spec.specs.Script.{script}
-use Rattle.command_spec.specs.Usual.{usual_pts}
+use Rattle.command_spec.specs.Usual.{usual_payload_types}
 use Rattle.rtt_words.specs.Words.{SendWords}
-use Rattle.text_sender.specs.declared.senders.SendConf.{SendConf}
-use Rattle.text_sender.specs.Confs.{IsConf}
+use Rattle.text_sender.specs.declared.senders.SenderSettings.{SenderSettings}
+use Rattle.text_sender.specs.Settings.{AreSettings}
 use Rattle.text_sender.proofs.Scripts.{own}
 use Rattle.command_spec.specs.Scripts as scripts
 use Rattle.command_spec.specs.Scripts.{AreLines, events_through}
@@ -20,8 +20,8 @@ use Rattle.rtt_send.proofs.Firsts.{scripts_end, ends_early}
 use Rattle.rtt_send.proofs.ReadBack.{packets_back}
 use Rattle.command_spec.specs.declared.limits.TheConstants.{USUAL_INTERVAL}
 
-usual_conf : (s : SendWords) → IsConf (record { ssrc = s.ssrc; seq = s.seq; stamp = s.stamp; pts = usual_pts; interval = USUAL_INTERVAL; gens = 2 })
-usual_conf s = record { least = omega arith; most = omega arith; t140 = omega arith; red = omega arith; gens = omega arith; differ = λ e. omega arith }
+usual_settings : (s : SendWords) → AreSettings (record { ssrc = s.ssrc; seq = s.seq; timestamp = s.timestamp; payload_types = usual_payload_types; interval = USUAL_INTERVAL; generations = 2 })
+usual_settings s = record { least = omega arith; most = omega arith; t140 = omega arith; red = omega arith; generations = omega arith; differ = λ e. omega arith }
 
 -- the file of these steps
 file_in : Steps → List ℕ
@@ -41,18 +41,18 @@ sent s octets file e = go (script octets) refl e
     go : (r : Result (List ScriptLine) lines.Refusal) → script octets ≡ r → sends s r ≡ Makes [] (record { name = s.out; octets = file } ∷ []) → IsSent s octets file
     go (Err refusal) read m = cc m
     go (Ok ls) read m =
-        let conf : SendConf = record { ssrc = s.ssrc; seq = s.seq; stamp = s.stamp; pts = usual_pts; interval = USUAL_INTERVAL; gens = 2 } in
-        let made = made_full s ls (full_line conf ls) file m in
+        let settings : SenderSettings = record { ssrc = s.ssrc; seq = s.seq; timestamp = s.timestamp; payload_types = usual_payload_types; interval = USUAL_INTERVAL; generations = 2 } in
+        let made = made_full s ls (full_line settings ls) file m in
         let are = accepted_lines octets ls read in
-        let early : first_end conf ls < 80000000 = ends_early conf ls (usual_conf s) are made.0 in
-        let end : IsEnd conf ls (first_end conf ls) = scripts_end conf ls (usual_conf s) are made.0 in
+        let early : first_end settings ls < 80000000 = ends_early settings ls (usual_settings s) are made.0 in
+        let end : IsEnd settings ls (first_end settings ls) = scripts_end settings ls (usual_settings s) are made.0 in
         record {
           lines = ls;
           read = read;
           file_is = made.1;
-          lawful = lawful_sent conf ls (first_end conf ls) (usual_conf s) are (omega arith);
-          own = own conf (events_through ls (first_end conf ls));
-          closed = closed_sent conf ls (first_end conf ls) (usual_conf s) are (omega arith) end;
-          whole = texts_sent conf ls (first_end conf ls) are end;
-          packets = λ ssrc. packets_back conf ls (first_end conf ls) (usual_conf s) ssrc are (omega arith);
+          lawful = lawful_sent settings ls (first_end settings ls) (usual_settings s) are (omega arith);
+          own = own settings (events_through ls (first_end settings ls));
+          closed = closed_sent settings ls (first_end settings ls) (usual_settings s) are (omega arith) end;
+          whole = texts_sent settings ls (first_end settings ls) are end;
+          packets = λ ssrc. packets_back settings ls (first_end settings ls) (usual_settings s) ssrc are (omega arith);
         }

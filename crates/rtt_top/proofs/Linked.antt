@@ -2,7 +2,7 @@
 use Rattle.std.proofs.Common.{◌≡◌, ℕ, true, false, true≢false, inl, inr, Option, Some, None, List, Ok, Err, refl, sym, subst, ◌∙◌}
 use Rattle.command_spec.specs.declared.faults.Refusal.TheVariants.{AtByte, AtFrame, AtLine, AtTrunk, AfterTurns}
 use Rattle.command_spec.specs.declared.faults.Fault.TheVariants.{WrongWords, CannotOpen, CannotRead, Refused, CannotPrint, CannotWrite, LinkFailed, NoMemory}
-use Rattle.file_spec.specs.Conf.{Conf}
+use Rattle.file_spec.specs.Conference.{Conference}
 use Rattle.serve_spec.specs.Served.{End}
 use Rattle.rtt_words.specs.Words.{MixWords, Command, Read, ListRecords, Send, Mix, Attend, Cascade, Make, Live, Watch, Relay, Channel, Show, Times, Script, Check, Help, Version}
 use Rattle.command_spec.specs.Messages.{Ending}
@@ -119,7 +119,7 @@ no_share : (share : Share) → 70 ≡ status_at share → ⊥
 no_share Whole e = cc e
 no_share Front e = cc e
 
-none_of : (S : Conf → End → List ℕ → Type 0) (WorldTells OutTells LinksTell : Type 0) (m : MixWords) (old : Outside) (status : ℕ) → status ≡ 70 → IsCallOf S WorldTells OutTells LinksTell m old old status
+none_of : (S : Conference → End → List ℕ → Type 0) (WorldTells OutTells LinksTell : Type 0) (m : MixWords) (old : Outside) (status : ℕ) → status ≡ 70 → IsCallOf S WorldTells OutTells LinksTell m old old status
 none_of S WorldTells OutTells LinksTell m old status is = record {
   served = λ share at. absurd (no_share share (sym is ∙ at));
   given_up = record { failed = λ at. absurd (cc (is, at)); no_memory = λ at. inr refl };

@@ -1,8 +1,8 @@
 -- A live call: how it ends for the command.
 use Rattle.std.proofs.Common.{◌≡◌, ℕ, ◌++◌, true, false, true≢false, inl, inr, take, Option, Some, List, Result, Ok, Err, refl, ap, sym, subst, ◌∙◌}
 use Rattle.std.specs.Prelude.{◌==◌, ◌||◌, IfErr, IfOk, OnOk, OnErr}
-use Rattle.file_spec.specs.declared.conf_lines.Form.TheVariants.{Links}
-use Rattle.file_spec.specs.Conf.{Conf, conf}
+use Rattle.file_spec.specs.declared.conference_lines.Form.TheVariants.{Links}
+use Rattle.file_spec.specs.Conference.{Conference, conference_from}
 use Rattle.file_spec.specs.Lines as lines
 use Rattle.mixer_spec.specs.Setups.{leg_at}
 use Rattle.rtt_io.specs.declared.sinks.Sink as sinks
@@ -41,7 +41,7 @@ use Rattle.rtt_top.proofs.Statused.{other}
 use Rattle.rtt_top.proofs.Working.{lies}
 use Rattle.rtt_top.proofs.Ending.{runs}
 
-pub is_of_links : (octets : List ℕ) (c : Conf) → conf Links octets ≡ Ok c → IsOfLinks c
+pub is_of_links : (octets : List ℕ) (c : Conference) → conference_from Links octets ≡ Ok c → IsOfLinks c
 is_of_links octets c e =
     let ports = apart_law octets c e in
     record { ports = ports.each; apart = ports.differ; stay = stay_law octets c e }
@@ -55,7 +55,7 @@ is_closed : (end : LiveEnd) → end_of end ≡ served.Closed → end ≡ ends.Cl
 is_closed ends.Done e = absurd (cc e)
 is_closed ends.Closed e = refl
 
-pub was_served : (LinksTell : Type 0) (old new : LinksLeft) (octets : List ℕ) (c : Conf) (end : LiveEnd) (printed : List ℕ) → conf Links octets ≡ Ok c
+pub was_served : (LinksTell : Type 0) (old new : LinksLeft) (octets : List ℕ) (c : Conference) (end : LiveEnd) (printed : List ℕ) → conference_from Links octets ≡ Ok c
     → WasServed LinksTell (span_between old new) new.taken new.given c (end_of end) printed → (end ≡ ends.Done → IsPaused c.turns old.pauses new.pauses)
     → (LinksTell → end ≡ ends.Done → IsPaced c.turns c.tick old.moment new.moment) → (LinksTell → LeadsAll c old.leads new.leads) → ((port : ℕ) → new.calls port ≡ old.calls port) → (end ≡ ends.Closed → (port : ℕ) → new.ends port ≡ old.ends port)
     → IsServedTo c LinksTell old new (end_of end) printed
@@ -73,7 +73,7 @@ was_served LinksTell old new octets c end printed read w paused paced leads open
   calm = λ e. calm (is_closed end e);
 }
 
-pub was_watched : (LinksTell : Type 0) (old new : LinksLeft) (octets : List ℕ) (c : Conf) (end : LiveEnd) (printed : List ℕ) → conf Links octets ≡ Ok c
+pub was_watched : (LinksTell : Type 0) (old new : LinksLeft) (octets : List ℕ) (c : Conference) (end : LiveEnd) (printed : List ℕ) → conference_from Links octets ≡ Ok c
     → WasWatched LinksTell (span_between old new) new.taken new.given c (end_of end) printed → (end ≡ ends.Done → IsPaused c.turns old.pauses new.pauses)
     → (LinksTell → end ≡ ends.Done → IsPaced c.turns c.tick old.moment new.moment) → (LinksTell → LeadsAll c old.leads new.leads) → ((port : ℕ) → new.calls port ≡ old.calls port) → (end ≡ ends.Closed → (port : ℕ) → new.ends port ≡ old.ends port)
     → IsWatchedTo c LinksTell old new (end_of end) printed
@@ -88,10 +88,10 @@ was_watched LinksTell old new octets c end printed read w paused paced leads ope
 }
 
 -- all turns were made, where the answer says so
-abbrev pub IsPausedAtEnd : LinksLeft → LinksLeft → Conf → LiveReport → Type 0
+abbrev pub IsPausedAtEnd : LinksLeft → LinksLeft → Conference → LiveReport → Type 0
 IsPausedAtEnd old new c report = report.end ≡ ends.Done → IsPaused c.turns old.pauses new.pauses
 
-abbrev pub IsPacedAtEnd : LinksLeft → LinksLeft → Conf → LiveReport → Type 0
+abbrev pub IsPacedAtEnd : LinksLeft → LinksLeft → Conference → LiveReport → Type 0
 IsPacedAtEnd old new c report = report.end ≡ ends.Done → IsPaced c.turns c.tick old.moment new.moment
 
 -- no call that opens a link failed
@@ -102,23 +102,23 @@ AllOpened old new = (port : ℕ) → new.calls port ≡ old.calls port
 abbrev pub IsCalmAtEnd : LinksLeft → LinksLeft → LiveReport → Type 0
 IsCalmAtEnd old new report = report.end ≡ ends.Closed → (port : ℕ) → new.ends port ≡ old.ends port
 
-pub served_as : (LinksTell : Type 0) (old new : LinksLeft) (c : Conf) (answer : Result LiveReport LiveFault) → IfOk answer (λ r. WasServed LinksTell (span_between old new) new.taken new.given c (end_of r.end) r.views) → IfOk answer (IsPausedAtEnd old new c)
+pub served_as : (LinksTell : Type 0) (old new : LinksLeft) (c : Conference) (answer : Result LiveReport LiveFault) → IfOk answer (λ r. WasServed LinksTell (span_between old new) new.taken new.given c (end_of r.end) r.views) → IfOk answer (IsPausedAtEnd old new c)
     → (LinksTell → IfOk answer (IsPacedAtEnd old new c)) → (LinksTell → OnOk answer (LeadsAll c old.leads new.leads)) → OnOk answer (AllOpened old new) → IfOk answer (IsCalmAtEnd old new) → IfOk answer (λ r. ServedAs IsServedTo LinksTell old new c (end_of r.end) r.views)
 served_as LinksTell old new c (Ok r) w paused paced leads opened calm = λ octets read. was_served LinksTell old new octets c r.end r.views read w paused paced leads opened calm
 served_as LinksTell old new c (Err fault) w paused paced leads opened calm = w
 
-pub watched_as : (LinksTell : Type 0) (old new : LinksLeft) (c : Conf) (answer : Result LiveReport LiveFault) → IfOk answer (λ r. WasWatched LinksTell (span_between old new) new.taken new.given c (end_of r.end) r.views) → IfOk answer (IsPausedAtEnd old new c)
+pub watched_as : (LinksTell : Type 0) (old new : LinksLeft) (c : Conference) (answer : Result LiveReport LiveFault) → IfOk answer (λ r. WasWatched LinksTell (span_between old new) new.taken new.given c (end_of r.end) r.views) → IfOk answer (IsPausedAtEnd old new c)
     → (LinksTell → IfOk answer (IsPacedAtEnd old new c)) → (LinksTell → OnOk answer (LeadsAll c old.leads new.leads)) → OnOk answer (AllOpened old new) → IfOk answer (IsCalmAtEnd old new) → IfOk answer (λ r. ServedAs IsWatchedTo LinksTell old new c (end_of r.end) r.views)
 watched_as LinksTell old new c (Ok r) w paused paced leads opened calm = λ octets read. was_watched LinksTell old new octets c r.end r.views read w paused paced leads opened calm
 watched_as LinksTell old new c (Err fault) w paused paced leads opened calm = w
 
-pub given_up : (S : served.End → List ℕ → Type 0) (OutTells : Type 0) (old new : LinksLeft) (out : Output) (c : Conf) (fault : LiveFault)
+pub given_up : (S : served.End → List ℕ → Type 0) (OutTells : Type 0) (old new : LinksLeft) (out : Output) (c : Conference) (fault : LiveFault)
     → WasGivenUp old.calls new.calls old.ends new.ends c fault → LiveEnds S OutTells old new out out c (Err (fault_of_live fault))
 given_up S OutTells old new out c (live.Link leg) w =
     (refl, (w.line.name, record { line = w.line; at = w.at; named = refl; number = w.number; is = w.is; rose = w.rose }))
 given_up S OutTells old new out c live.NoMemory w = refl
 
-pub shown : (S : served.End → List ℕ → Type 0) (OutTells : Type 0) (old new : LinksLeft) (before after : Output) (c : Conf) (end : served.End) (printed : List ℕ) (result : Ending)
+pub shown : (S : served.End → List ℕ → Type 0) (OutTells : Type 0) (old new : LinksLeft) (before after : Output) (c : Conference) (end : served.End) (printed : List ℕ) (result : Ending)
     → S end printed → IfErr result (λ fault. fault ≡ CannotPrint) → OnErr result (Failed before after)
     → (OutTells → OnOk result (after.octets ≡ before.octets ++ printed)) → (OutTells → OnErr result ((n : ℕ) × (after.octets ≡ before.octets ++ take n printed)))
     → LiveEnds S OutTells old new before after c result
@@ -127,7 +127,7 @@ shown S OutTells old new before after c end printed (Err f) s fault cause whole 
     subst (λ g. LiveEnds S OutTells old new before after c (Err g)) (sym fault) (cause, (end, printed, s, partly))
 
 -- a call that is answered so, of which this is printed, ends so
-pub answered : {K : Type 0} (k : sinks.Ghosts K) (S : Conf → Type 0 → LinksLeft → LinksLeft → served.End → List ℕ → Type 0) (LinksTell : Type 0) (old new : LinksLeft) (before after : K) (c : Conf)
+pub answered : {K : Type 0} (k : sinks.Ghosts K) (S : Conference → Type 0 → LinksLeft → LinksLeft → served.End → List ℕ → Type 0) (LinksTell : Type 0) (old new : LinksLeft) (before after : K) (c : Conference)
     (answer : Result LiveReport LiveFault) (ending : Ending) → IfOk answer (λ r. ServedAs S LinksTell old new c (end_of r.end) r.views) → IfErr answer (WasGivenUp old.calls new.calls old.ends new.ends c)
     → PrintsReport k answer before after ending → ServingEnds (S c LinksTell old new) k.tells old new (output_at k before) (output_at k after) c ending
 answered {K} k S LinksTell old new before after c (Ok r) ending seen given_up_so prints = λ octets read.
@@ -138,21 +138,21 @@ answered {K} k S LinksTell old new before after c (Err fault) ending seen given_
     (subst (EndsAt before) (sym prints.1) (given_up (S c LinksTell old new) k.tells old new (output_at k before) c fault given_up_so))
 
 -- ---- how the command ends
-served_outcome : (held : Contents) (file octets : List ℕ) (c : Conf) → held file ≡ Some octets → conf Links octets ≡ Ok c → outcome held (serving file) ≡ Served c
+served_outcome : (held : Contents) (file octets : List ℕ) (c : Conference) → held file ≡ Some octets → conference_from Links octets ≡ Ok c → outcome held (serving file) ≡ Served c
 served_outcome held file octets c there read =
-    lies held file (λ octets. serves_read (conf Links octets)) octets there ∙ ap (λ (r : Result Conf lines.Refusal). outcome_from 1 held (serves_read r)) read
+    lies held file (λ octets. serves_read (conference_from Links octets)) octets there ∙ ap (λ (r : Result Conference lines.Refusal). outcome_from 1 held (serves_read r)) read
 
 -- a live call is served that was read there
-serves_some : (WorldTells : Type 0) (held : Contents) (file octets : List ℕ) (c : Conf) (P : Conf → Type 0) → (WorldTells → held file ≡ Some octets) → conf Links octets ≡ Ok c → P c
+serves_some : (WorldTells : Type 0) (held : Contents) (file octets : List ℕ) (c : Conference) (P : Conference → Type 0) → (WorldTells → held file ≡ Some octets) → conference_from Links octets ≡ Ok c → P c
     → ServesSome WorldTells held (serving file) P
 serves_some WorldTells held file octets c P there read p =
-    (octets, there, subst (λ (r : Result Conf lines.Refusal). ServesSome WorldTells held (serves_read r) P) (sym read) p)
+    (octets, there, subst (λ (r : Result Conference lines.Refusal). ServesSome WorldTells held (serves_read r) P) (sym read) p)
 
 -- the same leg, by the name that is told
-told_of : (file : List ℕ) (c : Conf) (leg : ℕ) (name : List ℕ) (old new : LinksLeft) → LegFailed c leg name old new → LegFailed c leg (name_of file (leg_at c.legs leg)) old new
+told_of : (file : List ℕ) (c : Conference) (leg : ℕ) (name : List ℕ) (old new : LinksLeft) → LegFailed c leg name old new → LegFailed c leg (name_of file (leg_at c.legs leg)) old new
 told_of file c leg name old new f = record { line = f.line; at = f.at; named = ap (name_of file) f.at; number = f.number; is = f.is; rose = f.rose }
 
-pub ends_live : (S : served.End → List ℕ → Type 0) (WorldTells OutTells : Type 0) (old new : Outside) (file octets : List ℕ) (c : Conf) (ending : Ending) → (WorldTells → old.contents file ≡ Some octets) → conf Links octets ≡ Ok c
+pub ends_live : (S : served.End → List ℕ → Type 0) (WorldTells OutTells : Type 0) (old new : Outside) (file octets : List ℕ) (c : Conference) (ending : Ending) → (WorldTells → old.contents file ≡ Some octets) → conference_from Links octets ≡ Ok c
     → Same old.contents new.contents → LiveEnds S OutTells old.links new.links old.out new.out c ending
     → Ends (serving_of file) WorldTells OutTells old new (ending_name file c.legs ending) ending
 ends_live S WorldTells OutTells old new file octets c (Ok u) there read same l = λ told.
@@ -205,7 +205,7 @@ no_status Whole Told held c Call Object NoMemory s e = cc e
 no_status Front Told held c Call Object NoMemory s e = cc e
 
 -- a call that was served so has status 0, or 7 where the output failed
-pub served_from : (share : Share) (S : Conf → served.End → List ℕ → Type 0) (WorldTells OutTells : Type 0) (old new : Outside) (m : MixWords) (octets : List ℕ) (c : Conf) (status : ℕ) (ending : Ending) → (WorldTells → old.contents m.conf ≡ Some octets) → conf Links octets ≡ Ok c
+pub served_from : (share : Share) (S : Conference → served.End → List ℕ → Type 0) (WorldTells OutTells : Type 0) (old new : Outside) (m : MixWords) (octets : List ℕ) (c : Conference) (status : ℕ) (ending : Ending) → (WorldTells → old.contents m.conference ≡ Some octets) → conference_from Links octets ≡ Ok c
     → status ≡ status_of ending → LiveEnds (S c) OutTells old.links new.links old.out new.out c ending → status ≡ status_at share → IsServedFrom share S WorldTells OutTells m old new
 served_from Whole S WorldTells OutTells old new m octets c status (Ok u) there read is l at = record { octets = octets; lies = there; conference = c; is = read; end = l.0; printed = l.1; served = l.2; prints = l.3 }
 served_from Front S WorldTells OutTells old new m octets c status (Ok u) there read is l at = absurd (cc (is, at))
@@ -226,7 +226,7 @@ pub failed : (share : Share) (Told : Type 0) (held : Contents) (c : Command) (Ca
 failed share Told held c Call Object status fault s is at = no_status share Told held c Call Object fault s (sym is ∙ at)
 
 -- links were used where a live call was begun, whatever came of it
-pub used : (S : served.End → List ℕ → Type 0) (OutTells : Type 0) (old new : LinksLeft) (before after : Output) (c : Conf) (status : ℕ) (ending : Ending) → status ≡ status_of ending → LiveEnds S OutTells old new before after c ending
+pub used : (S : served.End → List ℕ → Type 0) (OutTells : Type 0) (old new : LinksLeft) (before after : Output) (c : Conference) (status : ℕ) (ending : Ending) → status ≡ status_of ending → LiveEnds S OutTells old new before after c ending
     → is_unserved status ≡ true → ⊥
 used S OutTells old new before after c status (Ok u) is l e = true≢false (sym e ∙ ap (λ n. is_unread n || n == 5) is)
 used S OutTells old new before after c status (Err WrongWords) is l e = absurd l
@@ -239,7 +239,7 @@ used S OutTells old new before after c status (Err (LinkFailed leg)) is l e = tr
 used S OutTells old new before after c status (Err NoMemory) is l e = true≢false (sym e ∙ ap (λ n. is_unread n || n == 5) is)
 
 -- ---- a call that was given up
-pub given_up_as : (LinksTell : Type 0) (old new : LinksLeft) (c : Conf) (answer : Result LiveReport LiveFault) → (LinksTell → OnErr answer (LeadsSome c old.leads new.leads)) → OnErr answer (BrokeOff LinksTell (span_between old new) old.given new.taken new.given c)
+pub given_up_as : (LinksTell : Type 0) (old new : LinksLeft) (c : Conference) (answer : Result LiveReport LiveFault) → (LinksTell → OnErr answer (LeadsSome c old.leads new.leads)) → OnErr answer (BrokeOff LinksTell (span_between old new) old.given new.taken new.given c)
     → OnErr answer (IsGivenUp c LinksTell old new)
 given_up_as LinksTell old new c (Ok r) leads broke = tt
 given_up_as LinksTell old new c (Err fault) leads broke = record { leads = leads; broke_off = broke }
@@ -252,7 +252,7 @@ given_up_answer k (Err (live.Link leg)) before after ending P p prints = subst (
 given_up_answer k (Err live.NoMemory) before after ending P p prints = subst (λ (e : Ending). OnGivenUp e P) (sym prints.1) p
 
 -- a call of the conference in this file
-pub given_up_from : (S : served.End → List ℕ → Type 0) (WorldTells OutTells LinksTell : Type 0) (old new : Outside) (m : MixWords) (octets : List ℕ) (c : Conf) (status : ℕ) (ending : Ending) → (WorldTells → old.contents m.conf ≡ Some octets) → conf Links octets ≡ Ok c
+pub given_up_from : (S : served.End → List ℕ → Type 0) (WorldTells OutTells LinksTell : Type 0) (old new : Outside) (m : MixWords) (octets : List ℕ) (c : Conference) (status : ℕ) (ending : Ending) → (WorldTells → old.contents m.conference ≡ Some octets) → conference_from Links octets ≡ Ok c
     → status ≡ status_of ending → LiveEnds S OutTells old.links new.links old.out new.out c ending → OnGivenUp ending (IsGivenUp c LinksTell old.links new.links) → GivesUp WorldTells LinksTell m old new status
 given_up_from S WorldTells OutTells LinksTell old new m octets c status (Ok u) there read is l g = record { failed = λ at. absurd (cc (is, at)); no_memory = λ at. absurd (cc (is, at)) }
 given_up_from S WorldTells OutTells LinksTell old new m octets c status (Err WrongWords) there read is l g = absurd l

@@ -7,10 +7,10 @@ use Rattle.rtt_io.specs.Counts.{Rose}
 use Rattle.rtt_io.specs.Names.{SameBut}
 use Rattle.rtt_io.specs.declared.worlds.World as worlds
 use Rattle.rtt_io.specs.declared.sinks.Sink as sinks
-use Rattle.file_spec.specs.declared.conf_lines.LegLine.{LegLine}
-use Rattle.file_spec.specs.declared.conf_lines.Form.TheVariants as of
+use Rattle.file_spec.specs.declared.conference_lines.LegLine.{LegLine}
+use Rattle.file_spec.specs.declared.conference_lines.Form.TheVariants as of
 use Rattle.file_spec.specs.declared.limits.TheConstants.{MOST_LEGS}
-use Rattle.file_spec.specs.Conf.{Conf, conf}
+use Rattle.file_spec.specs.Conference.{Conference, conference_from}
 use Rattle.file_spec.specs.Kept.{IsConference}
 use Rattle.file_spec.specs.Lines as file
 use Rattle.file_spec.proofs.KeptLines.{accepted_keeps}
@@ -74,47 +74,47 @@ never_refuses WorldTells held (Tries c tells) n refusal r = r
 never_refuses WorldTells held (Opens name next) n refusal r = never_refuses WorldTells held (next r.0) n refusal r.2
 
 -- ---- a leg
-at_trunk : (limit : ℕ) (conf : List ℕ) (leg : LegLine) (legs : List LegLine) (told : checking.Report) → is_on_trunk leg ≡ true
-    → looks_at limit conf (leg ∷ legs) told ≡ looks_at limit conf legs told
-at_trunk limit conf leg legs told e =
-    let rest = looks_at limit conf legs told in
-    ap (λ b. cond b rest (Opens leg.input (λ input. unless_told (leg_told limit conf leg input) rest))) e
+at_trunk : (limit : ℕ) (conference : List ℕ) (leg : LegLine) (legs : List LegLine) (told : checking.Report) → is_on_trunk leg ≡ true
+    → looks_at limit conference (leg ∷ legs) told ≡ looks_at limit conference legs told
+at_trunk limit conference leg legs told e =
+    let rest = looks_at limit conference legs told in
+    ap (λ b. cond b rest (Opens leg.input (λ input. unless_told (leg_told limit conference leg input) rest))) e
 
-at_input : (limit : ℕ) (conf : List ℕ) (leg : LegLine) (legs : List LegLine) (told : checking.Report) → is_on_trunk leg ≡ false
-    → looks_at limit conf (leg ∷ legs) told ≡ Opens leg.input (λ input. unless_told (leg_told limit conf leg input) (looks_at limit conf legs told))
-at_input limit conf leg legs told e =
-    let rest = looks_at limit conf legs told in
-    ap (λ b. cond b rest (Opens leg.input (λ input. unless_told (leg_told limit conf leg input) rest))) e
+at_input : (limit : ℕ) (conference : List ℕ) (leg : LegLine) (legs : List LegLine) (told : checking.Report) → is_on_trunk leg ≡ false
+    → looks_at limit conference (leg ∷ legs) told ≡ Opens leg.input (λ input. unless_told (leg_told limit conference leg input) (looks_at limit conference legs told))
+at_input limit conference leg legs told e =
+    let rest = looks_at limit conference legs told in
+    ap (λ b. cond b rest (Opens leg.input (λ input. unless_told (leg_told limit conference leg input) rest))) e
 
 -- what was read is looked at as what lies there
-pub looked_at : (WorldTells : Type 0) (held : Contents) (limit : ℕ) (conf : List ℕ) (leg : LegLine) (octets : List ℕ) (found : Option Report)
-    → (WorldTells → IsReadOf MOST_CHECKED_OCTETS (held leg.input) octets) → option_map as_told found ≡ leg_told limit conf leg octets → LooksAt WorldTells held limit conf leg found
-looked_at WorldTells held limit conf leg octets found read is =
-    let lie = lying_octets WorldTells MOST_CHECKED_OCTETS (leg_told limit conf leg) (held leg.input) octets (long_inputs_alike limit conf leg) read in
+pub looked_at : (WorldTells : Type 0) (held : Contents) (limit : ℕ) (conference : List ℕ) (leg : LegLine) (octets : List ℕ) (found : Option Report)
+    → (WorldTells → IsReadOf MOST_CHECKED_OCTETS (held leg.input) octets) → option_map as_told found ≡ leg_told limit conference leg octets → LooksAt WorldTells held limit conference leg found
+looked_at WorldTells held limit conference leg octets found read is =
+    let lie = lying_octets WorldTells MOST_CHECKED_OCTETS (leg_told limit conference leg) (held leg.input) octets (long_inputs_alike limit conference leg) read in
     (lie.0, lie.1, is ∙ sym lie.2)
 
 -- of a leg behind another mixer nothing is
-pub told_behind : (WorldTells : Type 0) (held : Contents) (limit : ℕ) (conf : List ℕ) (leg : LegLine) (legs : List LegLine) (told : checking.Report) (result : Option checking.Report) → is_on_trunk leg ≡ true
-    → told_by held (looks_at limit conf legs told) ≡ result → told_by held (looks_at limit conf (leg ∷ legs) told) ≡ result
-told_behind WorldTells held limit conf leg legs told result on is = ap (told_by held) (at_trunk limit conf leg legs told on) ∙ is
+pub told_behind : (WorldTells : Type 0) (held : Contents) (limit : ℕ) (conference : List ℕ) (leg : LegLine) (legs : List LegLine) (told : checking.Report) (result : Option checking.Report) → is_on_trunk leg ≡ true
+    → told_by held (looks_at limit conference legs told) ≡ result → told_by held (looks_at limit conference (leg ∷ legs) told) ≡ result
+told_behind WorldTells held limit conference leg legs told result on is = ap (told_by held) (at_trunk limit conference leg legs told on) ∙ is
 
-read_so : (WorldTells : Type 0) (held : Contents) (limit : ℕ) (conf : List ℕ) (leg : LegLine) (legs : List LegLine) (told : checking.Report) (found : Option Report) → is_on_trunk leg ≡ false
-    → LooksAt WorldTells held limit conf leg found → WorldTells
-    → told_by held (looks_at limit conf (leg ∷ legs) told) ≡ told_by held (unless_told (option_map as_told found) (looks_at limit conf legs told))
-read_so WorldTells held limit conf leg legs told found off l t =
-    let rest = looks_at limit conf legs told in
-    let P : Option (List ℕ) → Option checking.Report = λ o. elim o [ None ↦ None | Some octets ↦ told_by held (unless_told (leg_told limit conf leg octets) rest) ] in
-    ap (told_by held) (at_input limit conf leg legs told off) ∙ (ap P (l.1 t) ∙ ap (λ r. told_by held (unless_told r rest)) (sym l.2))
+read_so : (WorldTells : Type 0) (held : Contents) (limit : ℕ) (conference : List ℕ) (leg : LegLine) (legs : List LegLine) (told : checking.Report) (found : Option Report) → is_on_trunk leg ≡ false
+    → LooksAt WorldTells held limit conference leg found → WorldTells
+    → told_by held (looks_at limit conference (leg ∷ legs) told) ≡ told_by held (unless_told (option_map as_told found) (looks_at limit conference legs told))
+read_so WorldTells held limit conference leg legs told found off l t =
+    let rest = looks_at limit conference legs told in
+    let P : Option (List ℕ) → Option checking.Report = λ o. elim o [ None ↦ None | Some octets ↦ told_by held (unless_told (leg_told limit conference leg octets) rest) ] in
+    ap (told_by held) (at_input limit conference leg legs told off) ∙ (ap P (l.1 t) ∙ ap (λ r. told_by held (unless_told r rest)) (sym l.2))
 
 -- something is told of its IN
-pub told_here : (WorldTells : Type 0) (held : Contents) (limit : ℕ) (conf : List ℕ) (leg : LegLine) (legs : List LegLine) (told : checking.Report) (found : Report) → is_on_trunk leg ≡ false
-    → LooksAt WorldTells held limit conf leg (Some found) → WorldTells → told_by held (looks_at limit conf (leg ∷ legs) told) ≡ Some (as_told found)
-told_here WorldTells held limit conf leg legs told found off l t = read_so WorldTells held limit conf leg legs told (Some found) off l t
+pub told_here : (WorldTells : Type 0) (held : Contents) (limit : ℕ) (conference : List ℕ) (leg : LegLine) (legs : List LegLine) (told : checking.Report) (found : Report) → is_on_trunk leg ≡ false
+    → LooksAt WorldTells held limit conference leg (Some found) → WorldTells → told_by held (looks_at limit conference (leg ∷ legs) told) ≡ Some (as_told found)
+told_here WorldTells held limit conference leg legs told found off l t = read_so WorldTells held limit conference leg legs told (Some found) off l t
 
 -- or of the INs behind it
-pub told_later : (WorldTells : Type 0) (held : Contents) (limit : ℕ) (conf : List ℕ) (leg : LegLine) (legs : List LegLine) (told : checking.Report) (result : Option checking.Report) → is_on_trunk leg ≡ false
-    → LooksAt WorldTells held limit conf leg None → WorldTells → told_by held (looks_at limit conf legs told) ≡ result → told_by held (looks_at limit conf (leg ∷ legs) told) ≡ result
-told_later WorldTells held limit conf leg legs told result off l t is = read_so WorldTells held limit conf leg legs told None off l t ∙ is
+pub told_later : (WorldTells : Type 0) (held : Contents) (limit : ℕ) (conference : List ℕ) (leg : LegLine) (legs : List LegLine) (told : checking.Report) (result : Option checking.Report) → is_on_trunk leg ≡ false
+    → LooksAt WorldTells held limit conference leg None → WorldTells → told_by held (looks_at limit conference legs told) ≡ result → told_by held (looks_at limit conference (leg ∷ legs) told) ≡ result
+told_later WorldTells held limit conference leg legs told result off l t is = read_so WorldTells held limit conference leg legs told None off l t ∙ is
 
 -- ---- an input that is not read
 pub unread_at : {W S D : Type 0} (w : worlds.Ghosts W S D) (input : ℕ) (old new : W) (name : List ℕ) (fault : Fault) → IsUnreadIn w old new name fault
@@ -148,28 +148,28 @@ where_map w Is Js old new name (CannotWrite n) f u = u
 where_map w Is Js old new name (LinkFailed leg) f u = u
 where_map w Is Js old new name NoMemory f u = u
 
-pub input_behind : (WorldTells : Type 0) (held : Contents) (limit : ℕ) (conf : List ℕ) (leg : LegLine) (legs : List LegLine) (told : checking.Report) (first : ℕ) (name : List ℕ) (n : ℕ) → is_on_trunk leg ≡ true
-    → IsInputFrom WorldTells held (steps_of (looks_at limit conf legs told)) first name n → IsInputFrom WorldTells held (steps_of (looks_at limit conf (leg ∷ legs) told)) first name n
-input_behind WorldTells held limit conf leg legs told first name n on i =
-    subst (λ (l : Look). IsInputFrom WorldTells held (steps_of l) first name n) (sym (at_trunk limit conf leg legs told on)) i
+pub input_behind : (WorldTells : Type 0) (held : Contents) (limit : ℕ) (conference : List ℕ) (leg : LegLine) (legs : List LegLine) (told : checking.Report) (first : ℕ) (name : List ℕ) (n : ℕ) → is_on_trunk leg ≡ true
+    → IsInputFrom WorldTells held (steps_of (looks_at limit conference legs told)) first name n → IsInputFrom WorldTells held (steps_of (looks_at limit conference (leg ∷ legs) told)) first name n
+input_behind WorldTells held limit conference leg legs told first name n on i =
+    subst (λ (l : Look). IsInputFrom WorldTells held (steps_of l) first name n) (sym (at_trunk limit conference leg legs told on)) i
 
-pub input_here : (WorldTells : Type 0) (held : Contents) (limit : ℕ) (conf : List ℕ) (leg : LegLine) (legs : List LegLine) (told : checking.Report) (first n : ℕ) → is_on_trunk leg ≡ false → n ≡ first
-    → IsInputFrom WorldTells held (steps_of (looks_at limit conf (leg ∷ legs) told)) first leg.input n
-input_here WorldTells held limit conf leg legs told first n off e =
-    let opened : Look = Opens leg.input (λ input. unless_told (leg_told limit conf leg input) (looks_at limit conf legs told)) in
+pub input_here : (WorldTells : Type 0) (held : Contents) (limit : ℕ) (conference : List ℕ) (leg : LegLine) (legs : List LegLine) (told : checking.Report) (first n : ℕ) → is_on_trunk leg ≡ false → n ≡ first
+    → IsInputFrom WorldTells held (steps_of (looks_at limit conference (leg ∷ legs) told)) first leg.input n
+input_here WorldTells held limit conference leg legs told first n off e =
+    let opened : Look = Opens leg.input (λ input. unless_told (leg_told limit conference leg input) (looks_at limit conference legs told)) in
     let here : IsInputFrom WorldTells held (steps_of opened) first leg.input n = (0, omega (arith, e), refl) in
-    subst (λ (l : Look). IsInputFrom WorldTells held (steps_of l) first leg.input n) (sym (at_input limit conf leg legs told off)) here
+    subst (λ (l : Look). IsInputFrom WorldTells held (steps_of l) first leg.input n) (sym (at_input limit conference leg legs told off)) here
 
-pub input_later : (WorldTells : Type 0) (held : Contents) (limit : ℕ) (conf : List ℕ) (leg : LegLine) (legs : List LegLine) (told : checking.Report) (first : ℕ) (name : List ℕ) (n : ℕ) → is_on_trunk leg ≡ false
-    → LooksAt WorldTells held limit conf leg None → IsInputFrom WorldTells held (steps_of (looks_at limit conf legs told)) (first + 1) name n
-    → IsInputFrom WorldTells held (steps_of (looks_at limit conf (leg ∷ legs) told)) first name n
-input_later WorldTells held limit conf leg legs told first name n off l i =
-    let rest = looks_at limit conf legs told in
-    let opened : Look = Opens leg.input (λ input. unless_told (leg_told limit conf leg input) rest) in
-    let behind : IsInput WorldTells held (steps_of (unless_told (leg_told limit conf leg l.0) rest)) i.0 name =
+pub input_later : (WorldTells : Type 0) (held : Contents) (limit : ℕ) (conference : List ℕ) (leg : LegLine) (legs : List LegLine) (told : checking.Report) (first : ℕ) (name : List ℕ) (n : ℕ) → is_on_trunk leg ≡ false
+    → LooksAt WorldTells held limit conference leg None → IsInputFrom WorldTells held (steps_of (looks_at limit conference legs told)) (first + 1) name n
+    → IsInputFrom WorldTells held (steps_of (looks_at limit conference (leg ∷ legs) told)) first name n
+input_later WorldTells held limit conference leg legs told first name n off l i =
+    let rest = looks_at limit conference legs told in
+    let opened : Look = Opens leg.input (λ input. unless_told (leg_told limit conference leg input) rest) in
+    let behind : IsInput WorldTells held (steps_of (unless_told (leg_told limit conference leg l.0) rest)) i.0 name =
     subst (λ r. IsInput WorldTells held (steps_of (unless_told r rest)) i.0 name) l.2 i.2 in
     let here : IsInputFrom WorldTells held (steps_of opened) first name n = (suc i.0, omega (arith, i.1), (l.0, l.1, behind)) in
-    subst (λ (l : Look). IsInputFrom WorldTells held (steps_of l) first name n) (sym (at_input limit conf leg legs told off)) here
+    subst (λ (l : Look). IsInputFrom WorldTells held (steps_of l) first name n) (sym (at_input limit conference leg legs told off)) here
 
 -- ---- the INs of legs, one after another
 pub in_ok : {A B : Type 0} {P Q : A → Type 0} (r : Result A B) → ((a : A) → P a → Q a) → IfOk r P → IfOk r Q
@@ -189,43 +189,43 @@ first_and_more [] d some = absurd (omega arith)
 first_and_more (leg ∷ more) d some = ap (λ (l : List LegLine). leg ∷ l) (take_rest (leg ∷ more) 1)
 
 -- the leg stands behind another mixer
-pub unread_behind : {W S D : Type 0} (w : worlds.Ghosts W S D) (limit : ℕ) (conf : List ℕ) (leg : LegLine) (legs : List LegLine) (first : ℕ) (old new : W) (name : List ℕ) (fault : Fault) → is_on_trunk leg ≡ true
-    → IsUnreadAmong w limit conf legs first old new name fault → IsUnreadAmong w limit conf (leg ∷ legs) first old new name fault
-unread_behind w limit conf leg legs first old new name fault on u = λ before same told.
-    where_map w (IsInputFrom w.tells (w.contents before) (steps_of (looks_at limit conf legs told)) first name)
-    (IsInputFrom w.tells (w.contents before) (steps_of (looks_at limit conf (leg ∷ legs) told)) first name) before new name fault
-    (λ n i. input_behind w.tells (w.contents before) limit conf leg legs told first name n on i) (u before same told)
+pub unread_behind : {W S D : Type 0} (w : worlds.Ghosts W S D) (limit : ℕ) (conference : List ℕ) (leg : LegLine) (legs : List LegLine) (first : ℕ) (old new : W) (name : List ℕ) (fault : Fault) → is_on_trunk leg ≡ true
+    → IsUnreadAmong w limit conference legs first old new name fault → IsUnreadAmong w limit conference (leg ∷ legs) first old new name fault
+unread_behind w limit conference leg legs first old new name fault on u = λ before same told.
+    where_map w (IsInputFrom w.tells (w.contents before) (steps_of (looks_at limit conference legs told)) first name)
+    (IsInputFrom w.tells (w.contents before) (steps_of (looks_at limit conference (leg ∷ legs) told)) first name) before new name fault
+    (λ n i. input_behind w.tells (w.contents before) limit conference leg legs told first name n on i) (u before same told)
 
-pub looks_behind : {W S D : Type 0} (w : worlds.Ghosts W S D) (limit : ℕ) (conf : List ℕ) (leg : LegLine) (legs : List LegLine) (old : W) (found : Option Report) → is_on_trunk leg ≡ true
-    → LooksAmongIn w limit conf legs old found → LooksAmongIn w limit conf (leg ∷ legs) old found
-looks_behind w limit conf leg legs old found on l = λ before same t told.
-    told_behind w.tells (w.contents before) limit conf leg legs told (Some (told_of found told)) on (l before same t told)
+pub looks_behind : {W S D : Type 0} (w : worlds.Ghosts W S D) (limit : ℕ) (conference : List ℕ) (leg : LegLine) (legs : List LegLine) (old : W) (found : Option Report) → is_on_trunk leg ≡ true
+    → LooksAmongIn w limit conference legs old found → LooksAmongIn w limit conference (leg ∷ legs) old found
+looks_behind w limit conference leg legs old found on l = λ before same t told.
+    told_behind w.tells (w.contents before) limit conference leg legs told (Some (told_of found told)) on (l before same t told)
 
 -- its IN is not read, or something is told of it
-pub unread_here : {W S D : Type 0} (w : worlds.Ghosts W S D) (limit : ℕ) (conf : List ℕ) (leg : LegLine) (legs : List LegLine) (input : ℕ) (old new : W) (name : List ℕ) (fault : Fault) → is_on_trunk leg ≡ false
-    → name ≡ leg.input → IsUnreadAt w input old new leg.input fault → IsUnreadAmong w limit conf (leg ∷ legs) input old new name fault
-unread_here w limit conf leg legs input old new name fault off named u = λ before same told.
-    let Is : ℕ → Type 0 = IsInputFrom w.tells (w.contents before) (steps_of (looks_at limit conf (leg ∷ legs) told)) input leg.input in
-    subst (λ n. IsUnreadWhere w (IsInputFrom w.tells (w.contents before) (steps_of (looks_at limit conf (leg ∷ legs) told)) input n) before new n fault) (sym named)
-    (where_map w (λ n. n ≡ input) Is before new leg.input fault (λ n e. input_here w.tells (w.contents before) limit conf leg legs told input n off e) (u before same))
+pub unread_here : {W S D : Type 0} (w : worlds.Ghosts W S D) (limit : ℕ) (conference : List ℕ) (leg : LegLine) (legs : List LegLine) (input : ℕ) (old new : W) (name : List ℕ) (fault : Fault) → is_on_trunk leg ≡ false
+    → name ≡ leg.input → IsUnreadAt w input old new leg.input fault → IsUnreadAmong w limit conference (leg ∷ legs) input old new name fault
+unread_here w limit conference leg legs input old new name fault off named u = λ before same told.
+    let Is : ℕ → Type 0 = IsInputFrom w.tells (w.contents before) (steps_of (looks_at limit conference (leg ∷ legs) told)) input leg.input in
+    subst (λ n. IsUnreadWhere w (IsInputFrom w.tells (w.contents before) (steps_of (looks_at limit conference (leg ∷ legs) told)) input n) before new n fault) (sym named)
+    (where_map w (λ n. n ≡ input) Is before new leg.input fault (λ n e. input_here w.tells (w.contents before) limit conference leg legs told input n off e) (u before same))
 
-pub looks_here : {W S D : Type 0} (w : worlds.Ghosts W S D) (limit : ℕ) (conf : List ℕ) (leg : LegLine) (legs : List LegLine) (old : W) (found : Report) → is_on_trunk leg ≡ false
-    → LooksAtIn w limit conf leg old (Some found) → LooksAmongIn w limit conf (leg ∷ legs) old (Some found)
-looks_here w limit conf leg legs old found off l = λ before same t told.
-    told_here w.tells (w.contents before) limit conf leg legs told found off (l before same) t
+pub looks_here : {W S D : Type 0} (w : worlds.Ghosts W S D) (limit : ℕ) (conference : List ℕ) (leg : LegLine) (legs : List LegLine) (old : W) (found : Report) → is_on_trunk leg ≡ false
+    → LooksAtIn w limit conference leg old (Some found) → LooksAmongIn w limit conference (leg ∷ legs) old (Some found)
+looks_here w limit conference leg legs old found off l = λ before same t told.
+    told_here w.tells (w.contents before) limit conference leg legs told found off (l before same) t
 
 -- nothing is told of it
-pub unread_later : {W S D : Type 0} (w : worlds.Ghosts W S D) (limit : ℕ) (conf : List ℕ) (leg : LegLine) (legs : List LegLine) (first : ℕ) (old mid new : W) (name : List ℕ) (fault : Fault) → is_on_trunk leg ≡ false
-    → SameIn w old mid → LooksAtIn w limit conf leg old None → IsUnreadAmong w limit conf legs (first + 1) mid new name fault → IsUnreadAmong w limit conf (leg ∷ legs) first old new name fault
-unread_later w limit conf leg legs first old mid new name fault off step l u = λ before same told.
-    where_map w (IsInputFrom w.tells (w.contents before) (steps_of (looks_at limit conf legs told)) (first + 1) name)
-    (IsInputFrom w.tells (w.contents before) (steps_of (looks_at limit conf (leg ∷ legs) told)) first name) before new name fault
-    (λ n i. input_later w.tells (w.contents before) limit conf leg legs told first name n off (l before same) i) (u before (same_through w before old mid same step) told)
+pub unread_later : {W S D : Type 0} (w : worlds.Ghosts W S D) (limit : ℕ) (conference : List ℕ) (leg : LegLine) (legs : List LegLine) (first : ℕ) (old mid new : W) (name : List ℕ) (fault : Fault) → is_on_trunk leg ≡ false
+    → SameIn w old mid → LooksAtIn w limit conference leg old None → IsUnreadAmong w limit conference legs (first + 1) mid new name fault → IsUnreadAmong w limit conference (leg ∷ legs) first old new name fault
+unread_later w limit conference leg legs first old mid new name fault off step l u = λ before same told.
+    where_map w (IsInputFrom w.tells (w.contents before) (steps_of (looks_at limit conference legs told)) (first + 1) name)
+    (IsInputFrom w.tells (w.contents before) (steps_of (looks_at limit conference (leg ∷ legs) told)) first name) before new name fault
+    (λ n i. input_later w.tells (w.contents before) limit conference leg legs told first name n off (l before same) i) (u before (same_through w before old mid same step) told)
 
-pub looks_later : {W S D : Type 0} (w : worlds.Ghosts W S D) (limit : ℕ) (conf : List ℕ) (leg : LegLine) (legs : List LegLine) (old mid : W) (found : Option Report) → is_on_trunk leg ≡ false
-    → SameIn w old mid → LooksAtIn w limit conf leg old None → LooksAmongIn w limit conf legs mid found → LooksAmongIn w limit conf (leg ∷ legs) old found
-looks_later w limit conf leg legs old mid found off step l m = λ before same t told.
-    told_later w.tells (w.contents before) limit conf leg legs told (Some (told_of found told)) off (l before same) t (m before (same_through w before old mid same step) t told)
+pub looks_later : {W S D : Type 0} (w : worlds.Ghosts W S D) (limit : ℕ) (conference : List ℕ) (leg : LegLine) (legs : List LegLine) (old mid : W) (found : Option Report) → is_on_trunk leg ≡ false
+    → SameIn w old mid → LooksAtIn w limit conference leg old None → LooksAmongIn w limit conference legs mid found → LooksAmongIn w limit conference (leg ∷ legs) old found
+looks_later w limit conference leg legs old mid found off step l m = λ before same t told.
+    told_later w.tells (w.contents before) limit conference leg legs told (Some (told_of found told)) off (l before same) t (m before (same_through w before old mid same step) t told)
 
 -- ---- the file
 pub front_is : (name octets whole : List ℕ) → IsFrontOf MOST_CHECKED_OCTETS octets whole → look_in name whole ≡ look_in name octets
@@ -237,7 +237,7 @@ look_begun : (file octets : List ℕ) (told : checking.Report) (legs : List LegL
 look_begun file octets told legs none is are =
     ap (λ (l : List LegLine). looks_at (most_of_input l) octets l told) are
     ∙ (ap (looks_at (most_of_input (legs_in octets)) octets (legs_in octets)) is
-    ∙ sym (ap (λ (c : Option Conf). look_over c octets (report file octets)) none))
+    ∙ sym (ap (λ (c : Option Conference). look_over c octets (report file octets)) none))
 
 pub told_whole : {W S D : Type 0} (w : worlds.Ghosts W S D) (world : W) (file octets : List ℕ) (told result : checking.Report) (legs : List LegLine) → links_in octets ≡ None → IsBegunIn w world file octets told legs → w.tells
     → told_by (w.contents world) (looks_at (most_of_input legs) octets legs told) ≡ Some result → told_by (w.contents world) (look file) ≡ Some result
@@ -263,17 +263,17 @@ input_of_file w world words octets told legs name n unlinked b i = elim (cases_l
 ]
 
 -- ---- what was begun, where these are the octets and the legs as they are handed on
-look_handed : (octets conf : List ℕ) (told : checking.Report) (legs slice : List LegLine) (limit : ℕ) → conf ≡ octets → slice ≡ legs → limit ≡ most_of_input slice
-    → looks_at limit conf slice told ≡ looks_at (most_of_input legs) octets legs told
-look_handed octets conf told legs slice limit are same most =
-    ap (λ m. looks_at m conf slice told) most ∙ (ap (λ o. looks_at (most_of_input slice) o slice told) are ∙ ap (λ (l : List LegLine). looks_at (most_of_input l) octets l told) same)
+look_handed : (octets conference : List ℕ) (told : checking.Report) (legs slice : List LegLine) (limit : ℕ) → conference ≡ octets → slice ≡ legs → limit ≡ most_of_input slice
+    → looks_at limit conference slice told ≡ looks_at (most_of_input legs) octets legs told
+look_handed octets conference told legs slice limit are same most =
+    ap (λ m. looks_at m conference slice told) most ∙ (ap (λ o. looks_at (most_of_input slice) o slice told) are ∙ ap (λ (l : List LegLine). looks_at (most_of_input l) octets l told) same)
 
-pub told_all : {W S D : Type 0} (w : worlds.Ghosts W S D) (old mid : W) (file octets conf : List ℕ) (told : checking.Report) (legs slice : List LegLine) (limit : ℕ) (found : Option Report) → links_in octets ≡ None → IsBegunIn w old file octets told legs
-    → conf ≡ octets → slice ≡ legs → limit ≡ most_of_input slice → SameIn w old mid → LooksAmongIn w limit conf slice mid found
+pub told_all : {W S D : Type 0} (w : worlds.Ghosts W S D) (old mid : W) (file octets conference : List ℕ) (told : checking.Report) (legs slice : List LegLine) (limit : ℕ) (found : Option Report) → links_in octets ≡ None → IsBegunIn w old file octets told legs
+    → conference ≡ octets → slice ≡ legs → limit ≡ most_of_input slice → SameIn w old mid → LooksAmongIn w limit conference slice mid found
     → w.tells → told_by (w.contents old) (look file) ≡ Some (told_of found told)
-told_all w old mid file octets conf told legs slice limit found none b are same most step l t =
+told_all w old mid file octets conference told legs slice limit found none b are same most step l t =
     told_whole w old file octets told (told_of found told) legs none b t
-    (ap (told_by (w.contents old)) (sym (look_handed octets conf told legs slice limit are same most)) ∙ l old step t told)
+    (ap (told_by (w.contents old)) (sym (look_handed octets conference told legs slice limit are same most)) ∙ l old step t told)
 
 none_failed : (c : CheckWords) (WorldTells : Type 0) (old new : Outside) (n : ℕ) (name : List ℕ) → IsInputOf (Check c) WorldTells old n name
     → ((m : List ℕ) → m ≢ name → new.objects m ≡ old.objects m) → NoneFailedBefore n (Check c) WorldTells old new
@@ -297,12 +297,12 @@ ends_unread w k old new out words octets told legs name (CannotWrite n) none b u
 ends_unread w k old new out words octets told legs name (LinkFailed leg) none b u same = absurd u
 ends_unread w k old new out words octets told legs name NoMemory none b u same = ((λ shown. refl), same)
 
-pub ends_among : {W S D K : Type 0} (w : worlds.Ghosts W S D) (k : sinks.Ghosts K) (old mid new : W) (out : K) (words : CheckWords) (octets conf : List ℕ) (told : checking.Report) (legs slice : List LegLine) (limit : ℕ) (name : List ℕ) (fault : Fault)
-    → links_in octets ≡ None → IsBegunIn w old words.file octets told legs → conf ≡ octets → slice ≡ legs → limit ≡ most_of_input slice → SameIn w old mid → IsUnreadAmong w limit conf slice 1 mid new name fault
+pub ends_among : {W S D K : Type 0} (w : worlds.Ghosts W S D) (k : sinks.Ghosts K) (old mid new : W) (out : K) (words : CheckWords) (octets conference : List ℕ) (told : checking.Report) (legs slice : List LegLine) (limit : ℕ) (name : List ℕ) (fault : Fault)
+    → links_in octets ≡ None → IsBegunIn w old words.file octets told legs → conference ≡ octets → slice ≡ legs → limit ≡ most_of_input slice → SameIn w old mid → IsUnreadAmong w limit conference slice 1 mid new name fault
     → (w.tells → Same (w.contents old) (w.contents new)) → EndsAcross w k (Check words) old out new out name (Err fault)
-ends_among w k old mid new out words octets conf told legs slice limit name fault none b are same most step u kept =
+ends_among w k old mid new out words octets conference told legs slice limit name fault none b are same most step u kept =
     ends_unread w k old new out words octets told legs name fault none b
-    (subst (λ (l : Look). IsUnreadWhere w (IsInputFrom w.tells (w.contents old) (steps_of l) 1 name) old new name fault) (look_handed octets conf told legs slice limit are same most) (u old step told))
+    (subst (λ (l : Look). IsUnreadWhere w (IsInputFrom w.tells (w.contents old) (steps_of l) 1 name) old new name fault) (look_handed octets conference told legs slice limit are same most) (u old step told))
     kept
 
 -- and where the file is not
@@ -351,12 +351,12 @@ few_unless : (odd : Option ℕ) (legs : List LegLine) → length legs ≤ MOST_L
 few_unless None legs few = few
 few_unless (Some line) legs few = omega arith
 
-few_read : (r : Result Conf file.Refusal) → ((c : Conf) → r ≡ Ok c → IsConference c) → length (legs_read r) ≤ MOST_LEGS
+few_read : (r : Result Conference file.Refusal) → ((c : Conference) → r ≡ Ok c → IsConference c) → length (legs_read r) ≤ MOST_LEGS
 few_read (Ok c) keeps = few_unless (odd_line c.legs) c.legs (keeps c refl).legs.most
 few_read (Err refusal) keeps = omega arith
 
 few_as : (form : FileForm) (octets : List ℕ) → length (legs_as form octets) ≤ MOST_LEGS
-few_as Recordings octets = few_read (conf of.Files octets) (accepted_keeps of.Files octets)
+few_as Recordings octets = few_read (conference_from of.Files octets) (accepted_keeps of.Files octets)
 few_as _ octets = omega arith
 
 few_by : (found : Option FileForm) (octets : List ℕ) → length (legs_by found octets) ≤ MOST_LEGS

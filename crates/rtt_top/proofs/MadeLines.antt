@@ -4,7 +4,7 @@ use Rattle.std.specs.Prelude.{IfErr, OnOk, OnErr}
 use Rattle.std.proofs.lemmas.List.FromFn.{length-map-range_with_len}
 use Rattle.wire_spec.specs.Dump.{dump}
 use Rattle.wire_spec.specs.Dump as dumps
-use Rattle.file_spec.specs.Conf.{Conf}
+use Rattle.file_spec.specs.Conference.{Conference}
 use Rattle.mixer_spec.specs.Bridged.{input_limit, leg_chunks}
 use Rattle.mixer_spec.specs.Plain.{plain}
 use Rattle.mixer_spec.specs.Setups.{setup}
@@ -21,9 +21,9 @@ use Rattle.command_spec.specs.Sums.{Sums, sums_mixed}
 use Rattle.rtt_words.specs.Words.{Command, Make}
 use Rattle.command_spec.specs.Work.{Contents, Steps, Reads, Refuses, Makes, Serves}
 use Rattle.command_spec.specs.Outcomes.{outcome, AllStored}
-use Rattle.bridge_run.specs.declared.mixed.MixFault.{MixFault}
-use Rattle.bridge_run.specs.declared.mixed.MixFault.TheVariants.{Open, Dump, TooLong}
-use Rattle.bridge_run.specs.declared.mixed.MixFault.TheVariants as mix
+use Rattle.bridge_run.specs.declared.results.MixFault.{MixFault}
+use Rattle.bridge_run.specs.declared.results.MixFault.TheVariants.{Open, Dump, TooLong}
+use Rattle.bridge_run.specs.declared.results.MixFault.TheVariants as mix
 use Rattle.bridge_run.specs.Answered.{MixesTo}
 use Rattle.rtt_top.specs.Makings.{IsWhy, fault_in_memory}
 use Rattle.rtt_top.specs.Outside.{Outside, Failed}
@@ -31,7 +31,7 @@ use Rattle.rtt_top.specs.Runs.{Ends, Prints, PrintsFront}
 use Rattle.rtt_top.proofs.Working.{done}
 
 -- ---- mixing is not over
-not_over : (c : Conf) (limit : ℕ) (inputs : List (List ℕ)) (n turns : ℕ) (table : Option Table)
+not_over : (c : Conference) (limit : ℕ) (inputs : List (List ℕ)) (n turns : ℕ) (table : Option Table)
     → unless_one_broken limit n inputs (makes c table) ≡ Refuses 0 (AfterTurns turns) → table ≡ None
 not_over c limit [] n turns None e = refl
 not_over c limit [] n turns (Some table) e = absurd (cc e)
@@ -42,7 +42,7 @@ not_over c limit (octets ∷ more) n turns table e = go (not_over c limit more (
     go next None e = next e
     go next (Some f) e = absurd (cc e)
 
-no_sums : (c : Conf) (inputs : List (List ℕ)) (turns : ℕ) → mixes c inputs ≡ Refuses 0 (AfterTurns turns) → sums_mixed c inputs ≡ None
+no_sums : (c : Conference) (inputs : List (List ℕ)) (turns : ℕ) → mixes c inputs ≡ Refuses 0 (AfterTurns turns) → sums_mixed c inputs ≡ None
 no_sums c inputs turns e =
     let none = not_over c (input_limit c) inputs 1 turns (plain (setup c) c.tick c.turns (leg_chunks c (input_at inputs))) e in
     rw none refl

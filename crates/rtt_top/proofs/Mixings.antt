@@ -1,9 +1,9 @@
 -- What comes to the mixing of a conference: `mix`, and `attend` with what the inputs tell of their legs.
 use Rattle.std.proofs.Common.{◌≡◌, ℕ, ◌+◌, Some, Ok, List, length, refl, ap, sym, subst, ◌∙◌}
 use Rattle.std.specs.Prelude.{IsSome}
-use Rattle.file_spec.specs.declared.conf_lines.Form.TheVariants.{Files}
-use Rattle.file_spec.specs.declared.conf_lines.LegLine.{LegLine}
-use Rattle.file_spec.specs.Conf.{Conf, conf}
+use Rattle.file_spec.specs.declared.conference_lines.Form.TheVariants.{Files}
+use Rattle.file_spec.specs.declared.conference_lines.LegLine.{LegLine}
+use Rattle.file_spec.specs.Conference.{Conference, conference_from}
 use Rattle.mixer_spec.specs.Setups.{leg_at}
 use Rattle.rtt_words.specs.Words.{Attend, Mix}
 use Rattle.command_spec.specs.Work.{Contents, IsInput, IsOutput}
@@ -24,8 +24,8 @@ use Rattle.rtt_top.proofs.Working.{lies}
 each_lies : (held : Contents) (legs : List LegLine) → AllLie held legs → (k : ℕ) (leg : LegLine) → leg_at legs k ≡ Some leg → IsSome (held leg.input)
 each_lies held legs lie k leg at = lie k leg (leg_within legs k leg at) at
 
-pub mix_comes : (WorldTells : Type 0) (held : Contents) (file octets : List ℕ) (c : Conf) → (WorldTells → held file ≡ Some octets) → conf Files octets ≡ Ok c
-    → ComesToMixing WorldTells held (Mix (record { conf = file })) c
+pub mix_comes : (WorldTells : Type 0) (held : Contents) (file octets : List ℕ) (c : Conference) → (WorldTells → held file ≡ Some octets) → conference_from Files octets ≡ Ok c
+    → ComesToMixing WorldTells held (Mix (record { conference = file })) c
 mix_comes WorldTells held file octets c lies_there read = record {
   reads = λ t. t;
   prints = refl;
@@ -34,7 +34,7 @@ mix_comes WorldTells held file octets c lies_there read = record {
   input = λ k leg at lie. (octets, lies_there, subst (λ r. IsInput WorldTells held (mixes_read r) k leg.input) (sym read) (leg_input WorldTells held c.legs (mixes_counted c) k leg at lie));
   output = λ lie made. is_output WorldTells held file octets c lies_there read (λ told. each_lies held c.legs (lie told)) made;
   comes = λ told lie.
-      lies held file (λ o. mixes_read (conf Files o)) octets (lies_there told)
+      lies held file (λ o. mixes_read (conference_from Files o)) octets (lies_there told)
       ∙ (ap (λ r. outcome_from 1 held (mixes_read r)) read ∙ chain held 1 c.legs (mixes_counted c) lie);
 }
 
@@ -47,25 +47,25 @@ pub all_lie_alike : (held : Contents) (olds news : List LegLine) → HaveFilesOf
 all_lie_alike held olds news same lie = lie_alike held olds news same (length olds) (subst (λ n. LieBelow n held news) (same_many olds news same) lie)
 
 -- what the inputs tell of the legs of a conference, as far as that is told
-pub record IsToldOf (WorldTells : Type 0) (held : Contents) (c now : Conf) : Type 0 where
+pub record IsToldOf (WorldTells : Type 0) (held : Contents) (c now : Conference) : Type 0 where
   pub says : ℕ → Said
   pub is : now ≡ named_by says c
   pub named : WorldTells → now ≡ named c (inputs_under held c.legs)
 
-pub same_files_of : (WorldTells : Type 0) (held : Contents) (c now : Conf) → IsToldOf WorldTells held c now → HaveFilesOf c.legs now.legs
-same_files_of WorldTells held c now n = subst (λ (d : Conf). HaveFilesOf c.legs d.legs) (sym n.is) (files_told c.wait n.says (length c.legs) c.legs)
+pub same_files_of : (WorldTells : Type 0) (held : Contents) (c now : Conference) → IsToldOf WorldTells held c now → HaveFilesOf c.legs now.legs
+same_files_of WorldTells held c now n = subst (λ (d : Conference). HaveFilesOf c.legs d.legs) (sym n.is) (files_told c.wait n.says (length c.legs) c.legs)
 
 -- the steps of the one are those of the other, with what the inputs tell
-mixes_alike : (WorldTells : Type 0) (held : Contents) (c now : Conf) → IsToldOf WorldTells held c now → WorldTells → steps_of held now ≡ mixes (named c (inputs_under held c.legs)) (inputs_under held c.legs)
+mixes_alike : (WorldTells : Type 0) (held : Contents) (c now : Conference) → IsToldOf WorldTells held c now → WorldTells → steps_of held now ≡ mixes (named c (inputs_under held c.legs)) (inputs_under held c.legs)
 mixes_alike WorldTells held c now n told =
-    ap (mixes now) (same_inputs held c.legs now.legs (same_files_of WorldTells held c now n)) ∙ ap (λ (d : Conf). mixes d (inputs_under held c.legs)) (n.named told)
+    ap (mixes now) (same_inputs held c.legs now.legs (same_files_of WorldTells held c now n)) ∙ ap (λ (d : Conference). mixes d (inputs_under held c.legs)) (n.named told)
 
-steps_alike : (WorldTells : Type 0) (held : Contents) (c now : Conf) → IsToldOf WorldTells held c now → WorldTells → steps_counted held now ≡ attends c (inputs_under held c.legs)
+steps_alike : (WorldTells : Type 0) (held : Contents) (c now : Conference) → IsToldOf WorldTells held c now → WorldTells → steps_counted held now ≡ attends c (inputs_under held c.legs)
 steps_alike WorldTells held c now n told =
-    ap (mixes_counted now) (same_inputs held c.legs now.legs (same_files_of WorldTells held c now n)) ∙ ap (λ (d : Conf). mixes_counted d (inputs_under held c.legs)) (n.named told)
+    ap (mixes_counted now) (same_inputs held c.legs now.legs (same_files_of WorldTells held c now n)) ∙ ap (λ (d : Conference). mixes_counted d (inputs_under held c.legs)) (n.named told)
 
-pub attend_comes : (WorldTells : Type 0) (held : Contents) (file octets : List ℕ) (c now : Conf) → (WorldTells → held file ≡ Some octets) → conf Files octets ≡ Ok c → IsToldOf WorldTells held c now
-    → ComesToMixing WorldTells held (Attend (record { conf = file })) now
+pub attend_comes : (WorldTells : Type 0) (held : Contents) (file octets : List ℕ) (c now : Conference) → (WorldTells → held file ≡ Some octets) → conference_from Files octets ≡ Ok c → IsToldOf WorldTells held c now
+    → ComesToMixing WorldTells held (Attend (record { conference = file })) now
 attend_comes WorldTells held file octets c now lies_there read n = record {
   reads = λ t. t;
   prints = refl;
@@ -75,7 +75,7 @@ attend_comes WorldTells held file octets c now lies_there read n = record {
       let old = back c.legs now.legs same k leg at in (
         octets,
         lies_there,
-        subst (λ name. IsInput WorldTells held (attends_read (conf Files octets)) k name) (sym old.2.input)
+        subst (λ name. IsInput WorldTells held (attends_read (conference_from Files octets)) k name) (sym old.2.input)
             (subst (λ r. IsInput WorldTells held (attends_read r) k old.0.input) (sym read)
             (leg_input WorldTells held c.legs (attends c) k old.0 old.1 (λ told. lie_alike held c.legs now.legs same k (lie told)))),
       );
@@ -85,7 +85,7 @@ attend_comes WorldTells held file octets c now lies_there read n = record {
       (attended_output WorldTells held file octets c lies_there read (λ told. each_lies held c.legs (all_lie_alike held c.legs now.legs same (lie told)))
       (λ told. let m = made told in (m.0, m.1, sym (mixes_alike WorldTells held c now n told) ∙ m.2)) k old.0 old.1);
   comes = λ told lie.
-      lies held file (λ o. attends_read (conf Files o)) octets (lies_there told)
+      lies held file (λ o. attends_read (conference_from Files o)) octets (lies_there told)
       ∙ (ap (λ r. outcome_from 1 held (attends_read r)) read
       ∙ (chain held 1 c.legs (attends c) (all_lie_alike held c.legs now.legs same lie)
       ∙ (ap (outcome_from (length c.legs + 1) held) (sym (steps_alike WorldTells held c now n told))
@@ -96,7 +96,7 @@ attend_comes WorldTells held file octets c now lies_there read n = record {
     same = same_files_of WorldTells held c now n
 
 -- the same where as much lies there
-pub told_since : (WorldTells : Type 0) (held then : Contents) (c now : Conf) → (WorldTells → Same held then) → IsToldOf WorldTells held c now → IsToldOf WorldTells then c now
+pub told_since : (WorldTells : Type 0) (held then : Contents) (c now : Conference) → (WorldTells → Same held then) → IsToldOf WorldTells held c now → IsToldOf WorldTells then c now
 told_since WorldTells held then c now same n = record {
   says = n.says;
   is = n.is;

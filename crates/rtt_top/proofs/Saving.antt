@@ -3,7 +3,7 @@ use Rattle.std.proofs.Common.{◌≡◌, ℕ, zero, suc, ◌+◌, ◌<◌, ◌�
 use Rattle.std.proofs.lemmas.List.{get_or_default, length-map}
 use Rattle.std.specs.Prelude.{◌⊎◌, IfErr, OnOk, OnErr}
 use Rattle.std.specs.Result.{is_err}
-use Rattle.file_spec.specs.declared.conf_lines.LegLine.{LegLine}
+use Rattle.file_spec.specs.declared.conference_lines.LegLine.{LegLine}
 use Rattle.sent_log.specs.States.{State, recording_of}
 use Rattle.sent_files.specs.Files.{recording_at, recordings_of}
 use Rattle.command_spec.specs.declared.faults.Fault.{Fault}

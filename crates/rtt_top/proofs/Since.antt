@@ -1,7 +1,7 @@
 -- A command whose first part changed nothing outside ends as its second part does.
 use Rattle.std.proofs.Common.{◌≡◌, ℕ, zero, suc, ◌+◌, true, Option, Some, None, List, [], ◌++◌, length, take, Ok, Err, refl, ap, sym, subst, ◌∙◌, inl, inr}
 use Rattle.std.specs.Prelude.{◌⊎◌, IsSome}
-use Rattle.file_spec.specs.Conf.{Conf}
+use Rattle.file_spec.specs.Conference.{Conference}
 use Rattle.command_spec.specs.declared.faults.Refusal.{Refusal}
 use Rattle.command_spec.specs.declared.faults.Refusal.TheVariants.{AtByte, AtFrame, AtLine, AtTrunk, AfterTurns}
 use Rattle.command_spec.specs.declared.faults.Fault.TheVariants.{WrongWords, CannotOpen, CannotRead, Refused, CannotPrint, CannotWrite, LinkFailed, NoMemory}
@@ -11,7 +11,7 @@ use Rattle.command_spec.specs.Work.{Contents, Made, Steps, Reads, Refuses, Makes
 use Rattle.command_spec.specs.Outcomes.{Outcome, Missing, Done, Served, outcome, outcome_from, IsDone, Same, AllStored}
 use Rattle.command_spec.specs.Outcomes as outcomes
 use Rattle.command_spec.specs.Messages.{Ending}
-use Rattle.file_spec.specs.declared.conf_lines.LegLine.{LegLine}
+use Rattle.file_spec.specs.declared.conference_lines.LegLine.{LegLine}
 use Rattle.command_spec.specs.Inputs.{LieBelow}
 use Rattle.bridge_run.specs.Mixes.{steps_of}
 use Rattle.rtt_top.specs.Conferences.{ComesToMixing, MakesOutputs, steps_counted}
@@ -38,7 +38,7 @@ output_since WorldTells old mid same (Refuses input refusal) n file i = absurd i
 output_since WorldTells old mid same (Makes printed files) n file i = i
 output_since WorldTells old mid same (Serves c) n file i = absurd i
 
-serves_since : (WorldTells : Type 0) (old mid : Contents) → (WorldTells → Same old mid) → (steps : Steps) (P : Conf → Type 0) → ServesSome WorldTells mid steps P → ServesSome WorldTells old steps P
+serves_since : (WorldTells : Type 0) (old mid : Contents) → (WorldTells → Same old mid) → (steps : Steps) (P : Conference → Type 0) → ServesSome WorldTells mid steps P → ServesSome WorldTells old steps P
 serves_since WorldTells old mid same (Reads name next) P s =
     (s.0, (λ told. sym (same told name) ∙ s.1 told), serves_since WorldTells old mid same (next s.0) P s.2)
 serves_since WorldTells old mid same (Refuses input refusal) P s = absurd s
@@ -81,7 +81,7 @@ done_since : (old mid : Contents) (steps : Steps) (P Q : List ℕ → List Made 
 done_since old mid steps P Q same f d = subst (λ o. IsDone o Q) (outcome_since old mid same 0 steps) (done_map (outcome mid steps) P Q f d)
 
 -- what comes to a mixing does so where as much lies there
-pub comes_since : (WorldTells : Type 0) (old mid : Contents) → (WorldTells → Same old mid) → (command : Command) (c : Conf) → ComesToMixing WorldTells old command c → ComesToMixing WorldTells mid command c
+pub comes_since : (WorldTells : Type 0) (old mid : Contents) → (WorldTells → Same old mid) → (command : Command) (c : Conference) → ComesToMixing WorldTells old command c → ComesToMixing WorldTells mid command c
 comes_since WorldTells old mid same command c m = record {
   reads = m.reads;
   prints = m.prints;

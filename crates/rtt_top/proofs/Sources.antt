@@ -5,12 +5,12 @@ use Rattle.rtt_io.specs.Counts.{Rose, counted, last_count}
 use Rattle.command_spec.specs.declared.faults.Refusal.TheVariants.{AtByte, AtFrame, AtLine, AtTrunk, AfterTurns}
 use Rattle.command_spec.specs.declared.faults.Fault.{Fault}
 use Rattle.command_spec.specs.declared.faults.Fault.TheVariants.{WrongWords, CannotOpen, CannotRead, Refused, CannotPrint, CannotWrite, LinkFailed, NoMemory}
-use Rattle.recording_starts.specs.declared.heads.Opened.{Opened}
+use Rattle.recording_starts.specs.declared.heads.HeadReader.{HeadReader}
 use Rattle.rtt_top.specs.Faults.{IsOfRecording}
 
 -- the source of a recording that was looked at
-pub same_source : {S : Type 0} (o p : Opened S) → o ≡ p → o.source ≡ p.source
-same_source {S} o p e = ap (λ (q : Opened S). q.source) e
+pub same_source : {S : Type 0} (o p : HeadReader S) → o ≡ p → o.source ≡ p.source
+same_source {S} o p e = ap (λ (q : HeadReader S). q.source) e
 
 counted_rose : (before after faults : ℕ) → after ≡ counted before faults → Rose 0 faults → Rose before after
 counted_rose before after faults e (inl r) = elim (cases_lt (before + faults) last_count) [ inl lt ↦ inl (omega arith) | inr ge ↦ inr (omega arith) ]

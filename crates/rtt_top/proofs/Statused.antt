@@ -6,8 +6,8 @@ use Rattle.command_spec.specs.Work.{Contents}
 use Rattle.rtt_words.specs.Words.{Command, Read, ListRecords, Send, Mix, Attend, Cascade, Make, Live, Watch, Relay, Channel, Show, Times, Script, Check, Help, Version}
 use Rattle.rtt_top.specs.declared.conversions.Conversion.{Conversion}
 use Rattle.rtt_top.specs.declared.conversions.Conversion.TheVariants as conversion
-use Rattle.rtt_top.specs.declared.recorded.Mixing.{Mixing}
-use Rattle.rtt_top.specs.declared.recorded.Mixing.TheVariants.{Attending, Plain}
+use Rattle.rtt_top.specs.declared.mix_modes.MixMode.{MixMode}
+use Rattle.rtt_top.specs.declared.mix_modes.MixMode.TheVariants.{Attending, Plain}
 use Rattle.rtt_top.specs.declared.views.RecordingView.{RecordingView}
 use Rattle.rtt_top.specs.declared.views.RecordingView.TheVariants as view
 use Rattle.rtt_words.specs.Words.{MixWords}
@@ -113,6 +113,6 @@ no_check_conversion (conversion.Script s) = refl
 no_check_conversion (conversion.Frames s) = refl
 no_check_conversion (conversion.Recording c) = refl
 
-pub no_check_mixing : (it : Mixing) (m : MixWords) → is_check (asked_as it m) ≡ false
+pub no_check_mixing : (it : MixMode) (m : MixWords) → is_check (asked_as it m) ≡ false
 no_check_mixing Plain m = refl
 no_check_mixing Attending m = refl

@@ -10,7 +10,7 @@ use Rattle.command_spec.specs.Work.{Contents, Steps, Makes, IsInput}
 use Rattle.rtt_words.specs.Tasks.{saves_frames, sending_of, unless_broken, work}
 use Rattle.command_spec.specs.Frames.{channel, relay}
 use Rattle.command_spec.specs.Showing.{show_refusal}
-use Rattle.frame_spec.specs.declared.frames.FrameFault.{FrameFault}
+use Rattle.frame_spec.specs.declared.frames.FrameRefusal.{FrameRefusal}
 use Rattle.command_spec.specs.Generated.{Generated, generated}
 use Rattle.command_spec.specs.Making.{makes_summary, making, recordings}
 use Rattle.command_spec.specs.Sums.{Sums, sums_mixed}
@@ -38,7 +38,7 @@ no_line WorldTells held None steps n refusal line none r = none r
 no_line WorldTells held (Some fault) steps n refusal line none r = true≢false (sym line ∙ sym (ap is_of_line r.1))
 
 -- frames are refused at no line
-no_frame_line : (WorldTells : Type 0) (held : Contents) (out : List ℕ) (frames : Result (List ℕ) FrameFault) (n : ℕ) (refusal : Refusal) → is_of_line refusal ≡ true
+no_frame_line : (WorldTells : Type 0) (held : Contents) (out : List ℕ) (frames : Result (List ℕ) FrameRefusal) (n : ℕ) (refusal : Refusal) → is_of_line refusal ≡ true
     → RefusesSo WorldTells held (saves_frames out frames) n refusal → ⊥
 no_frame_line WorldTells held out (Ok octets) n refusal line r = r
 no_frame_line WorldTells held out (Err fault) n refusal line r = true≢false (sym line ∙ sym (ap is_of_line r.1))

@@ -2,8 +2,8 @@
 use Rattle.std.proofs.Common.{◌≡◌, ◌≤◌, ℕ, ◌+◌, Bool, true, false, true≢false, Option, Some, None, List, [], ◌++◌, take, Result, Ok, Err, refl, ap, sym, subst, ◌∙◌, arith}
 use Rattle.std.specs.Prelude.{IfErr, IfOk, OnErr, OnOk, not}
 use Rattle.rtt_io.specs.declared.worlds.World as worlds
-use Rattle.file_spec.specs.declared.conf_lines.LegLine.{LegLine}
-use Rattle.file_spec.specs.Conf.{Conf}
+use Rattle.file_spec.specs.declared.conference_lines.LegLine.{LegLine}
+use Rattle.file_spec.specs.Conference.{Conference}
 use Rattle.check_spec.specs.Checking as checking
 use Rattle.check_spec.specs.Checking.{report}
 use Rattle.check_spec.specs.Looks.{Look, Opens, Tells, Tries, links_in, look, look_in, look_over, steps_of, told_by, told_over}
@@ -24,7 +24,7 @@ use Rattle.rtt_top.specs.Trials.{IsTold, RunsLook}
 use Rattle.rtt_top.proofs.Looking.{front_is, same_told}
 
 -- ---- a conference of links
-module _ {W S D : Type 0} (w : worlds.Ghosts W S D) (world : W) (file octets : List ℕ) (told : checking.Report) (legs : List LegLine) (c : Conf) where
+module _ {W S D : Type 0} (w : worlds.Ghosts W S D) (world : W) (file octets : List ℕ) (told : checking.Report) (legs : List LegLine) (c : Conference) where
   pub tried_told : (answers : Answers) → IsBegunIn w world file octets told legs → links_in octets ≡ Some c → w.tells
       → told_over answers (w.contents world) (look file) ≡ Some (ports_told answers octets c told)
   tried_told answers b is t =
@@ -33,7 +33,7 @@ module _ {W S D : Type 0} (w : worlds.Ghosts W S D) (world : W) (file octets : L
       let P : Option (List ℕ) → Option checking.Report = λ o. elim o [ None ↦ None | Some octets ↦ told_over answers held (look_in file octets) ] in
       ap P read.1
       ∙ (ap (told_over answers held) (front_is file octets read.0 read.2)
-      ∙ (ap (λ (x : Option Conf). told_over answers held (look_over x octets (report file octets))) is
+      ∙ (ap (λ (x : Option Conference). told_over answers held (look_over x octets (report file octets))) is
       ∙ ap (λ (r : checking.Report). Some (ports_told answers octets c r)) (sym b.1)))
 
   pub tried_alone : IsBegunIn w world file octets told legs → links_in octets ≡ Some c → w.tells → told_by (w.contents world) (look file) ≡ None
@@ -43,7 +43,7 @@ module _ {W S D : Type 0} (w : worlds.Ghosts W S D) (world : W) (file octets : L
       let P : Option (List ℕ) → Option checking.Report = λ o. elim o [ None ↦ None | Some octets ↦ told_by held (look_in file octets) ] in
       ap P read.1
       ∙ (ap (told_by held) (front_is file octets read.0 read.2)
-      ∙ ap (λ (x : Option Conf). told_by held (look_over x octets (report file octets))) is)
+      ∙ ap (λ (x : Option Conference). told_by held (look_over x octets (report file octets))) is)
 
   pub tried_outcome : IsBegunIn w world file octets told legs → links_in octets ≡ Some c → w.tells → outcome (w.contents world) (steps_of (look file)) ≡ Served c
   tried_outcome b is t =
@@ -52,13 +52,13 @@ module _ {W S D : Type 0} (w : worlds.Ghosts W S D) (world : W) (file octets : L
       let Q : Option (List ℕ) → Outcome = λ o. elim o [ None ↦ Missing 0 | Some octets ↦ outcome_from 1 held (steps_of (look_in file octets)) ] in
       ap Q read.1
       ∙ (ap (λ (l : Look). outcome_from 1 held (steps_of l)) (front_is file octets read.0 read.2)
-      ∙ ap (λ (x : Option Conf). outcome_from 1 held (steps_of (look_over x octets (report file octets)))) is)
+      ∙ ap (λ (x : Option Conference). outcome_from 1 held (steps_of (look_over x octets (report file octets)))) is)
 
-served : (o : Outcome) (c : Conf) (printed : List ℕ) (P : List ℕ → List Made → Type 0) → o ≡ Served c → P printed [] → IsDone o P
+served : (o : Outcome) (c : Conference) (printed : List ℕ) (P : List ℕ → List Made → Type 0) → o ≡ Served c → P printed [] → IsDone o P
 served o c printed P e p = subst (λ q. IsDone q P) (sym e) (printed, p)
 
 -- it ends so
-pub tried_ends : (w : CheckWords) (WorldTells OutTells : Type 0) (old new : Outside) (text : List ℕ) (res : Result Bool Fault) (c : Conf)
+pub tried_ends : (w : CheckWords) (WorldTells OutTells : Type 0) (old new : Outside) (text : List ℕ) (res : Result Bool Fault) (c : Conference)
     → (WorldTells → outcome_of (Check w) old ≡ Served c) → (WorldTells → Same old.contents new.contents)
     → IfErr res (λ fault. fault ≡ CannotPrint) → OnErr res (Failed old.out new.out) → (OutTells → OnOk res (Prints text old new)) → (OutTells → OnErr res (PrintsFront text old new))
     → Ends (Check w) WorldTells OutTells old new w.file (ending_of res)

@@ -1,10 +1,10 @@
 -- The faults of a mixing and of a live call, and the names of the files and legs that they are about.
 use Rattle.std.specs.Prelude.{◌≡◌, ℕ, zero, suc, ◌+◌, true, Option, None, Some, List, Ok, Err, length}
 use Rattle.std.specs.List.{concat}
-use Rattle.file_spec.specs.declared.conf_lines.Form.{Form}
-use Rattle.file_spec.specs.declared.conf_lines.Form.TheVariants.{Files}
-use Rattle.file_spec.specs.declared.conf_lines.LegLine.{LegLine}
-use Rattle.file_spec.specs.Conf.{Conf, conf}
+use Rattle.file_spec.specs.declared.conference_lines.Form.{Form}
+use Rattle.file_spec.specs.declared.conference_lines.Form.TheVariants.{Files}
+use Rattle.file_spec.specs.declared.conference_lines.LegLine.{LegLine}
+use Rattle.file_spec.specs.Conference.{Conference, conference_from}
 use Rattle.mixer_spec.specs.Setups.{leg_at}
 use Rattle.file_spec.specs.Lines as lines
 use Rattle.command_spec.specs.declared.faults.Refusal.TheVariants.{AtLine, AfterTurns}
@@ -17,16 +17,16 @@ use Rattle.rtt_words.specs.Tasks.{work}
 use Rattle.command_spec.specs.Outcomes.{Done, outcome, outcome_from}
 use Rattle.command_spec.specs.Inputs.{AllLie, LieBelow, inputs_under}
 use Rattle.command_spec.specs.Mixing.{counted, mixes_counted}
-use Rattle.bridge_run.specs.declared.mixed.Mixed.{Mixed}
+use Rattle.bridge_run.specs.declared.results.Mixed.{Mixed}
 use Rattle.sent_files.specs.Files.{recordings_of}
 use Rattle.bridge_run.specs.Mixes.{outputs_of, steps_of}
 use Rattle.rtt_top.specs.Faults.{WhereRead, fault_of_dump, is_mixed, is_recording}
 use Rattle.rtt_io.specs.declared.sinks.Sink as sinks
 use Rattle.rtt_io.specs.declared.worlds.World as worlds
 use Rattle.rtt_top.specs.Across.{EndsAcross}
-use Rattle.bridge_run.specs.declared.mixed.MixFault.{MixFault}
-use Rattle.bridge_run.specs.declared.mixed.MixFault.TheVariants.{Open, Dump, TooLong}
-use Rattle.bridge_run.specs.declared.mixed.MixFault.TheVariants as mix
+use Rattle.bridge_run.specs.declared.results.MixFault.{MixFault}
+use Rattle.bridge_run.specs.declared.results.MixFault.TheVariants.{Open, Dump, TooLong}
+use Rattle.bridge_run.specs.declared.results.MixFault.TheVariants as mix
 use Rattle.rtt_cascade.specs.declared.faults.CascadeFault.{CascadeFault}
 use Rattle.rtt_cascade.specs.declared.faults.CascadeFault.TheVariants as behind
 use Rattle.rtt_cascade.specs.Inputs as behind_inputs
@@ -100,19 +100,19 @@ ending_behind conference file legs ending = ending_name conference legs ending
 
 -- ---- what a command does with a conference
 -- It reads the file of this name first, whose form is this, and refuses what is no conference there.
-pub record ReadsConf (form : Form) (file : List ℕ) (c : Command) : Type 0 where
+pub record AsksConference (form : Form) (file : List ℕ) (c : Command) : Type 0 where
   pub next : List ℕ → Steps
   pub steps : (work c).steps ≡ Reads file next
-  pub refuses : (octets : List ℕ) (refusal : lines.Refusal) → conf form octets ≡ Err refusal
+  pub refuses : (octets : List ℕ) (refusal : lines.Refusal) → conference_from form octets ≡ Err refusal
       → next octets ≡ Refuses 0 (AtLine refusal.line refusal.kind)
 
 -- what a mixing of the conference comes to by what lies in files, with what is counted where it asks for that
-abbrev pub steps_counted : Contents → Conf → Steps
+abbrev pub steps_counted : Contents → Conference → Steps
 steps_counted held c = mixes_counted c (inputs_under held c.legs)
 
 -- By what lies in files, it comes to the mixing of this conference: its file is the first input, and then the input of each leg is
 -- one. Nothing has to be known of these for its outputs, which are those of the legs.
-pub record ComesToMixing (WorldTells : Type 0) (held : Contents) (command : Command) (c : Conf) : Type 0 where
+pub record ComesToMixing (WorldTells : Type 0) (held : Contents) (command : Command) (c : Conference) : Type 0 where
   pub reads : WhereRead (work command).steps WorldTells → WorldTells
   pub prints : (work command).prints ≡ true
   pub mixed : is_mixed command ≡ true
@@ -132,7 +132,7 @@ pub record MakesOutputs (WorldTells : Type 0) (held : Contents) (command : Comma
 
 -- a live call of it is served
 abbrev pub serving_of : List ℕ → Command
-serving_of file = Live (record { conf = file })
+serving_of file = Live (record { conference = file })
 
 -- the name that is told of an ending is that of the output of a leg, where it can't be written
 abbrev pub NamesOutputs : List LegLine → (Ending → List ℕ) → Type 0
@@ -147,19 +147,19 @@ module _ {W S D K : Type 0} (w : worlds.Ghosts W S D) (k : sinks.Ghosts K) where
       → EndsAcross w k command old out new out_then (name ending) ending
 
   -- Any command that comes to the mixing of this conference ends so, where its file has any name.
-  abbrev pub MixingEnds : W → K → W → K → Conf → Ending → Type 0
+  abbrev pub MixingEnds : W → K → W → K → Conference → Ending → Type 0
   MixingEnds old out new out_then c ending =
       (file : List ℕ) (command : Command) → ComesToMixing w.tells (w.contents old) command c
       → EndsAcross w k command old out new out_then (ending_name file c.legs ending) ending
 
   -- So it ends where this is what is counted of it.
-  abbrev pub MixingEndsWith : W → K → W → K → Conf → List ℕ → Ending → Type 0
+  abbrev pub MixingEndsWith : W → K → W → K → Conference → List ℕ → Ending → Type 0
   MixingEndsWith old out new out_then c lines ending =
       (w.tells → lines ≡ counted c (inputs_under (w.contents old) c.legs)) → MixingEnds old out new out_then c ending
 
   -- `cascade` ends so where the file of any name has this conference, behind a mixer of this SSRC, which is recorded in this file.
-  abbrev pub CascadingEnds : W → K → W → K → List ℕ → ℕ → Conf → Ending → Type 0
+  abbrev pub CascadingEnds : W → K → W → K → List ℕ → ℕ → Conference → Ending → Type 0
   CascadingEnds old out new out_then file ssrc c ending =
-      (conference octets : List ℕ) → (w.tells → w.contents old conference ≡ Some octets) → conf Files octets ≡ Ok c
-      → EndsAcross w k (Cascade (record { file = file; ssrc = ssrc; conf = conference })) old out new out_then
+      (conference octets : List ℕ) → (w.tells → w.contents old conference ≡ Some octets) → conference_from Files octets ≡ Ok c
+      → EndsAcross w k (Cascade (record { file = file; ssrc = ssrc; conference = conference })) old out new out_then
       (ending_behind conference file c.legs ending) ending

@@ -1,6 +1,6 @@
 -- The faults of frames that are relayed or written.
 use Rattle.std.specs.Prelude.{ℕ, ◌+◌}
-use Rattle.frame_spec.specs.declared.frames.FrameFault.{FrameFault}
+use Rattle.frame_spec.specs.declared.frames.FrameRefusal.{FrameRefusal}
 use Rattle.frame_spec.specs.declared.limits.TheConstants.{FRAME_HEAD_OCTETS, MOST_FRAMES_OCTETS}
 use Rattle.command_spec.specs.declared.faults.Refusal.TheVariants.{AtFrame}
 use Rattle.command_spec.specs.declared.faults.Fault.{Fault}
@@ -16,7 +16,7 @@ abbrev pub most_read : ℕ
 most_read = MOST_FRAMES_OCTETS + FRAME_HEAD_OCTETS
 
 -- a refusal of frames of the first input
-abbrev pub refused_frames : FrameFault → Fault
+abbrev pub refused_frames : FrameRefusal → Fault
 refused_frames fault = Refused 0 (AtFrame fault.offset fault.kind)
 
 abbrev pub fault_of_relay : RelayFault → Fault

@@ -1,8 +1,8 @@
 -- What a live call leaves (profile).
 use Rattle.std.specs.Prelude.{◌≡◌, ◌⊎◌, ◌==◌, ◌||◌, ℕ, Bool, true, not, Option, None, Some, List, ◌++◌, take, Result, Ok, Err, IfErr, OnErr}
 use Rattle.link_spec.specs.Links.{Takes}
-use Rattle.file_spec.specs.declared.conf_lines.Form.TheVariants.{Links}
-use Rattle.file_spec.specs.Conf.{Conf, conf}
+use Rattle.file_spec.specs.declared.conference_lines.Form.TheVariants.{Links}
+use Rattle.file_spec.specs.Conference.{Conference, conference_from}
 use Rattle.command_spec.specs.declared.faults.Fault.TheVariants.{WrongWords, CannotOpen, CannotRead, Refused, CannotPrint, CannotWrite, LinkFailed, NoMemory}
 use Rattle.rtt_io.specs.Fronts.{TakesFront}
 use Rattle.command_spec.specs.Messages.{Ending, status_of}
@@ -20,8 +20,8 @@ use Rattle.live_run.specs.Calls.{AtPorts, BrokeOff, WasPaced, at_ports_of}
 use Rattle.live_run.specs.Ends.{packets_in}
 use Rattle.live_run.specs.Opened.{LeadsAll, LeadsSome}
 use Rattle.live_run.specs.Spans.{Span}
-use Rattle.rtt_top.specs.declared.serving.Serving.{Serving}
-use Rattle.rtt_top.specs.declared.serving.Serving.TheVariants.{Alone, Watched}
+use Rattle.rtt_top.specs.declared.serve_modes.ServeMode.{ServeMode}
+use Rattle.rtt_top.specs.declared.serve_modes.ServeMode.TheVariants.{Alone, Watched}
 use Rattle.rtt_top.specs.Conferences.{fault_of_live, serving_of}
 use Rattle.rtt_top.specs.Faults.{is_live}
 use Rattle.rtt_top.specs.Outside.{Failed, LinksLeft, Output, Outside, output_at}
@@ -39,7 +39,7 @@ span_between old new = record { pauses = old.pauses; first = old.moment; last = 
 -- the links that were opened are one of each leg, from its port to its peer, and no other; and where all
 -- turns were made, a tick went by for each. No call that opens a link failed,
 -- and where all links were closed, none of their ends did.
-pub record IsServedTo (c : Conf) (LinksTell : Type 0) (old new : LinksLeft) (end : End) (printed : List ℕ) : Type 0 where
+pub record IsServedTo (c : Conference) (LinksTell : Type 0) (old new : LinksLeft) (end : End) (printed : List ℕ) : Type 0 where
   pub takes : ℕ → Takes
   pub given : ℕ → List (List ℕ)
   pub keeps : HeadLive c takes given end printed
@@ -54,7 +54,7 @@ pub record IsServedTo (c : Conf) (LinksTell : Type 0) (old new : LinksLeft) (end
 
 -- The same by `watch`: behind what is printed of a live call stand the lines of its board, which count what the mixer took in that very
 -- call: of each leg at least what any aware terminal was given of its text.
-pub record IsWatchedTo (c : Conf) (LinksTell : Type 0) (old new : LinksLeft) (end : End) (printed : List ℕ) : Type 0 where
+pub record IsWatchedTo (c : Conference) (LinksTell : Type 0) (old new : LinksLeft) (end : End) (printed : List ℕ) : Type 0 where
   pub views : List ℕ
   pub lines : List ℕ
   pub served : IsServedTo c LinksTell old new end views
@@ -63,20 +63,20 @@ pub record IsWatchedTo (c : Conf) (LinksTell : Type 0) (old new : LinksLeft) (en
   pub printed_is : printed ≡ views ++ lines
 
 -- what serving a live call so means
-abbrev pub served_by : Serving → Conf → (LinksTell : Type 0) → LinksLeft → LinksLeft → End → List ℕ → Type 0
+abbrev pub served_by : ServeMode → Conference → (LinksTell : Type 0) → LinksLeft → LinksLeft → End → List ℕ → Type 0
 served_by Alone c LinksTell old new = IsServedTo c LinksTell old new
 served_by Watched c LinksTell old new = IsWatchedTo c LinksTell old new
 
 -- a conference that some file of its form describes was served, as S says
-abbrev pub ServedAs : (S : Conf → Type 0 → LinksLeft → LinksLeft → End → List ℕ → Type 0) → Type 0 → LinksLeft → LinksLeft → Conf → End → List ℕ → Type 0
-ServedAs S LinksTell old new c end printed = (octets : List ℕ) → conf Links octets ≡ Ok c → S c LinksTell old new end printed
+abbrev pub ServedAs : (S : Conference → Type 0 → LinksLeft → LinksLeft → End → List ℕ → Type 0) → Type 0 → LinksLeft → LinksLeft → Conference → End → List ℕ → Type 0
+ServedAs S LinksTell old new c end printed = (octets : List ℕ) → conference_from Links octets ≡ Ok c → S c LinksTell old new end printed
 
 -- it was served to some end, as S says, and this holds of what was printed of it
 abbrev pub IsServedWith : (S : End → List ℕ → Type 0) → (List ℕ → Type 0) → Type 0
 IsServedWith S P = (end : End) × (printed : List ℕ) × S end printed × P printed
 
 -- how a live call of a conference ends, by what links and the output left
-abbrev pub LiveEnds : (S : End → List ℕ → Type 0) (OutTells : Type 0) → (old new : LinksLeft) → (before after : Output) → Conf → Ending → Type 0
+abbrev pub LiveEnds : (S : End → List ℕ → Type 0) (OutTells : Type 0) → (old new : LinksLeft) → (before after : Output) → Conference → Ending → Type 0
 LiveEnds S OutTells old new before after c (Ok done) =
     IsServedWith S (λ printed. OutTells → after.octets ≡ before.octets ++ printed)
 LiveEnds S OutTells old new before after c (Err WrongWords) = ⊥
@@ -91,9 +91,9 @@ LiveEnds S OutTells old new before after c (Err (LinkFailed leg)) = (after ≡ b
 LiveEnds S OutTells old new before after c (Err NoMemory) = after ≡ before
 
 -- the same of a conference that some file of its form describes
-abbrev pub ServingEnds : (S : End → List ℕ → Type 0) (OutTells : Type 0) → (old new : LinksLeft) → (before after : Output) → Conf → Ending → Type 0
+abbrev pub ServingEnds : (S : End → List ℕ → Type 0) (OutTells : Type 0) → (old new : LinksLeft) → (before after : Output) → Conference → Ending → Type 0
 ServingEnds S OutTells old new before after c ending =
-    (octets : List ℕ) → conf Links octets ≡ Ok c → LiveEnds S OutTells old new before after c ending
+    (octets : List ℕ) → conference_from Links octets ≡ Ok c → LiveEnds S OutTells old new before after c ending
 
 -- what was seen of a call is printed, where this was served; or nothing is, and the ending tells why it was given up
 abbrev pub PrintsReport : {K : Type 0} → sinks.Ghosts K → Result LiveReport LiveFault → K → K → Ending → Type 0
@@ -118,11 +118,11 @@ PrintsShare Whole printed old new = Prints printed old new
 PrintsShare Front printed old new = PrintsFront printed old new
 
 -- A live call of the conference in this file was served to its end, as S says: the headline, from the file to what was printed.
-pub record IsServedFrom (share : Share) (S : Conf → End → List ℕ → Type 0) (WorldTells OutTells : Type 0) (m : MixWords) (old new : Outside) : Type 0 where
+pub record IsServedFrom (share : Share) (S : Conference → End → List ℕ → Type 0) (WorldTells OutTells : Type 0) (m : MixWords) (old new : Outside) : Type 0 where
   pub octets : List ℕ
-  pub lies : WorldTells → old.contents m.conf ≡ Some octets
-  pub conference : Conf
-  pub is : conf Links octets ≡ Ok conference
+  pub lies : WorldTells → old.contents m.conference ≡ Some octets
+  pub conference : Conference
+  pub is : conference_from Links octets ≡ Ok conference
   pub end : End
   pub printed : List ℕ
   pub served : S conference end printed
@@ -130,7 +130,7 @@ pub record IsServedFrom (share : Share) (S : Conf → End → List ℕ → Type 
 
 -- A live call of the conference was given up. Where the links tell it, the links that were opened are those of some legs, from the
 -- first one on, each from its port to its peer, and no other. It broke off, or no terminal was given anything.
-pub record IsGivenUp (c : Conf) (LinksTell : Type 0) (old new : LinksLeft) : Type 0 where
+pub record IsGivenUp (c : Conference) (LinksTell : Type 0) (old new : LinksLeft) : Type 0 where
   pub leads : LinksTell → LeadsSome c old.leads new.leads
   pub broke_off : BrokeOff LinksTell (span_between old new) old.given new.taken new.given c
 
@@ -143,9 +143,9 @@ OnGivenUp _ P = Unit {0}
 -- a live call of the conference in this file was given up so
 pub record IsGivenUpFrom (WorldTells LinksTell : Type 0) (m : MixWords) (old new : Outside) : Type 0 where
   pub octets : List ℕ
-  pub lies : WorldTells → old.contents m.conf ≡ Some octets
-  pub conference : Conf
-  pub is : conf Links octets ≡ Ok conference
+  pub lies : WorldTells → old.contents m.conference ≡ Some octets
+  pub conference : Conference
+  pub is : conference_from Links octets ≡ Ok conference
   pub given_up : IsGivenUp conference LinksTell old.links new.links
 
 -- at the status 8 one was; at 70 one was, or no link was used
@@ -154,7 +154,7 @@ pub record GivesUp (WorldTells LinksTell : Type 0) (m : MixWords) (old new : Out
   pub no_memory : status ≡ 70 → IsGivenUpFrom WorldTells LinksTell m old new ⊎ (new.links ≡ old.links)
 
 -- A live call of the conference in this file was served so, at the status 0 or 7, or given up so, at 8 or 70.
-pub record IsCallOf (S : Conf → End → List ℕ → Type 0) (WorldTells OutTells LinksTell : Type 0) (m : MixWords) (old new : Outside) (status : ℕ) : Type 0 where
+pub record IsCallOf (S : Conference → End → List ℕ → Type 0) (WorldTells OutTells LinksTell : Type 0) (m : MixWords) (old new : Outside) (status : ℕ) : Type 0 where
   pub served : (share : Share) → status ≡ status_at share → IsServedFrom share S WorldTells OutTells m old new
   pub given_up : GivesUp WorldTells LinksTell m old new status
 

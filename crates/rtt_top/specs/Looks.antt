@@ -3,7 +3,7 @@ use Rattle.std.specs.Prelude.{◌≡◌, ℕ, ◌+◌, Bool, false, List, Option
 use Rattle.rtt_io.specs.declared.worlds.World as worlds
 use Rattle.rtt_io.specs.Names.{SameBut}
 use Rattle.rtt_io.specs.Names as names
-use Rattle.file_spec.specs.declared.conf_lines.LegLine.{LegLine}
+use Rattle.file_spec.specs.declared.conference_lines.LegLine.{LegLine}
 use Rattle.command_spec.specs.declared.faults.Fault.{Fault}
 use Rattle.command_spec.specs.declared.faults.Fault.TheVariants.{WrongWords, CannotOpen, CannotRead, Refused, CannotPrint, CannotWrite, LinkFailed, NoMemory}
 use Rattle.command_spec.specs.Messages.{Ending}
@@ -41,8 +41,8 @@ IsInputFrom WorldTells held steps first name n = (k : ℕ) × (n ≡ first + k) 
 
 -- what lies there, as far as that is told, is looked at as the IN of this leg of the conference that has these octets, and this is told
 abbrev pub LooksAt : (WorldTells : Type 0) → Contents → ℕ → List ℕ → LegLine → Option Report → Type 0
-LooksAt WorldTells held limit conf leg found = (octets : List ℕ) × (WorldTells → held leg.input ≡ Some octets)
-    × (option_map as_told found ≡ leg_told limit conf leg octets)
+LooksAt WorldTells held limit conference leg found = (octets : List ℕ) × (WorldTells → held leg.input ≡ Some octets)
+    × (option_map as_told found ≡ leg_told limit conference leg octets)
 
 module _ {W S D : Type 0} (w : worlds.Ghosts W S D) where
   -- nothing was changed, and no count rose
@@ -67,17 +67,17 @@ module _ {W S D : Type 0} (w : worlds.Ghosts W S D) where
 
   -- so of the IN of one of these legs
   abbrev pub IsUnreadAmong : ℕ → List ℕ → List LegLine → ℕ → W → W → List ℕ → Fault → Type 0
-  IsUnreadAmong limit conf legs first old new name fault = (before : W) → SameIn before old → (told : checking.Report)
-      → IsUnreadWhere (IsInputFrom w.tells (w.contents before) (steps_of (looks_at limit conf legs told)) first name) before new name fault
+  IsUnreadAmong limit conference legs first old new name fault = (before : W) → SameIn before old → (told : checking.Report)
+      → IsUnreadWhere (IsInputFrom w.tells (w.contents before) (steps_of (looks_at limit conference legs told)) first name) before new name fault
 
   -- this is told of the IN of a leg
   abbrev pub LooksAtIn : ℕ → List ℕ → LegLine → W → Option Report → Type 0
-  LooksAtIn limit conf leg old found = (before : W) → SameIn before old → LooksAt w.tells (w.contents before) limit conf leg found
+  LooksAtIn limit conference leg old found = (before : W) → SameIn before old → LooksAt w.tells (w.contents before) limit conference leg found
 
   -- this is told of those of all these legs, and of the file where there is nothing to tell of them
   abbrev pub LooksAmongIn : ℕ → List ℕ → List LegLine → W → Option Report → Type 0
-  LooksAmongIn limit conf legs old found = (before : W) → SameIn before old → w.tells → (told : checking.Report)
-      → told_by (w.contents before) (looks_at limit conf legs told) ≡ Some (told_of found told)
+  LooksAmongIn limit conference legs old found = (before : W) → SameIn before old → w.tells → (told : checking.Report)
+      → told_by (w.contents before) (looks_at limit conference legs told) ≡ Some (told_of found told)
 
   -- these octets were read of the file of this name, of which alone this is told, and these legs are to be looked at
   abbrev pub IsBegunIn : W → List ℕ → List ℕ → checking.Report → List LegLine → Type 0

@@ -1,6 +1,6 @@
 -- Commands that print a view of a recording.
 use Rattle.std.specs.Prelude.{◌≡◌, ℕ, true, Option, List, []}
-use Rattle.rtt_base.specs.declared.text_packets.Pts.{Pts}
+use Rattle.rtt_base.specs.declared.text_packets.PayloadTypes.{PayloadTypes}
 use Rattle.wire_spec.specs.Dump.{Recording, dump, usual_limit}
 use Rattle.wire_spec.specs.Dump as dumps
 use Rattle.rtpdump_io.specs.declared.items.RecordingFault.{RecordingFault}
@@ -38,28 +38,28 @@ IsRefusal refused fault = FaultOf (record { items = []; fault = refused }) fault
 
 -- the words that ask for this of the recording of this name
 abbrev pub words_for : ReadRequest → List ℕ → ReadWords
-words_for r file = record { file = file; ssrc = r.ssrc; source = r.source; pts = r.pts }
+words_for r file = record { file = file; ssrc = r.ssrc; source = r.source; payload_types = r.payload_types }
 
 -- the command that prints this of the recording of this name
 abbrev pub command_of : RecordingView → List ℕ → Command
-command_of (Lines pts) file = ListRecords (record { file = file; pts = pts })
-command_of (Streams pts) file = Show (record { file = file; pts = pts })
-command_of (Times pts) file = words.Times (record { file = file; pts = pts })
+command_of (Lines payload_types) file = ListRecords (record { file = file; payload_types = payload_types })
+command_of (Streams payload_types) file = Show (record { file = file; payload_types = payload_types })
+command_of (Times payload_types) file = words.Times (record { file = file; payload_types = payload_types })
 command_of (Text request) file = Read (words_for request file)
 command_of (Transcript request) file = Script (words_for request file)
 
 -- why nothing is printed, where the recording has this fault or none
 abbrev pub refused_by : RecordingView → Option dumps.Fault → Option dumps.Fault
-refused_by (Lines pts) fault = fault
-refused_by (Streams pts) fault = if_no_recording fault
-refused_by (Times pts) fault = if_no_recording fault
+refused_by (Lines payload_types) fault = fault
+refused_by (Streams payload_types) fault = if_no_recording fault
+refused_by (Times payload_types) fault = if_no_recording fault
 refused_by (Text request) fault = fault
 refused_by (Transcript request) fault = fault
 
 -- the view of the recording with these octets
 abbrev pub view_by : RecordingView → List ℕ → List ℕ
-view_by (Lines pts) octets = list_view pts (dump usual_limit octets).items
-view_by (Streams pts) octets = show_view pts octets
-view_by (Times pts) octets = times_view pts octets
+view_by (Lines payload_types) octets = list_view payload_types (dump usual_limit octets).items
+view_by (Streams payload_types) octets = show_view payload_types octets
+view_by (Times payload_types) octets = times_view payload_types octets
 view_by (Text request) octets = read_view request octets
 view_by (Transcript request) octets = transcript_view request octets

@@ -198,9 +198,9 @@ pub record IsMadeOf (Says : Contents → Contents → List ℕ → Type 0) (OutT
 -- What a command makes of a conference is bridged: the headline, from its files to what lies there then and what was printed. With
 -- `attend` it is so under the names and leavings that its inputs tell, with `cascade` behind both mixers.
 abbrev pub IsMadeBy : Command → (OutTells : Type 0) → Outside → Outside → Type 0
-IsMadeBy (Mix m) = IsMadeOf (λ held after. IsBridged held after m.conf)
-IsMadeBy (Attend m) = IsMadeOf (λ held after. IsAttended held after m.conf)
-IsMadeBy (Cascade w) = IsMadeOf (λ held after. IsCascaded held after w.conf w.file w.ssrc)
+IsMadeBy (Mix m) = IsMadeOf (λ held after. IsBridged held after m.conference)
+IsMadeBy (Attend m) = IsMadeOf (λ held after. IsAttended held after m.conference)
+IsMadeBy (Cascade w) = IsMadeOf (λ held after. IsCascaded held after w.conference w.file w.ssrc)
 IsMadeBy _ = λ OutTells old new. Unit {0}
 
 -- What a run is that ends with this status, where the output of errors was and is such.

@@ -1,11 +1,11 @@
 -- What one call finds in a world, and what it leaves there.
 use Rattle.std.specs.Prelude.{◌≡◌, ◌⊎◌, ℕ, None, Some, List, [], ◌∷◌, Ok}
 use Rattle.rtt_io.specs.declared.worlds.World as worlds
-use Rattle.conference.specs.declared.confs.Conf.{Conf}
-use Rattle.conference.specs.Conferences.{conf_of}
-use Rattle.file_spec.specs.declared.conf_lines.Form.{Form}
-use Rattle.file_spec.specs.declared.conf_lines.LegLine.{LegLine}
-use Rattle.file_spec.specs.Conf.{conf}
+use Rattle.conference.specs.declared.conferences.Conference.{Conference}
+use Rattle.conference.specs.Conferences.{meaning_of}
+use Rattle.file_spec.specs.declared.conference_lines.Form.{Form}
+use Rattle.file_spec.specs.declared.conference_lines.LegLine.{LegLine}
+use Rattle.file_spec.specs.Conference.{conference_from}
 use Rattle.file_spec.specs.Script.{ScriptLine, script}
 use Rattle.command_spec.specs.declared.faults.Fault.{Fault}
 use Rattle.rtt_words.specs.Words.{SendWords, ChannelWords, Command}
@@ -56,8 +56,8 @@ module _ {W S D : Type 0} (w : worlds.Ghosts W S D) where
   OfOctets world name P = (octets : List ℕ) × (w.tells → w.contents world name ≡ Some octets) × P octets
 
   -- this conference, whose file has this form, is read under this name
-  abbrev pub ReadsConference : Form → W → List ℕ → Conf → Type 0
-  ReadsConference form world name c = OfOctets world name (λ octets. conf form octets ≡ Ok (conf_of c))
+  abbrev pub ReadsConference : Form → W → List ℕ → Conference → Type 0
+  ReadsConference form world name c = OfOctets world name (λ octets. conference_from form octets ≡ Ok (meaning_of c))
 
   -- these lines of a script are read under this name
   abbrev pub ReadsScript : W → List ℕ → List ScriptLine → Type 0

@@ -6,7 +6,7 @@ ghost use Rattle.rtt_words.specs.Words.{Check};
 ghost use Rattle.command_spec.specs.Messages.{status_of};
 ghost use Rattle.command_spec.specs.Outcomes.{Same};
 ghost use Rattle.check_spec.specs.Looks.{links_in};
-ghost use Rattle.conference.specs.Conferences.{conf_of};
+ghost use Rattle.conference.specs.Conferences.{meaning_of};
 ghost use Rattle.rtt_check.specs.Reports.{as_told, told_of};
 ghost use Rattle.rtt_top.specs.Outside.{output_at};
 ghost use Rattle.rtt_top.specs.Trials.{RunsLook};
@@ -21,7 +21,7 @@ use crate::files::read_input;
 use crate::messages::{finish_with, print};
 use check_spec::limits::MOST_CHECKED_OCTETS;
 use command_spec::Fault;
-use conference::{Conf, LegLine, Legs};
+use conference::{Conference, LegLine, Legs};
 use port_io::Ports;
 use rtt_base::{Bytes, NoMemory};
 use rtt_check::{
@@ -33,16 +33,16 @@ use std::alloc::Global;
 
 /// A file that was read, what is told of it alone, the legs whose INs are to be looked at, and the conference whose ports are.
 #[derive(Debug, Drop)]
-pub(crate) struct Begun {
+pub(crate) struct CheckStart {
     octets: Bytes,
     told: Report,
     legs: Legs,
-    links: Option<Conf>,
+    links: Option<Conference>,
 }
 
 /// Why an input could not be read to its end, and its name.
 #[derive(Debug, Drop)]
-pub(crate) struct Unread<'a> {
+pub(crate) struct InputFault<'a> {
     fault: Fault,
     name: &'a str,
 }
@@ -52,10 +52,10 @@ fn begin_look<W: World>(
     alloc: Global,
     words: &CheckWords<'_>,
     world: &mut W,
-) -> Result<Begun, Fault>
+) -> Result<CheckStart, Fault>
     ensures stops { IfErr result (StopsOver W.World world.old world.new words.now.file.now (Check (checked words.now))) }
     ensures begun { IfOk result (λ b. IsBegunIn W.World world.old words.now.file.now b.octets (as_told b.told) b.legs) }
-    ensures links { IfOk result (λ b. option_map conf_of b.links ≡ links_in b.octets) }
+    ensures links { IfOk result (λ b. option_map meaning_of b.links ≡ links_in b.octets) }
     ensures same { OnOk result (SameIn W.World world.old world.new) }
     ensures same_contents { W.tells → Same (W.contents world.old) (W.contents world.new) }
 {
@@ -72,7 +72,7 @@ fn begin_look<W: World>(
     let Ok(links) = links_in(alloc, octets.as_slice()) else {
         return Err(Fault::NoMemory);
     };
-    Ok(Begun {
+    Ok(CheckStart {
         octets,
         told,
         legs,
@@ -95,14 +95,14 @@ fn fault_at(input: u32, fault: Fault) -> Fault
 fn look_input<W: World>(
     alloc: Global,
     limit: u32,
-    conf: &[u8],
+    conference: &[u8],
     leg: &LegLine,
     input: u32,
     world: &mut W,
 ) -> Result<Option<Report>, Fault>
     requires { limit ≤ MOST_RECORDING_OCTETS }
     ensures unread { IfErr result (IsUnreadAt W.World input world.old world.new leg.now.input) }
-    ensures looks { IfOk result (LooksAtIn W.World limit conf.now leg.now world.old) }
+    ensures looks { IfOk result (LooksAtIn W.World limit conference.now leg.now world.old) }
     ensures same { OnOk result (SameIn W.World world.old world.new) }
     ensures same_contents { W.tells → Same (W.contents world.old) (W.contents world.new) }
 {
@@ -110,7 +110,7 @@ fn look_input<W: World>(
         Ok(octets) => octets,
         Err(fault) => return Err(fault_at(input, fault)),
     };
-    match leg_told(alloc, limit, conf, leg, octets.as_slice()) {
+    match leg_told(alloc, limit, conference, leg, octets.as_slice()) {
         Ok(found) => Ok(found),
         Err(NoMemory) => Err(Fault::NoMemory),
     }
@@ -131,27 +131,27 @@ fn first_of(legs: &[LegLine]) -> Option<(&LegLine, &[LegLine])>
 fn look_inputs<'a, W: World>(
     alloc: Global,
     limit: u32,
-    conf: &[u8],
+    conference: &[u8],
     legs: &'a [LegLine],
     input: u32,
     world: &mut W,
-) -> Result<Option<Report>, Unread<'a>>
+) -> Result<Option<Report>, InputFault<'a>>
     requires limit { limit ≤ MOST_RECORDING_OCTETS }
     requires few { input + length legs.now < 2 ^ 32 }
-    ensures unread { IfErr result (λ u. IsUnreadAmong W.World limit conf.now legs.now input world.old world.new u.name.now u.fault) }
-    ensures looks { IfOk result (LooksAmongIn W.World limit conf.now legs.now world.old) }
+    ensures unread { IfErr result (λ u. IsUnreadAmong W.World limit conference.now legs.now input world.old world.new u.name.now u.fault) }
+    ensures looks { IfOk result (LooksAmongIn W.World limit conference.now legs.now world.old) }
     ensures same_contents { W.tells → Same (W.contents world.old) (W.contents world.new) }
 {
     let Some((leg, more)) = first_of(legs) else {
         return Ok(None);
     };
     if is_on_trunk(leg) {
-        return look_inputs(alloc, limit, conf, more, input, world);
+        return look_inputs(alloc, limit, conference, more, input, world);
     }
-    let found = match look_input(alloc, limit, conf, leg, input, world) {
+    let found = match look_input(alloc, limit, conference, leg, input, world) {
         Ok(found) => found,
         Err(fault) => {
-            return Err(Unread {
+            return Err(InputFault {
                 fault,
                 name: leg.input.as_str(),
             });
@@ -159,7 +159,7 @@ fn look_inputs<'a, W: World>(
     };
     match found {
         Some(report) => Ok(Some(report)),
-        None => look_inputs(alloc, limit, conf, more, input + 1, world),
+        None => look_inputs(alloc, limit, conference, more, input + 1, world),
     }
 }
 
@@ -240,8 +240,8 @@ pub(crate) fn run_check<W: World, P: Ports, K: Sink, E: Sink>(
         Ok(begun) => begun,
         Err(fault) => return finish_look(Err(fault), words.file, err),
     };
-    if let Some(conf) = &begun.links {
-        let Ok(found) = ports_told(alloc, begun.octets.as_slice(), conf, ports) else {
+    if let Some(conference) = &begun.links {
+        let Ok(found) = ports_told(alloc, begun.octets.as_slice(), conference, ports) else {
             return finish_look(Err(Fault::NoMemory), words.file, err);
         };
         let printed = print_found(found, &begun.told, out);

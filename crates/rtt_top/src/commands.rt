@@ -8,7 +8,7 @@ ghost use Rattle.rtt_top.specs.Across.{RunsAcross};
 use crate::conversions::{Conversion, run_conversion};
 use crate::help::run_help;
 use crate::make::run_make;
-use crate::recorded::{Mixing, run_mixing};
+use crate::mix_modes::{MixMode, run_mixing};
 use crate::recordings::run_view;
 use crate::trunk::run_cascade;
 use crate::version::run_version;
@@ -37,15 +37,15 @@ pub fn carry_out_plain<W: World, K: Sink, E: Sink>(
             Some(run_view(alloc, words.file, text, world, out, err))
         }
         Command::ListRecords(words) => {
-            let lines = RecordingView::Lines(words.pts);
+            let lines = RecordingView::Lines(words.payload_types);
             Some(run_view(alloc, words.file, lines, world, out, err))
         }
         Command::Show(words) => {
-            let streams = RecordingView::Streams(words.pts);
+            let streams = RecordingView::Streams(words.payload_types);
             Some(run_view(alloc, words.file, streams, world, out, err))
         }
         Command::Times(words) => {
-            let times = RecordingView::Times(words.pts);
+            let times = RecordingView::Times(words.payload_types);
             Some(run_view(alloc, words.file, times, world, out, err))
         }
         Command::Script(words) => {
@@ -95,11 +95,11 @@ pub fn carry_out<R: Threads + Wait + Sync, W: World, K: Sink, E: Sink, G: Gate +
     }
     match command {
         Command::Mix(words) => {
-            let plain = Mixing::Plain;
+            let plain = MixMode::Plain;
             run_mixing(plain, rt, alloc, words, world, out, err, gate)
         }
         Command::Attend(words) => {
-            let attending = Mixing::Attending;
+            let attending = MixMode::Attending;
             run_mixing(attending, rt, alloc, words, world, out, err, gate)
         }
         Command::Cascade(words) => run_cascade(rt, alloc, words, world, out, err, gate),

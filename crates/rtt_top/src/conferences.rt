@@ -4,25 +4,25 @@ ghost use Rattle.rtt_io.specs.Names.{NoneFalls, Same as KeepsCounts};
 ghost use Rattle.mixer_spec.specs.Setups.{leg_at};
 ghost use Rattle.command_spec.specs.Outcomes.{Same};
 ghost use Rattle.rtt_words.specs.Words.{Command};
-ghost use Rattle.rtt_top.specs.Conferences.{ReadsConf, ending_name, fault_name, input_name};
+ghost use Rattle.rtt_top.specs.Conferences.{AsksConference, ending_name, fault_name, input_name};
 ghost use Rattle.rtt_top.specs.Worlds.{StopsOver, ReadsConference};
 
 use crate::files::{read_input, refused_line};
 use command_spec::Fault;
 use conf_text::{ConfFault, Form, read_conf};
-use conference::{Conf, LegLine};
-use file_spec::limits::MOST_CONF_OCTETS;
+use conference::{Conference, LegLine};
+use file_spec::limits::MOST_CONFERENCE_OCTETS;
 use rtt_io::World;
 use std::alloc::Global;
 
 /// The conference that lies under this name, in a file of this form.
-pub(crate) fn conf_under<W: World>(
+pub(crate) fn conference_under<W: World>(
     alloc: Global,
     name: &str,
     form: Form,
     world: &mut W,
-) -> Result<Conf, Fault>
-    ensures stops { (c : Command) → ReadsConf form name.now c → IfErr result (StopsOver W.World world.old world.new name.now c) }
+) -> Result<Conference, Fault>
+    ensures stops { (c : Command) → AsksConference form name.now c → IfErr result (StopsOver W.World world.old world.new name.now c) }
     ensures read { IfOk result (ReadsConference W.World form world.old name.now) }
     ensures same_contents { W.tells → Same (W.contents world.old) (W.contents world.new) }
     ensures calm { OnOk result (KeepsCounts W.object_faults world.old world.new) }
@@ -30,12 +30,12 @@ pub(crate) fn conf_under<W: World>(
     ensures calls_never_fall { NoneFalls W.own_faults world.old world.new }
     ensures objects_never_fall { NoneFalls W.object_faults world.old world.new }
 {
-    let octets = match read_input(alloc, name, MOST_CONF_OCTETS, world) {
+    let octets = match read_input(alloc, name, MOST_CONFERENCE_OCTETS, world) {
         Ok(octets) => octets,
         Err(fault) => return Err(fault),
     };
     match read_conf(alloc, octets.as_slice(), form) {
-        Ok(conf) => Ok(conf),
+        Ok(conference) => Ok(conference),
         Err(ConfFault::Refused { line, kind }) => Err(refused_line(line, kind)),
         Err(ConfFault::NoMemory) => Err(Fault::NoMemory),
     }

@@ -13,7 +13,7 @@ ghost use Rattle.rtt_top.specs.Worlds.{IsUnreadIn, FailedIn, Saves, SavesPartly}
 
 use command_spec::{Fault, Refusal};
 use file_spec::ConfKind;
-use frame_spec::FrameFault;
+use frame_spec::FrameRefusal;
 use rtpdump_io::{DumpFault, RecordingFault};
 use rtt_base::{Bytes, Failed};
 use rtt_io::{ReadFault, Sink, World, read_whole};
@@ -60,7 +60,7 @@ pub(crate) fn refused_line(line: u32, kind: ConfKind) -> Fault
 }
 
 /// The fault of a command whose first input has frames that are refused.
-pub(crate) fn refused_frames(fault: FrameFault) -> Fault
+pub(crate) fn refused_frames(fault: FrameRefusal) -> Fault
     ensures { result ≡ refused_frames fault }
 {
     Fault::Refused {

@@ -13,13 +13,13 @@ mod make;
 mod messages;
 mod mix;
 mod names;
-mod recorded;
+mod mix_modes;
 mod recordings;
 mod relay;
 mod runs;
 mod send;
-mod serving;
-mod told;
+mod serve_modes;
+mod name_texts;
 mod trunk;
 mod version;
 mod views;
@@ -28,7 +28,7 @@ pub use messages::finish_with;
 pub use runs::{run, run_plain};
 
 #[cfg(test)]
-mod failing;
+mod failures;
 #[cfg(test)]
 mod hostile;
 #[cfg(test)]

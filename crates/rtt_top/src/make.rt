@@ -11,7 +11,7 @@ use bridge_run::{MixFault, mix_held};
 use command_spec::{Fault, Refusal};
 use rtt_base::Bytes;
 use rtt_io::{Gate, Sink, World};
-use rtt_make::{Heard, make_conf, recordings_of, summary_of};
+use rtt_make::{Totals, make_conf, recordings_of, summary_of};
 use std::alloc::Global;
 use std::sync::Wait;
 use std::thread::Threads;
@@ -48,14 +48,14 @@ fn line_of<R: Threads + Wait + Sync, G: Gate + Sync>(
     let Ok(inputs) = recordings_of(alloc, &made) else {
         return Err(Fault::NoMemory);
     };
-    let mixed = match mix_held(rt, alloc, &made.conf, inputs, gate) {
+    let mixed = match mix_held(rt, alloc, &made.conference, inputs, gate) {
         Ok(mixed) => mixed,
-        Err(fault) => return Err(fault_in_memory(made.conf.turns, fault)),
+        Err(fault) => return Err(fault_in_memory(made.conference.turns, fault)),
     };
-    let heard = Heard {
+    let heard = Totals {
         packets: mixed.packets,
         used: mixed.used,
-        marks: mixed.marks,
+        markers: mixed.markers,
     };
     let Ok(line) = summary_of(alloc, number, &made, heard) else {
         return Err(Fault::NoMemory);

@@ -9,7 +9,7 @@ ghost use Rattle.rtt_top.specs.Faults.{message_in};
 ghost use Rattle.rtt_top.specs.Sinks.{Wrote, WrotePartly, TookFront, TookIfCalm, place_message};
 
 use crate::names::ending_name;
-use crate::told::write_name;
+use crate::name_texts::write_name;
 use bridge_run::Piece;
 use command_spec::{Fault, Refusal, dump_kind_name};
 use file_spec::ConfKind;

@@ -1,7 +1,7 @@
 //! `mix`: a conference is mixed, its outputs are written, and what is seen is printed.
 ghost use Rattle.std.specs.Prelude.{◌≡◌, ◌≤◌, [], ◌∷◌, ◌++◌, length, OnOk, IfOk, IfErr};
 ghost use Rattle.rtt_io.specs.Names.{NoneFalls};
-ghost use Rattle.conference.specs.Conferences.{conf_of};
+ghost use Rattle.conference.specs.Conferences.{meaning_of};
 ghost use Rattle.sent_files.specs.Files.{recordings_of};
 ghost use Rattle.rtt_top.specs.Conferences.{MixingEnds, MixingEndsWith, OutputsEnd, fault_of_mixing};
 ghost use Rattle.rtt_top.specs.Worlds.{SavesEach, IsUnwrittenIn};
@@ -11,7 +11,7 @@ use crate::files::{fault_of_dump, save_recording};
 use crate::messages::print_views;
 use bridge_run::{MixFault, Mixed, Piece, mix};
 use command_spec::{Fault, Refusal};
-use conference::{Conf, LegLine};
+use conference::{Conference, LegLine};
 use rtt_attend::count_inputs;
 use rtt_base::{Bytes, NoMemory};
 use rtt_io::{Gate, Sink, World};
@@ -95,41 +95,42 @@ fn with_lines(alloc: Global, mixed: Mixed, lines: Bytes) -> Result<Mixed, NoMemo
 fn mix_with<R: Threads + Wait + Sync, W: World, K: Sink, G: Gate + Sync>(
     rt: &R,
     alloc: Global,
-    conf: &Conf,
+    conference: &Conference,
     lines: Bytes,
     world: &mut W,
     out: &mut K,
     gate: &G,
 ) -> Result<(), Fault>
-    ensures { MixingEndsWith W.World K.Sink world.old out.old world.new out.new (conf_of conf.now) lines result }
+    ensures { MixingEndsWith W.World K.Sink world.old out.old world.new out.new (meaning_of conference.now) lines
+        result }
 {
-    let mixed = match mix(rt, alloc, conf, world, gate) {
+    let mixed = match mix(rt, alloc, conference, world, gate) {
         Ok(mixed) => mixed,
-        Err(fault) => return Err(fault_of_mixing(conf.turns, fault)),
+        Err(fault) => return Err(fault_of_mixing(conference.turns, fault)),
     };
     let more = match with_lines(alloc, mixed, lines) {
         Ok(more) => more,
         Err(NoMemory) => return Err(Fault::NoMemory),
     };
-    make_outputs(conf.legs.as_slice(), more, world, out)
+    make_outputs(conference.legs.as_slice(), more, world, out)
 }
 
 /// Mixes a conference, writes its outputs, and prints what is seen, and what is counted of its inputs where it asks for that. To be
 /// counted each input is read to its end before one is mixed.
 #[inline(never)]
-pub(crate) fn mix_conf<R: Threads + Wait + Sync, W: World, K: Sink, G: Gate + Sync>(
+pub(crate) fn mix_conference<R: Threads + Wait + Sync, W: World, K: Sink, G: Gate + Sync>(
     rt: &R,
     alloc: Global,
-    conf: &Conf,
+    conference: &Conference,
     world: &mut W,
     out: &mut K,
     gate: &G,
 ) -> Result<(), Fault>
-    ensures { MixingEnds W.World K.Sink world.old out.old world.new out.new (conf_of conf.now) result }
+    ensures { MixingEnds W.World K.Sink world.old out.old world.new out.new (meaning_of conference.now) result }
 {
-    let lines = match count_inputs(alloc, conf, world) {
+    let lines = match count_inputs(alloc, conference, world) {
         Ok(lines) => lines,
-        Err(fault) => return Err(fault_of_mixing(conf.turns, fault)),
+        Err(fault) => return Err(fault_of_mixing(conference.turns, fault)),
     };
-    mix_with(rt, alloc, conf, lines, world, out, gate)
+    mix_with(rt, alloc, conference, lines, world, out, gate)
 }

@@ -1,8 +1,8 @@
 //! Runs over files in memory, and what each has to leave.
-use crate::failing::{End, ends_with_first};
+use crate::failures::{End, ends_with_first};
 use crate::run;
 use check_spec::PortFault;
-use link_io::{Came, FailingLink, MemLinks, Planned};
+use link_io::{Came, FailingLink, MemLinks, PlannedTake};
 use port_io::MemPorts;
 use rtt_base::{Bytes, NoMemory, Path};
 use rtt_io::{MemSink, MemWorld, StillGate};
@@ -33,13 +33,13 @@ pub enum Piece<'a> {
 
 /// What a take of a link gives: its moment, what came, and the octets of a datagram.
 #[derive(Clone, Copy)]
-pub struct Coming<'a>(pub u32, pub Came, pub &'a [u8]);
+pub struct LinkEvent<'a>(pub u32, pub Came, pub &'a [u8]);
 
 /// What the links of Ann and of Bob give, the call of a link that fails, and the line of how many turns are made.
 #[derive(Clone, Copy)]
 pub struct Line<'a>(
-    pub &'a [Coming<'a>],
-    pub &'a [Coming<'a>],
+    pub &'a [LinkEvent<'a>],
+    pub &'a [LinkEvent<'a>],
     pub Option<FailingLink>,
     pub &'a str,
 );
@@ -79,7 +79,7 @@ pub enum Case<'a> {
 
 // The words of a run, its status, and what it writes on `out` and on `err`.
 #[derive(Clone, Copy)]
-struct Ran<'a>(&'a str, u8, &'a str, &'a str);
+struct RunCase<'a>(&'a str, u8, &'a str, &'a str);
 
 /// The lines of a conference of Ann and Bob.
 pub const MIXER: &str = "mixer 9000 100 5000\n";
@@ -160,14 +160,14 @@ fn append_parts(
     at: u32,
     first: &[u8],
     seq: u16,
-    stamp: u32,
+    timestamp: u32,
     rest: &[u8],
 ) -> Result<(), NoMemory> {
     let size = size(rest).saturating_add(12);
     append_head(recording, size, size, at)?;
     recording.append(first)?;
     recording.append(&seq.to_be_bytes())?;
-    recording.append(&stamp.to_be_bytes())?;
+    recording.append(&timestamp.to_be_bytes())?;
     recording.append(b"\0\0\x03\xE9")?;
     recording.append(rest)
 }
@@ -175,8 +175,8 @@ fn append_parts(
 fn append_piece(recording: &mut Bytes, piece: &Piece<'_>) -> Result<(), NoMemory> {
     match piece {
         Piece::Packet(at, packet) => append_packet(recording, *at, packet),
-        Piece::Plain(at, seq, stamp, text) => {
-            append_parts(recording, *at, b"\x80\x62", *seq, *stamp, text)
+        Piece::Plain(at, seq, timestamp, text) => {
+            append_parts(recording, *at, b"\x80\x62", *seq, *timestamp, text)
         }
         Piece::First(first, rest) => append_parts(recording, 0, first, 0, 0, rest),
         Piece::Rtcp(at, packet) => append_rtcp(recording, *at, packet),
@@ -267,11 +267,11 @@ fn plan(
     links: &mut MemLinks,
     alloc: Global,
     port: u16,
-    comings: &[Coming<'_>],
+    comings: &[LinkEvent<'_>],
 ) -> Result<(), NoMemory> {
     match comings {
         [first, rest @ ..] => {
-            links.plan(port, Planned::new(alloc, first.0, first.1, first.2)?)?;
+            links.plan(port, PlannedTake::new(alloc, first.0, first.1, first.2)?)?;
             plan(links, alloc, port, rest)
         }
         [] => Ok(()),
@@ -293,7 +293,7 @@ fn ends_over<R: Threads + Wait + Clock + Copy + Send + Sync + 'static>(
     alloc: Global,
     world: &mut MemWorld,
     links: &mut MemLinks,
-    wanted: Ran<'_>,
+    wanted: RunCase<'_>,
 ) -> Result<bool, Fail> {
     let mut out = sink(alloc)?;
     let mut err = sink(alloc)?;
@@ -306,7 +306,7 @@ fn ends<R: Threads + Wait + Clock + Copy + Send + Sync + 'static>(
     rt: &R,
     alloc: Global,
     world: &mut MemWorld,
-    wanted: Ran<'_>,
+    wanted: RunCase<'_>,
 ) -> Result<bool, Fail> {
     let mut links = MemLinks::new(alloc);
     ends_over(rt, alloc, world, &mut links, wanted)
@@ -321,7 +321,7 @@ fn are_silent<R: Threads + Wait + Clock + Copy + Send + Sync + 'static>(
 ) -> Result<bool, Fail> {
     match texts {
         [first, rest @ ..] => {
-            let is_first = ends(rt, alloc, world, Ran(first, 0, "", ""))?;
+            let is_first = ends(rt, alloc, world, RunCase(first, 0, "", ""))?;
             Ok(is_first && are_silent(rt, alloc, world, rest)?)
         }
         [] => Ok(true),
@@ -349,7 +349,7 @@ fn ends_live<R: Threads + Wait + Clock + Copy + Send + Sync + 'static>(
     alloc: Global,
     world: &mut MemWorld,
     line: &Line<'_>,
-    wanted: Ran<'_>,
+    wanted: RunCase<'_>,
 ) -> Result<bool, Fail> {
     add_lines(alloc, world, "c.txt", &[LINKS, line.3])?;
     let mut links = links_of(alloc, line)?;
@@ -366,10 +366,10 @@ fn is_served<R: Threads + Wait + Clock + Copy + Send + Sync + 'static>(
 ) -> Result<bool, Fail> {
     let mut all = String::from_str(alloc, SEEN_BY_ANN)?;
     all.push_str(printed)?;
-    let live = Ran("live c.txt", 0, all.as_str(), "");
+    let live = RunCase("live c.txt", 0, all.as_str(), "");
     let is_live = ends_live(rt, alloc, world, line, live)?;
     all.push_str(board)?;
-    let watched = Ran("watch c.txt", 0, all.as_str(), "");
+    let watched = RunCase("watch c.txt", 0, all.as_str(), "");
     Ok(is_live && ends_live(rt, alloc, world, line, watched)?)
 }
 
@@ -382,52 +382,52 @@ fn is_right<R: Threads + Wait + Clock + Copy + Send + Sync + 'static>(
     match case {
         Case::View(pieces, words, printed) => {
             world.add_file("a.rtp", recording_of(alloc, pieces)?.as_slice())?;
-            ends(rt, alloc, world, Ran(words, 0, printed, ""))
+            ends(rt, alloc, world, RunCase(words, 0, printed, ""))
         }
         Case::Silent(words, status, told) => {
-            ends(rt, alloc, world, Ran(words, *status, "", told))
+            ends(rt, alloc, world, RunCase(words, *status, "", told))
         }
         Case::Untaken(octets, printed) => {
             world.add_file("f", octets.as_bytes())?;
-            ends(rt, alloc, world, Ran("check f", 1, printed, ""))
+            ends(rt, alloc, world, RunCase("check f", 1, printed, ""))
         }
-        Case::Wrong(words) => ends(rt, alloc, world, Ran(words, 2, "", USAGE)),
+        Case::Wrong(words) => ends(rt, alloc, world, RunCase(words, 2, "", USAGE)),
         Case::Sent(script, view) => {
             world.add_file("s.txt", script.as_bytes())?;
-            let sending = Ran("send s.txt a.rtp 4294967295 65535 4294967295", 0, "", "");
-            let reading = Ran("read a.rtp 4294967295", 0, view, "");
+            let sending = RunCase("send s.txt a.rtp 4294967295 65535 4294967295", 0, "", "");
+            let reading = RunCase("read a.rtp 4294967295", 0, view, "");
             Ok(ends(rt, alloc, world, sending)? && ends(rt, alloc, world, reading)?)
         }
         Case::Relayed(frames, pieces) => is_relayed(rt, alloc, world, frames, pieces),
         Case::Mixed(ann, bob, printed) => {
             add_scripts(world, ann, bob)?;
-            let mixing = Ran("mix c.txt", 0, printed, "");
+            let mixing = RunCase("mix c.txt", 0, printed, "");
             Ok(are_silent(rt, alloc, world, &SENDINGS)? && ends(rt, alloc, world, mixing)?)
         }
         Case::Attended(ann, printed) => {
             world.add_file("a.in", recording_of(alloc, ann)?.as_slice())?;
             world.add_file("b.in", &OPENING)?;
             add_lines(alloc, world, "c.txt", &[MIXER, ANN, BOB, "wait 0\n"])?;
-            ends(rt, alloc, world, Ran("attend c.txt", 0, printed, ""))
+            ends(rt, alloc, world, RunCase("attend c.txt", 0, printed, ""))
         }
         Case::Counted(ann, printed) => {
             world.add_file("a.in", recording_of(alloc, ann)?.as_slice())?;
             world.add_file("b.in", &OPENING)?;
             add_lines(alloc, world, "c.txt", &[MIXER, ANN, "counts\n", BOB])?;
-            ends(rt, alloc, world, Ran("mix c.txt", 0, printed, ""))
+            ends(rt, alloc, world, RunCase("mix c.txt", 0, printed, ""))
         }
         Case::Behind(sent, printed) => {
             world.add_file("b.out", recording_of(alloc, sent)?.as_slice())?;
             world.add_file("cy.in", &OPENING)?;
             add_lines(alloc, world, "c.txt", &[NEXT_MIXER, TRUNK, CY])?;
-            let mixing = Ran("cascade b.out 9000 c.txt", 0, printed, "");
+            let mixing = RunCase("cascade b.out 9000 c.txt", 0, printed, "");
             ends(rt, alloc, world, mixing)
         }
         Case::Live(line, printed, board) => is_served(rt, alloc, world, line, printed, board),
         Case::LinkFault(line) => {
             let told = "link fault at leg Bob\n";
-            let live = ends_live(rt, alloc, world, line, Ran("live c.txt", 8, "", told))?;
-            let watch = ends_live(rt, alloc, world, line, Ran("watch c.txt", 8, "", told))?;
+            let live = ends_live(rt, alloc, world, line, RunCase("live c.txt", 8, "", told))?;
+            let watch = ends_live(rt, alloc, world, line, RunCase("watch c.txt", 8, "", told))?;
             Ok(live && watch)
         }
         Case::Ended(words, outputs, ends) => ends_with_first(rt, alloc, words, outputs, ends),

@@ -10,7 +10,7 @@ use crate::files::fault_of_recording;
 use crate::messages::{finish, print};
 use crate::views::RecordingView;
 use command_spec::Fault;
-use recording_starts::Opened;
+use recording_starts::HeadReader;
 use rtpdump_io::DumpReader;
 use rtt_base::Bytes;
 use rtt_io::{Sink, World};
@@ -30,7 +30,7 @@ fn view_under<W: World>(
     let Ok(source) = world.open_source(name) else {
         return Err(Fault::CannotOpen { input: 0 });
     };
-    let (opened, looked) = Opened::open(source);
+    let (opened, looked) = HeadReader::open(source);
     let Ok(start) = looked else {
         world.done_src(opened.into_source());
         return Err(Fault::CannotRead { input: 0 });

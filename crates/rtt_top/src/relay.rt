@@ -8,7 +8,7 @@ ghost use Rattle.rtt_top.specs.Frames.{fault_of_relay};
 ghost use Rattle.rtt_top.specs.Worlds.{StopsOver, RelaysFrames};
 
 use crate::files::{read_input, refused_frames};
-use crate::send::send_conf;
+use crate::send::sender_settings;
 use command_spec::Fault;
 use frame_spec::limits::{FRAME_HEAD_OCTETS, MOST_FRAMES_OCTETS};
 use rtt_base::Bytes;
@@ -46,7 +46,7 @@ pub(crate) fn relayed<W: World>(
         Ok(octets) => octets,
         Err(fault) => return Err(fault),
     };
-    match relay_frames(alloc, octets.as_slice(), send_conf(words)) {
+    match relay_frames(alloc, octets.as_slice(), sender_settings(words)) {
         Ok(recording) => Ok(recording),
         Err(fault) => Err(fault_of_relay(fault)),
     }

@@ -8,7 +8,7 @@ ghost use Rattle.rtt_top.specs.Trials.{RunsLook, tries_no_port};
 use crate::check::run_check;
 use crate::commands::{carry_out, carry_out_plain};
 use crate::messages::finish;
-use crate::serving::{Serving, serve_file};
+use crate::serve_modes::{ServeMode, serve_file};
 use command_spec::Fault;
 use link_io::Links;
 use port_io::Ports;
@@ -86,11 +86,11 @@ pub fn run<
     };
     match &command {
         Command::Live(call) => {
-            let alone = Serving::Alone;
+            let alone = ServeMode::Alone;
             serve_file(alone, rt, alloc, call, world, links, out, err, gate)
         }
         Command::Watch(call) => {
-            let watched = Serving::Watched;
+            let watched = ServeMode::Watched;
             serve_file(watched, rt, alloc, call, world, links, out, err, gate)
         }
         Command::Check(words) => run_check(alloc, words, world, ports, out, err),

@@ -1,7 +1,7 @@
 //! `send`: a script is read and sent, and a recording is made of what is sent.
 ghost use Rattle.std.specs.Prelude.{◌≡◌, IfOk, IfErr};
 ghost use Rattle.rtt_io.specs.Names.{NoneFalls};
-ghost use Rattle.text_sender.specs.Confs.{IsConf};
+ghost use Rattle.text_sender.specs.Settings.{AreSettings};
 ghost use Rattle.rtt_words.specs.Tasks.{sending_of};
 ghost use Rattle.rtt_words.specs.Words.{Send};
 ghost use Rattle.rtt_send.specs.Scripts as sender;
@@ -15,11 +15,11 @@ use file_spec::ConfKind;
 use file_spec::limits::MOST_SCRIPT_OCTETS;
 use rtt_base::Bytes;
 use rtt_io::World;
-use rtt_send::{SendFault, send_script, usual_conf};
+use rtt_send::{SendFault, send_script, usual_settings};
 use rtt_words::SendWords;
 use script_text::{ConfFault, Script, read_script};
 use std::alloc::Global;
-use text_sender::SendConf;
+use text_sender::SenderSettings;
 
 /// The script that is sent.
 fn script_of<W: World>(alloc: Global, words: &SendWords<'_>, world: &mut W) -> Result<Script, Fault>
@@ -41,11 +41,11 @@ fn script_of<W: World>(alloc: Global, words: &SendWords<'_>, world: &mut W) -> R
 }
 
 /// What is sent with: two repeats, and a packet at most each 300 ms.
-pub(crate) fn send_conf(words: &SendWords<'_>) -> SendConf
-    ensures conf { IsConf result }
+pub(crate) fn sender_settings(words: &SendWords<'_>) -> SenderSettings
+    ensures settings { AreSettings result }
     ensures sending { sender.sending_of result ≡ sending_of (sent words.now) }
 {
-    usual_conf(words.ssrc, words.seq, words.stamp)
+    usual_settings(words.ssrc, words.seq, words.timestamp)
 }
 
 /// The recording of what is sent for a script.
@@ -64,7 +64,7 @@ pub(crate) fn recording_of<W: World>(
         Ok(script) => script,
         Err(fault) => return Err(fault),
     };
-    match send_script(alloc, &script, send_conf(words)) {
+    match send_script(alloc, &script, sender_settings(words)) {
         Ok(octets) => Ok(octets),
         Err(SendFault::Full { line }) => Err(refused_line(line, ConfKind::Full)),
         Err(SendFault::NoMemory) => Err(Fault::NoMemory),

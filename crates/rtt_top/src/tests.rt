@@ -3,7 +3,7 @@ use crate::plays::Case::{
 };
 use crate::plays::Piece::{Octets, Packet, Plain, Rtcp};
 use crate::plays::{
-    Case, Coming, Line, OPENING, Piece, USAGE, eight_times, front, holds, left, recording_of, twice,
+    Case, LinkEvent, Line, OPENING, Piece, USAGE, eight_times, front, holds, left, recording_of, twice,
 };
 use link_io::{Came, FailingLink};
 use rtt_base::{Bytes, NoMemory, Path};
@@ -694,9 +694,9 @@ fn conferences_print_what_is_seen(rt: HostRuntime) -> Result<(), Fail> {
     Ok(())
 }
 
-const AN_A: Coming<'static> = Coming(0, Came::Datagram, A);
+const AN_A: LinkEvent<'static> = LinkEvent(0, Came::Datagram, A);
 
-const CLOSED: Coming<'static> = Coming(0, Came::Closed, b"");
+const CLOSED: LinkEvent<'static> = LinkEvent(0, Came::Closed, b"");
 
 const ALL_CLOSED: Line<'static> = Line(&[AN_A, CLOSED], &[CLOSED], None, "turns 100\n");
 

@@ -9,7 +9,7 @@ ghost use Rattle.rtt_top.specs.RecordingViews.{IsViewFrom, IsViewOf, IsRefusal, 
 
 use command_spec::ReadRequest;
 use rtpdump_io::{DumpReader, RecordingFault};
-use rtt_base::{Bytes, NoMemory as OutOfMemory, Pts};
+use rtt_base::{Bytes, NoMemory as OutOfMemory, PayloadTypes};
 use rtt_io::Source;
 use rtt_list::list_records;
 use rtt_read::hear_recording;
@@ -22,12 +22,13 @@ use terminal::{Terminal, View};
 
 /// What is read of a recording by these words.
 pub(crate) fn request_of(words: &ReadWords<'_>) -> ReadRequest
-    ensures { result ≡ record { ssrc = words.now.ssrc; source = words.now.source; pts = words.now.pts } }
+    ensures { result ≡ record { ssrc = words.now.ssrc; source = words.now.source; payload_types =
+        words.now.payload_types } }
 {
     ReadRequest {
         ssrc: words.ssrc,
         source: words.source,
-        pts: words.pts,
+        payload_types: words.payload_types,
     }
 }
 
@@ -35,11 +36,11 @@ pub(crate) fn request_of(words: &ReadWords<'_>) -> ReadRequest
 #[derive(Clone, Copy)]
 pub(crate) enum RecordingView {
     /// `list`: a line for each record, under these payload types.
-    Lines(Pts),
+    Lines(PayloadTypes),
     /// `show`: all that it has, as far as it can be read, under these payload types.
-    Streams(Pts),
+    Streams(PayloadTypes),
     /// `times`: what came in it by the clock, as far as it can be read, under these payload types.
-    Times(Pts),
+    Times(PayloadTypes),
     /// `read`: the text that is asked for.
     Text(ReadRequest),
     /// `script`: when each text that is asked for could be read.
@@ -95,9 +96,9 @@ impl RecordingView {
         ensures same_name { S.name (source_of reader.new) ≡ S.name (source_of reader.old) }
     {
         match self {
-            RecordingView::Lines(pts) => list_records(alloc, reader, pts),
-            RecordingView::Streams(pts) => show_recording(alloc, reader, start, pts),
-            RecordingView::Times(pts) => times_recording(alloc, reader, start, pts),
+            RecordingView::Lines(payload_types) => list_records(alloc, reader, payload_types),
+            RecordingView::Streams(payload_types) => show_recording(alloc, reader, start, payload_types),
+            RecordingView::Times(payload_types) => times_recording(alloc, reader, start, payload_types),
             RecordingView::Text(request) => text_heard(alloc, reader, request),
             RecordingView::Transcript(request) => script_recording(alloc, reader, request),
         }

@@ -3,7 +3,7 @@ use Rattle.std.proofs.Common.{◌≡◌, ℕ, Some, None, List, [], ◌∷◌, r
 use Rattle.std.specs.Prelude.{codes}
 use Rattle.wire_spec.specs.Dump.{dump, dump_opening, opening}
 use Rattle.wire_spec.specs.declared.faults.DumpKind.TheVariants.{NotDump}
-use Rattle.command_spec.specs.Usual.{usual_pts}
+use Rattle.command_spec.specs.Usual.{usual_payload_types}
 use Rattle.rtt_words.specs.Words.{Read, ListRecords, Send, Version}
 use Rattle.command_spec.specs.declared.faults.Refusal.TheVariants.{AtByte}
 use Rattle.command_spec.specs.Scripts.{events_before, first_from, first_end}
@@ -20,17 +20,17 @@ nothing : Contents
 nothing name = None
 
 -- nothing lies there
-reads_nothing : outcome nothing (work (Read (record { file = codes "a.rtp"; ssrc = 1001; source = 1001; pts = usual_pts }))).steps ≡ Missing 0
+reads_nothing : outcome nothing (work (Read (record { file = codes "a.rtp"; ssrc = 1001; source = 1001; payload_types = usual_payload_types }))).steps ≡ Missing 0
 unfolding nothing
 reads_nothing = refl
 
 -- an empty file is no recording
-lists_empty : outcome (all_hold []) (work (ListRecords (record { file = codes "a.rtp"; pts = usual_pts }))).steps ≡ Refused 0 (AtByte 0 NotDump)
+lists_empty : outcome (all_hold []) (work (ListRecords (record { file = codes "a.rtp"; payload_types = usual_payload_types }))).steps ≡ Refused 0 (AtByte 0 NotDump)
 unfolding all_hold dump opening
 lists_empty = refl
 
 -- a script of comments makes a recording without records
-sends_nothing : outcome (all_hold (codes "# nothing\n")) (work (Send (record { file = codes "s.txt"; out = codes "a.rtp"; ssrc = 1001; seq = 0; stamp = 0 }))).steps
+sends_nothing : outcome (all_hold (codes "# nothing\n")) (work (Send (record { file = codes "s.txt"; out = codes "a.rtp"; ssrc = 1001; seq = 0; timestamp = 0 }))).steps
     ≡ Done [] (record { name = codes "a.rtp"; octets = dump_opening } ∷ [])
 unfolding all_hold events_before first_from first_end
 sends_nothing = refl

@@ -7,11 +7,11 @@ use Rattle.std.specs.Str.Parse.{digits_value}
 use Rattle.std.proofs.lemmas.Bool.Decides.{Decides-eqb}
 use Rattle.std.specs.Str.{bytes_eq}
 use Rattle.std.proofs.lemmas.List.{take_rest}
-use Rattle.rtt_base.specs.declared.text_packets.Pts.{Pts}
+use Rattle.rtt_base.specs.declared.text_packets.PayloadTypes.{PayloadTypes}
 use Rattle.file_spec.specs.Numbers.{is_number, number, most_ssrc, payload_type}
-use Rattle.command_spec.specs.Usual.{usual_pts}
+use Rattle.command_spec.specs.Usual.{usual_payload_types}
 use Rattle.rtt_words.specs.Help.{topic}
-use Rattle.rtt_words.specs.Words.{Read, ListRecords, Send, Cascade, Live, Watch, Relay, Channel, ChannelWords, Show, Times, Script, Check, Help, Command, before_conf, to_check, cascade_words, channel_words, command, help_words, if_different, is_word, list_of, list_words, make_words, Make, mix_words, Mix, Attend, payload_types, read_of, read_words, send_of, send_words, version_words}
+use Rattle.rtt_words.specs.Words.{Read, ListRecords, Send, Cascade, Live, Watch, Relay, Channel, ChannelWords, Show, Times, Script, Check, Help, Command, before_conference, to_check, cascade_words, channel_words, command, help_words, if_different, is_word, list_of, list_words, make_words, Make, mix_words, Mix, Attend, different_types, read_of, read_words, send_of, send_words, version_words}
 
 abbrev Text : Type 0
 Text = List ℕ
@@ -51,7 +51,7 @@ one_off : (a b : Bool) → (a && b) ≡ false → (a ≡ false) ⊎ (b ≡ false
 one_off true b e = inr e
 one_off false b e = inl refl
 
-types_off : (t140 red : Text) → (is_word t140 ≡ false) ⊎ (is_word red ≡ false) → payload_types t140 red ≡ None
+types_off : (t140 red : Text) → (is_word t140 ≡ false) ⊎ (is_word red ≡ false) → different_types t140 red ≡ None
 types_off t140 red (inl e) =
     ap (λ (o : Option ℕ). option_and_then if_different (option_and_then (λ (t : ℕ). option_and_then (λ (r : ℕ). Some (record { t140 = t; red = r })) (payload_type red)) o)) (payload_type_off t140 e)
 types_off t140 red (inr e) =
@@ -62,7 +62,7 @@ types_off t140 red (inr e) =
     go None = refl
     go (Some t) = refl
 
-read_of_off : (file ssrc source : Text) (types : Option Pts) → (is_word ssrc ≡ false) ⊎ (is_word source ≡ false) → read_of file (number most_ssrc ssrc) (number most_ssrc source) types ≡ None
+read_of_off : (file ssrc source : Text) (types : Option PayloadTypes) → (is_word ssrc ≡ false) ⊎ (is_word source ≡ false) → read_of file (number most_ssrc ssrc) (number most_ssrc source) types ≡ None
 read_of_off file ssrc source types (inl e) = ap (λ o. read_of file o (number most_ssrc source) types) (number_off most_ssrc ssrc e)
 read_of_off file ssrc source types (inr e) = ap (λ o. read_of file (number most_ssrc ssrc) o types) (number_off most_ssrc source e) ∙ go (number most_ssrc ssrc)
   where
@@ -75,17 +75,17 @@ no_types file None source = refl
 no_types file (Some s) None = refl
 no_types file (Some s) (Some t) = refl
 
-send_of_off : (script out ssrc seq stamp : Text) → (is_word ssrc ≡ false) ⊎ ((is_word seq ≡ false) ⊎ (is_word stamp ≡ false))
-    → send_of script out (number most_ssrc ssrc) (number 65535 seq) (number 4294967295 stamp) ≡ None
-send_of_off script out ssrc seq stamp (inl e) = ap (λ o. send_of script out o (number 65535 seq) (number 4294967295 stamp)) (number_off most_ssrc ssrc e)
-send_of_off script out ssrc seq stamp (inr (inl e)) =
-    ap (λ o. send_of script out (number most_ssrc ssrc) o (number 4294967295 stamp)) (number_off 65535 seq e) ∙ go (number most_ssrc ssrc)
+send_of_off : (script out ssrc seq timestamp : Text) → (is_word ssrc ≡ false) ⊎ ((is_word seq ≡ false) ⊎ (is_word timestamp ≡ false))
+    → send_of script out (number most_ssrc ssrc) (number 65535 seq) (number 4294967295 timestamp) ≡ None
+send_of_off script out ssrc seq timestamp (inl e) = ap (λ o. send_of script out o (number 65535 seq) (number 4294967295 timestamp)) (number_off most_ssrc ssrc e)
+send_of_off script out ssrc seq timestamp (inr (inl e)) =
+    ap (λ o. send_of script out (number most_ssrc ssrc) o (number 4294967295 timestamp)) (number_off 65535 seq e) ∙ go (number most_ssrc ssrc)
   where
-    go : (o : Option ℕ) → send_of script out o None (number 4294967295 stamp) ≡ None
+    go : (o : Option ℕ) → send_of script out o None (number 4294967295 timestamp) ≡ None
     go None = refl
     go (Some s) = refl
-send_of_off script out ssrc seq stamp (inr (inr e)) =
-    ap (λ o. send_of script out (number most_ssrc ssrc) (number 65535 seq) o) (number_off 4294967295 stamp e) ∙ go (number most_ssrc ssrc) (number 65535 seq)
+send_of_off script out ssrc seq timestamp (inr (inr e)) =
+    ap (λ o. send_of script out (number most_ssrc ssrc) (number 65535 seq) o) (number_off 4294967295 timestamp e) ∙ go (number most_ssrc ssrc) (number 65535 seq)
   where
     go : (o q : Option ℕ) → send_of script out o q None ≡ None
     go None q = refl
@@ -112,32 +112,32 @@ off_two a b e = elim (off_first a (b ∷ []) e) [ inl h ↦ inl h | inr h ↦ in
 
 read_off : (words : List Text) → list_all is_word words ≡ false → read_words words ≡ None
 read_off (a ∷ b ∷ []) e =
-    under (is_word a) (read_of a (number most_ssrc b) (number most_ssrc b) (Some usual_pts))
-    (elim (off_two a b e) [ inl h ↦ inl h | inr h ↦ inr (read_of_off a b b (Some usual_pts) (inl h)) ])
+    under (is_word a) (read_of a (number most_ssrc b) (number most_ssrc b) (Some usual_payload_types))
+    (elim (off_two a b e) [ inl h ↦ inl h | inr h ↦ inr (read_of_off a b b (Some usual_payload_types) (inl h)) ])
 read_off (a ∷ b ∷ c ∷ []) e =
-    under (is_word a) (read_of a (number most_ssrc b) (number most_ssrc c) (Some usual_pts))
-    (elim (off_first a (b ∷ c ∷ []) e) [ inl h ↦ inl h | inr h ↦ inr (read_of_off a b c (Some usual_pts) (off_two b c h)) ])
+    under (is_word a) (read_of a (number most_ssrc b) (number most_ssrc c) (Some usual_payload_types))
+    (elim (off_first a (b ∷ c ∷ []) e) [ inl h ↦ inl h | inr h ↦ inr (read_of_off a b c (Some usual_payload_types) (off_two b c h)) ])
 read_off (a ∷ b ∷ c ∷ d ∷ f ∷ []) e =
-    under (is_word a) (read_of a (number most_ssrc b) (number most_ssrc c) (payload_types d f))
+    under (is_word a) (read_of a (number most_ssrc b) (number most_ssrc c) (different_types d f))
     (elim (off_first a (b ∷ c ∷ d ∷ f ∷ []) e) [ inl h ↦ inl h | inr h ↦ inr (numbers h) ])
   where
-    none : payload_types d f ≡ None → read_of a (number most_ssrc b) (number most_ssrc c) (payload_types d f) ≡ None
+    none : different_types d f ≡ None → read_of a (number most_ssrc b) (number most_ssrc c) (different_types d f) ≡ None
     none h = ap (read_of a (number most_ssrc b) (number most_ssrc c)) h ∙ no_types a (number most_ssrc b) (number most_ssrc c)
 
-    numbers : list_all is_word (b ∷ c ∷ d ∷ f ∷ []) ≡ false → read_of a (number most_ssrc b) (number most_ssrc c) (payload_types d f) ≡ None
+    numbers : list_all is_word (b ∷ c ∷ d ∷ f ∷ []) ≡ false → read_of a (number most_ssrc b) (number most_ssrc c) (different_types d f) ≡ None
     numbers h = elim (off_first b (c ∷ d ∷ f ∷ []) h) [
-      | inl i ↦ read_of_off a b c (payload_types d f) (inl i)
+      | inl i ↦ read_of_off a b c (different_types d f) (inl i)
       | inr i ↦ elim (off_first c (d ∷ f ∷ []) i) [
-        | inl j ↦ read_of_off a b c (payload_types d f) (inr j)
+        | inl j ↦ read_of_off a b c (different_types d f) (inr j)
         | inr j ↦ none (types_off d f (off_two d f j))
       ]
     ]
 read_off _ e = refl
 
 list_off : (words : List Text) → list_all is_word words ≡ false → list_words words ≡ None
-list_off (a ∷ []) e = under (is_word a) (list_of a (Some usual_pts)) (inl (off_last a e))
+list_off (a ∷ []) e = under (is_word a) (list_of a (Some usual_payload_types)) (inl (off_last a e))
 list_off (a ∷ b ∷ c ∷ []) e =
-    under (is_word a) (list_of a (payload_types b c))
+    under (is_word a) (list_of a (different_types b c))
     (elim (off_first a (b ∷ c ∷ []) e) [ inl h ↦ inl h | inr h ↦ inr (ap (list_of a) (types_off b c (off_two b c h))) ])
 list_off _ e = refl
 
@@ -154,7 +154,7 @@ send_off (a ∷ b ∷ c ∷ d ∷ f ∷ []) e =
 send_off _ e = refl
 
 mix_off : (words : List Text) → list_all is_word words ≡ false → mix_words words ≡ None
-mix_off (a ∷ []) e = under (is_word a) (Some (record { conf = a })) (inl (off_last a e))
+mix_off (a ∷ []) e = under (is_word a) (Some (record { conference = a })) (inl (off_last a e))
 mix_off _ e = refl
 
 make_off : (words : List Text) → list_all is_word words ≡ false → make_words words ≡ None
@@ -198,7 +198,7 @@ command_off name words e =
     (choice (bytes_eq name (codes "send")) (option_map Send (send_words words)) _ (ap (option_map Send) (send_off words e))
     (choice (bytes_eq name (codes "mix")) (option_map Mix (mix_words words)) _ (ap (option_map Mix) (mix_off words e))
     (choice (bytes_eq name (codes "attend")) (option_map Attend (mix_words words)) _ (ap (option_map Attend) (mix_off words e))
-    (choice (bytes_eq name (codes "cascade")) (option_map Cascade (cascade_words words)) _ (ap (λ o. option_map Cascade (option_map before_conf o)) (channel_off words e))
+    (choice (bytes_eq name (codes "cascade")) (option_map Cascade (cascade_words words)) _ (ap (λ o. option_map Cascade (option_map before_conference o)) (channel_off words e))
     (choice (bytes_eq name (codes "make")) (make_words words) _ (make_off words e)
     (choice (bytes_eq name (codes "live")) (option_map Live (mix_words words)) _ (ap (option_map Live) (mix_off words e))
     (choice (bytes_eq name (codes "watch")) (option_map Watch (mix_words words)) _ (ap (option_map Watch) (mix_off words e))

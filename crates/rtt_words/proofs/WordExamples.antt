@@ -14,34 +14,34 @@ abbrev AskNothing : List (List (List ℕ)) → Type 0
 AskNothing rows = list_all (λ row. is_none (command row)) rows ≡ true
 
 read_a_source : AskFor (
-    (codes "read" ∷ codes "a.rtp" ∷ codes "1001" ∷ [], Read (record { file = codes "a.rtp"; ssrc = 1001; source = 1001; pts = record { t140 = 98; red = 100 } }))
-    ∷ (codes "read" ∷ codes "a.rtp" ∷ codes "1001" ∷ codes "7" ∷ [], Read (record { file = codes "a.rtp"; ssrc = 1001; source = 7; pts = record { t140 = 98; red = 100 } }))
-    ∷ (codes "read" ∷ codes "a.rtp" ∷ codes "1001" ∷ codes "7" ∷ codes "96" ∷ codes "127" ∷ [], Read (record { file = codes "a.rtp"; ssrc = 1001; source = 7; pts = record { t140 = 96; red = 127 } }))
-    ∷ (codes "script" ∷ codes "a.rtp" ∷ codes "9000" ∷ codes "1001" ∷ [], Script (record { file = codes "a.rtp"; ssrc = 9000; source = 1001; pts = record { t140 = 98; red = 100 } }))
+    (codes "read" ∷ codes "a.rtp" ∷ codes "1001" ∷ [], Read (record { file = codes "a.rtp"; ssrc = 1001; source = 1001; payload_types = record { t140 = 98; red = 100 } }))
+    ∷ (codes "read" ∷ codes "a.rtp" ∷ codes "1001" ∷ codes "7" ∷ [], Read (record { file = codes "a.rtp"; ssrc = 1001; source = 7; payload_types = record { t140 = 98; red = 100 } }))
+    ∷ (codes "read" ∷ codes "a.rtp" ∷ codes "1001" ∷ codes "7" ∷ codes "96" ∷ codes "127" ∷ [], Read (record { file = codes "a.rtp"; ssrc = 1001; source = 7; payload_types = record { t140 = 96; red = 127 } }))
+    ∷ (codes "script" ∷ codes "a.rtp" ∷ codes "9000" ∷ codes "1001" ∷ [], Script (record { file = codes "a.rtp"; ssrc = 9000; source = 1001; payload_types = record { t140 = 98; red = 100 } }))
     ∷ [])
 read_a_source = refl
 
 list_a_recording : AskFor (
-    (codes "list" ∷ codes "a.rtp" ∷ [], ListRecords (record { file = codes "a.rtp"; pts = record { t140 = 98; red = 100 } }))
-    ∷ (codes "show" ∷ codes "a.rtp" ∷ [], Show (record { file = codes "a.rtp"; pts = record { t140 = 98; red = 100 } }))
-    ∷ (codes "show" ∷ codes "a.rtp" ∷ codes "96" ∷ codes "97" ∷ [], Show (record { file = codes "a.rtp"; pts = record { t140 = 96; red = 97 } }))
-    ∷ (codes "times" ∷ codes "a.rtp" ∷ codes "96" ∷ codes "97" ∷ [], Times (record { file = codes "a.rtp"; pts = record { t140 = 96; red = 97 } }))
+    (codes "list" ∷ codes "a.rtp" ∷ [], ListRecords (record { file = codes "a.rtp"; payload_types = record { t140 = 98; red = 100 } }))
+    ∷ (codes "show" ∷ codes "a.rtp" ∷ [], Show (record { file = codes "a.rtp"; payload_types = record { t140 = 98; red = 100 } }))
+    ∷ (codes "show" ∷ codes "a.rtp" ∷ codes "96" ∷ codes "97" ∷ [], Show (record { file = codes "a.rtp"; payload_types = record { t140 = 96; red = 97 } }))
+    ∷ (codes "times" ∷ codes "a.rtp" ∷ codes "96" ∷ codes "97" ∷ [], Times (record { file = codes "a.rtp"; payload_types = record { t140 = 96; red = 97 } }))
     ∷ [])
 list_a_recording = refl
 
 send_a_text : AskFor (
-    (codes "send" ∷ codes "s.txt" ∷ codes "a.rtp" ∷ codes "1001" ∷ codes "65535" ∷ codes "4294967295" ∷ [], Send (record { file = codes "s.txt"; out = codes "a.rtp"; ssrc = 1001; seq = 65535; stamp = 4294967295 }))
-    ∷ (codes "relay" ∷ codes "f" ∷ codes "a.rtp" ∷ codes "1001" ∷ codes "0" ∷ codes "0" ∷ [], Relay (record { file = codes "f"; out = codes "a.rtp"; ssrc = 1001; seq = 0; stamp = 0 }))
+    (codes "send" ∷ codes "s.txt" ∷ codes "a.rtp" ∷ codes "1001" ∷ codes "65535" ∷ codes "4294967295" ∷ [], Send (record { file = codes "s.txt"; out = codes "a.rtp"; ssrc = 1001; seq = 65535; timestamp = 4294967295 }))
+    ∷ (codes "relay" ∷ codes "f" ∷ codes "a.rtp" ∷ codes "1001" ∷ codes "0" ∷ codes "0" ∷ [], Relay (record { file = codes "f"; out = codes "a.rtp"; ssrc = 1001; seq = 0; timestamp = 0 }))
     ∷ (codes "channel" ∷ codes "a.rtp" ∷ codes "1001" ∷ codes "f" ∷ [], Channel (record { file = codes "a.rtp"; ssrc = 1001; out = codes "f" }))
     ∷ [])
 send_a_text = refl
 
 mix_a_conference : AskFor (
-    (codes "mix" ∷ codes "c.txt" ∷ [], Mix (record { conf = codes "c.txt" }))
-    ∷ (codes "attend" ∷ codes "c.txt" ∷ [], Attend (record { conf = codes "c.txt" }))
-    ∷ (codes "cascade" ∷ codes "b.out" ∷ codes "9000" ∷ codes "c.txt" ∷ [], Cascade (record { file = codes "b.out"; ssrc = 9000; conf = codes "c.txt" }))
-    ∷ (codes "live" ∷ codes "c.txt" ∷ [], Live (record { conf = codes "c.txt" }))
-    ∷ (codes "watch" ∷ codes "c.txt" ∷ [], Watch (record { conf = codes "c.txt" }))
+    (codes "mix" ∷ codes "c.txt" ∷ [], Mix (record { conference = codes "c.txt" }))
+    ∷ (codes "attend" ∷ codes "c.txt" ∷ [], Attend (record { conference = codes "c.txt" }))
+    ∷ (codes "cascade" ∷ codes "b.out" ∷ codes "9000" ∷ codes "c.txt" ∷ [], Cascade (record { file = codes "b.out"; ssrc = 9000; conference = codes "c.txt" }))
+    ∷ (codes "live" ∷ codes "c.txt" ∷ [], Live (record { conference = codes "c.txt" }))
+    ∷ (codes "watch" ∷ codes "c.txt" ∷ [], Watch (record { conference = codes "c.txt" }))
     ∷ [])
 mix_a_conference = refl
 

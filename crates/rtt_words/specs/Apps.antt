@@ -8,12 +8,12 @@ use Rattle.clap.specs.declared.error.kind.ErrorKind.TheVariants.{OutOfMemory}
 use Rattle.rtt_words.specs.declared.words.WordFault.{WordFault}
 use Rattle.rtt_words.specs.declared.words.WordFault.TheVariants.{Wrong, NoMemory}
 use Rattle.clap.specs.Simple.{on_top}
-use Rattle.rtt_base.specs.declared.text_packets.Pts.{Pts}
+use Rattle.rtt_base.specs.declared.text_packets.PayloadTypes.{PayloadTypes}
 use Rattle.file_spec.specs.Numbers.{number, number_between, most_ssrc}
-use Rattle.command_spec.specs.Usual.{usual_pts}
+use Rattle.command_spec.specs.Usual.{usual_payload_types}
 use Rattle.rtt_words.specs.declared.topics.Topic.TheVariants.{Usage}
 use Rattle.rtt_words.specs.Help.{topic}
-use Rattle.rtt_words.specs.Words.{ReadWords, ListWords, SendWords, MixWords, ChannelWords, Command, Make, Help, Version, is_word, payload_types, read_of, list_of, send_of}
+use Rattle.rtt_words.specs.Words.{ReadWords, ListWords, SendWords, MixWords, ChannelWords, Command, Make, Help, Version, is_word, different_types, read_of, list_of, send_of}
 
 -- a refusal of `clap`, by its kind
 abbrev pub fault_by : ErrorKind → WordFault
@@ -72,10 +72,10 @@ version_app = app_with (codes "version") [] []
 -- ---- what is asked for where each argument has this text
 
 -- the payload types are named both or not at all
-abbrev pub pts_given : Option (List ℕ) → Option (List ℕ) → Option Pts
-pts_given None None = Some usual_pts
-pts_given (Some t140) (Some red) = payload_types t140 red
-pts_given _ _ = None
+abbrev pub payload_types_given : Option (List ℕ) → Option (List ℕ) → Option PayloadTypes
+payload_types_given None None = Some usual_payload_types
+payload_types_given (Some t140) (Some red) = different_types t140 red
+payload_types_given _ _ = None
 
 -- the texts of the arguments, by their ids
 abbrev pub Texts : Type 0
@@ -84,19 +84,19 @@ Texts = List ℕ → Option (List ℕ)
 abbrev pub read_given : Texts → Option ReadWords
 read_given text =
     option_and_then (λ file. option_and_then (λ ssrc. read_of file (number most_ssrc ssrc) (number most_ssrc (unwrap_or (text (codes "SOURCE")) ssrc))
-    (pts_given (text (codes "T140")) (text (codes "RED")))) (text (codes "SSRC"))) (text (codes "FILE"))
+    (payload_types_given (text (codes "T140")) (text (codes "RED")))) (text (codes "SSRC"))) (text (codes "FILE"))
 
 abbrev pub list_given : Texts → Option ListWords
-list_given text = option_and_then (λ file. list_of file (pts_given (text (codes "T140")) (text (codes "RED")))) (text (codes "FILE"))
+list_given text = option_and_then (λ file. list_of file (payload_types_given (text (codes "T140")) (text (codes "RED")))) (text (codes "FILE"))
 
 abbrev pub send_given : Texts → Option SendWords
 send_given text =
-    option_and_then (λ script. option_and_then (λ out. option_and_then (λ ssrc. option_and_then (λ seq. option_and_then (λ stamp.
-    send_of script out (number most_ssrc ssrc) (number 65535 seq) (number 4294967295 stamp))
+    option_and_then (λ script. option_and_then (λ out. option_and_then (λ ssrc. option_and_then (λ seq. option_and_then (λ timestamp.
+    send_of script out (number most_ssrc ssrc) (number 65535 seq) (number 4294967295 timestamp))
     (text (codes "STAMP"))) (text (codes "SEQ"))) (text (codes "SSRC"))) (text (codes "OUT"))) (text (codes "SCRIPT"))
 
 abbrev pub mix_given : Texts → Option MixWords
-mix_given text = option_and_then (λ conf. Some (record { conf = conf })) (text (codes "CONF"))
+mix_given text = option_and_then (λ conference. Some (record { conference = conference })) (text (codes "CONF"))
 
 abbrev pub make_given : Texts → Option Command
 make_given text = option_and_then (λ n. option_map (λ k. Make (record { number = k })) (number_between 1 1000 n)) (text (codes "N"))

@@ -12,16 +12,16 @@ use Rattle.rtt_words.specs.declared.commands.Command.{Command}
 use Rattle.rtt_words.specs.declared.commands.Command.TheVariants.{Read, ListRecords, Send, Mix, Attend, Cascade, Make, Live, Watch, Relay, Channel, Show, Times, Script, Check, Help, Version}
 
 abbrev pub asked : ReadWords → words.ReadWords
-asked r = record { file = r.file.now; ssrc = r.ssrc; source = r.source; pts = r.pts }
+asked r = record { file = r.file.now; ssrc = r.ssrc; source = r.source; payload_types = r.payload_types }
 
 abbrev pub listed : ListWords → words.ListWords
-listed l = record { file = l.file.now; pts = l.pts }
+listed l = record { file = l.file.now; payload_types = l.payload_types }
 
 abbrev pub sent : SendWords → words.SendWords
-sent s = record { file = s.file.now; out = s.out.now; ssrc = s.ssrc; seq = s.seq; stamp = s.stamp }
+sent s = record { file = s.file.now; out = s.out.now; ssrc = s.ssrc; seq = s.seq; timestamp = s.timestamp }
 
 abbrev pub mixed : MixWords → words.MixWords
-mixed m = record { conf = m.conf.now }
+mixed m = record { conference = m.conference.now }
 
 abbrev pub made : MakeWords → words.MakeWords
 made m = record { number = m.number }
@@ -30,7 +30,7 @@ abbrev pub channelled : ChannelWords → words.ChannelWords
 channelled c = record { file = c.file.now; ssrc = c.ssrc; out = c.out.now }
 
 abbrev pub cascaded : CascadeWords → words.CascadeWords
-cascaded c = record { file = c.file.now; ssrc = c.ssrc; conf = c.conf.now }
+cascaded c = record { file = c.file.now; ssrc = c.ssrc; conference = c.conference.now }
 
 abbrev pub checked : CheckWords → words.CheckWords
 checked c = record { file = c.file.now }

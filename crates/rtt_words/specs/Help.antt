@@ -85,8 +85,8 @@ sending_words = codes "SSRC SEQ STAMP: of its packets, numbers up to 4294967295,
 abbrev pub out_word : List ℕ
 out_word = codes "OUT: the recording that is made\n"
 
-abbrev pub conf_word : List ℕ
-conf_word = codes "CONF: a conference of recordings\n"
+abbrev pub conference_word : List ℕ
+conference_word = codes "CONF: a conference of recordings\n"
 
 abbrev pub links_word : List ℕ
 links_word = codes "CONF: a conference of links\n"
@@ -97,9 +97,9 @@ does of.Usage = []
 does of.Read = codes "prints the text of a source of a recording as a terminal shows it, and counts the packets\n" ++ (file_word ++ (ssrc_word ++ (source_word ++ types_words)))
 does of.List = codes "prints a line for each record of a recording: when it came, its numbers, whose text it is, or why it is refused\n" ++ (file_word ++ types_words)
 does of.Send = codes "makes the recording of what a sender sends of a script\n" ++ (codes "SCRIPT: lines of a number of milliseconds, one space, and the text that is typed then\n" ++ (out_word ++ sending_words))
-does of.Mix = codes "mixes a conference of recordings, makes the OUT of each leg, and prints what each terminal shows\n" ++ conf_word
-does of.Attend = codes "mixes as mix does, with the names and the leavings that RTCP in the recordings tells\n" ++ conf_word
-does of.Cascade = codes "mixes as mix does, where the legs whose IN is trunk have their texts in what another mixer sent\n" ++ (codes "FILE: the recording of what that sent\n" ++ (codes "SSRC: of the packets in it, a number up to 4294967295\n" ++ conf_word))
+does of.Mix = codes "mixes a conference of recordings, makes the OUT of each leg, and prints what each terminal shows\n" ++ conference_word
+does of.Attend = codes "mixes as mix does, with the names and the leavings that RTCP in the recordings tells\n" ++ conference_word
+does of.Cascade = codes "mixes as mix does, where the legs whose IN is trunk have their texts in what another mixer sent\n" ++ (codes "FILE: the recording of what that sent\n" ++ (codes "SSRC: of the packets in it, a number up to 4294967295\n" ++ conference_word))
 does of.Make = codes "makes a conference from a number, mixes it in memory, and prints a line of it\n" ++ (codes "N: a number from 1 to 1000\n")
 does of.Live = codes "mixes a conference over UDP while people type, and prints at its end what each terminal shows\n" ++ links_word
 does of.Watch = codes "does what live does while a reader follows the texts, and prints how much of each was taken\n" ++ links_word

@@ -28,5 +28,5 @@ pub record IsSent (s : SendWords) (octets file : List ℕ) : Type 0 where
   pub own : Own 2 (script_history s lines)
   pub closed : Closed 2 (script_history s lines)
   pub whole : primaries (script_history s lines) ≡ text_of_lines lines
-  pub packets : s.ssrc < 2 ^ 32 → map (λ r. text_of r.1 (Some s.ssrc) (sending_of s).pts) (script_records s lines)
+  pub packets : s.ssrc < 2 ^ 32 → map (λ r. text_of r.1 (Some s.ssrc) (sending_of s).payload_types) (script_records s lines)
       ≡ map (λ x. Ok (own_packet (script_history s lines) x)) (placed (script_history s lines))

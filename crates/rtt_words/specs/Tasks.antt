@@ -23,18 +23,18 @@ use Rattle.show_spec.specs.Showing.{show_view}
 use Rattle.times_spec.specs.Times.{times_view}
 use Rattle.command_spec.specs.Transcripts.{transcript_view}
 use Rattle.command_spec.specs.Frames.{relay, channel}
-use Rattle.frame_spec.specs.declared.frames.FrameFault.{FrameFault}
+use Rattle.frame_spec.specs.declared.frames.FrameRefusal.{FrameRefusal}
 use Rattle.command_spec.specs.Serving.{serving}
 use Rattle.command_spec.specs.Scripts.{Sending, full_line, recording, usual_sending}
 use Rattle.command_spec.specs.Work.{Made, Steps, Reads, Refuses, Makes, Work}
 
 -- what is read of a recording
 abbrev pub request_of : ReadWords → ReadRequest
-request_of r = record { ssrc = r.ssrc; source = r.source; pts = r.pts }
+request_of r = record { ssrc = r.ssrc; source = r.source; payload_types = r.payload_types }
 
 -- what sends a script
 abbrev pub sending_of : SendWords → Sending
-sending_of s = usual_sending s.ssrc s.seq s.stamp
+sending_of s = usual_sending s.ssrc s.seq s.timestamp
 
 -- the first input is a recording, which is refused with its fault, or this comes then
 abbrev pub unless_broken : Option dumps.Fault → Steps → Steps
@@ -72,27 +72,27 @@ sends s (Ok lines) =
     unless_full (full_line (sending_of s) lines) (Makes [] (recording_at s.out (sending_of s) lines ∷ []))
 
 -- a file of this name is made of frames, or frames are refused
-abbrev pub saves_frames : List ℕ → Result (List ℕ) FrameFault → Steps
+abbrev pub saves_frames : List ℕ → Result (List ℕ) FrameRefusal → Steps
 saves_frames out (Err fault) = Refuses 0 (AtFrame fault.offset fault.kind)
 saves_frames out (Ok octets) = Makes [] (record { name = out; octets = octets } ∷ [])
 
 abbrev pub work : Command → Work
 work (Read r) = prints_recording r.file (read_view (request_of r))
-work (ListRecords l) = prints_recording l.file (λ octets. list_view l.pts (dump usual_limit octets).items)
+work (ListRecords l) = prints_recording l.file (λ octets. list_view l.payload_types (dump usual_limit octets).items)
 work (Send s) = record { prints = false; steps = Reads s.file (λ octets. sends s (script octets)) }
-work (Mix m) = record { prints = true; steps = mixing m.conf }
-work (Attend m) = record { prints = true; steps = attending m.conf }
-work (Cascade c) = record { prints = true; steps = cascading c.conf c.file c.ssrc }
+work (Mix m) = record { prints = true; steps = mixing m.conference }
+work (Attend m) = record { prints = true; steps = attending m.conference }
+work (Cascade c) = record { prints = true; steps = cascading c.conference c.file c.ssrc }
 work (Make m) = record { prints = true; steps = making m.number }
-work (Live m) = record { prints = true; steps = serving m.conf }
-work (Watch m) = record { prints = true; steps = serving m.conf }
+work (Live m) = record { prints = true; steps = serving m.conference }
+work (Watch m) = record { prints = true; steps = serving m.conference }
 work (Relay s) = record { prints = false; steps = Reads s.file (λ octets. saves_frames s.out (relay (sending_of s) octets)) }
 work (Channel c) = record {
   prints = false;
   steps = Reads c.file (λ octets. unless_broken (recording_fault octets) (saves_frames c.out (channel c.ssrc octets)));
 }
-work (Show l) = prints_unless show_refusal l.file (show_view l.pts)
-work (Times l) = prints_unless show_refusal l.file (times_view l.pts)
+work (Show l) = prints_unless show_refusal l.file (show_view l.payload_types)
+work (Times l) = prints_unless show_refusal l.file (times_view l.payload_types)
 work (Script r) = prints_recording r.file (transcript_view (request_of r))
 work (Check c) = record { prints = true; steps = steps_of (look c.file) }
 work (Help t) = record { prints = true; steps = Makes (help_text t) [] }

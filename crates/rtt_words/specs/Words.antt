@@ -1,9 +1,9 @@
 -- The command words of the program (profile). A file is named by a word that is not empty and does not begin with `-`.
 use Rattle.std.specs.Prelude.{ℕ, Bool, false, not, Option, None, Some, List, [], ◌∷◌, ◌==◌, ◌&&◌, bytes_eq, codes, if◌then◌else◌, option_and_then}
 use Rattle.std.specs.Option.{option_map}
-use Rattle.rtt_base.specs.declared.text_packets.Pts.{Pts}
-use Rattle.file_spec.specs.Numbers.{number, number_between, most_ssrc, pts}
-use Rattle.command_spec.specs.Usual.{usual_pts}
+use Rattle.rtt_base.specs.declared.text_packets.PayloadTypes.{PayloadTypes}
+use Rattle.file_spec.specs.Numbers.{number, number_between, most_ssrc, payload_types}
+use Rattle.command_spec.specs.Usual.{usual_payload_types}
 use Rattle.rtt_words.specs.declared.topics.Topic.{Topic}
 use Rattle.rtt_words.specs.declared.topics.Topic.TheVariants.{Usage}
 use Rattle.rtt_words.specs.Help.{topic}
@@ -13,12 +13,12 @@ pub record ReadWords : Type 0 where
   pub file : List ℕ
   pub ssrc : ℕ
   pub source : ℕ
-  pub pts : Pts
+  pub payload_types : PayloadTypes
 
 -- what `list`, `show` and `times` are asked for: the records of a recording, under two payload types
 pub record ListWords : Type 0 where
   pub file : List ℕ
-  pub pts : Pts
+  pub payload_types : PayloadTypes
 
 -- what `send` and `relay` are asked for: the text in a file is sent into a recording, by a stream of this SSRC, first sequence
 -- number and timestamp at time 0
@@ -27,11 +27,11 @@ pub record SendWords : Type 0 where
   pub out : List ℕ
   pub ssrc : ℕ
   pub seq : ℕ
-  pub stamp : ℕ
+  pub timestamp : ℕ
 
 -- what `mix`, `attend`, `live` and `watch` are asked for: the conference in a file
 pub record MixWords : Type 0 where
-  pub conf : List ℕ
+  pub conference : List ℕ
 
 -- what `make` is asked for: the conference that is made from a number
 pub record MakeWords : Type 0 where
@@ -51,7 +51,7 @@ pub record CheckWords : Type 0 where
 pub record CascadeWords : Type 0 where
   pub file : List ℕ
   pub ssrc : ℕ
-  pub conf : List ℕ
+  pub conference : List ℕ
 
 pub data Command : Type 0 where
   Read : ReadWords → Command
@@ -77,56 +77,56 @@ abbrev pub is_word : List ℕ → Bool
 is_word [] = false
 is_word (c ∷ cs) = not (c == 45)
 
-abbrev pub if_different : Pts → Option Pts
+abbrev pub if_different : PayloadTypes → Option PayloadTypes
 if_different p = if p.t140 == p.red then None else Some p
 
 -- two payload types that differ
-abbrev pub payload_types : List ℕ → List ℕ → Option Pts
-payload_types t140 red = option_and_then if_different (pts t140 red)
+abbrev pub different_types : List ℕ → List ℕ → Option PayloadTypes
+different_types t140 red = option_and_then if_different (payload_types t140 red)
 
 -- the words of a `read`, where the numbers are numbers
-abbrev pub read_of : List ℕ → Option ℕ → Option ℕ → Option Pts → Option ReadWords
+abbrev pub read_of : List ℕ → Option ℕ → Option ℕ → Option PayloadTypes → Option ReadWords
 read_of file ssrc source types =
     option_and_then (λ s. option_and_then (λ t. option_map (λ p.
-    record { file = file; ssrc = s; source = t; pts = p }) types) source) ssrc
+    record { file = file; ssrc = s; source = t; payload_types = p }) types) source) ssrc
 
 -- `FILE SSRC`, `FILE SSRC SOURCE` and `FILE SSRC SOURCE T140 RED`: where no source is named it is the SSRC
 abbrev pub read_words : List (List ℕ) → Option ReadWords
 read_words (file ∷ ssrc ∷ []) =
-    if is_word file then read_of file (number most_ssrc ssrc) (number most_ssrc ssrc) (Some usual_pts) else None
+    if is_word file then read_of file (number most_ssrc ssrc) (number most_ssrc ssrc) (Some usual_payload_types) else None
 read_words (file ∷ ssrc ∷ source ∷ []) =
-    if is_word file then read_of file (number most_ssrc ssrc) (number most_ssrc source) (Some usual_pts) else None
+    if is_word file then read_of file (number most_ssrc ssrc) (number most_ssrc source) (Some usual_payload_types) else None
 read_words (file ∷ ssrc ∷ source ∷ t140 ∷ red ∷ []) =
-    if is_word file then read_of file (number most_ssrc ssrc) (number most_ssrc source) (payload_types t140 red)
+    if is_word file then read_of file (number most_ssrc ssrc) (number most_ssrc source) (different_types t140 red)
     else None
 read_words _ = None
 
-abbrev pub list_of : List ℕ → Option Pts → Option ListWords
-list_of file types = option_map (λ p. record { file = file; pts = p }) types
+abbrev pub list_of : List ℕ → Option PayloadTypes → Option ListWords
+list_of file types = option_map (λ p. record { file = file; payload_types = p }) types
 
 -- `FILE` and `FILE T140 RED`
 abbrev pub list_words : List (List ℕ) → Option ListWords
-list_words (file ∷ []) = if is_word file then list_of file (Some usual_pts) else None
-list_words (file ∷ t140 ∷ red ∷ []) = if is_word file then list_of file (payload_types t140 red) else None
+list_words (file ∷ []) = if is_word file then list_of file (Some usual_payload_types) else None
+list_words (file ∷ t140 ∷ red ∷ []) = if is_word file then list_of file (different_types t140 red) else None
 list_words _ = None
 
 -- the words of a `send`, where the numbers are numbers
 abbrev pub send_of : List ℕ → List ℕ → Option ℕ → Option ℕ → Option ℕ → Option SendWords
-send_of file out ssrc seq stamp =
+send_of file out ssrc seq timestamp =
     option_and_then (λ s. option_and_then (λ q. option_map (λ t.
-    record { file = file; out = out; ssrc = s; seq = q; stamp = t }) stamp) seq) ssrc
+    record { file = file; out = out; ssrc = s; seq = q; timestamp = t }) timestamp) seq) ssrc
 
 -- `SCRIPT OUT SSRC SEQ STAMP` and `FRAMES OUT SSRC SEQ STAMP`
 abbrev pub send_words : List (List ℕ) → Option SendWords
-send_words (file ∷ out ∷ ssrc ∷ seq ∷ stamp ∷ []) =
+send_words (file ∷ out ∷ ssrc ∷ seq ∷ timestamp ∷ []) =
     if is_word file && is_word out
-    then send_of file out (number most_ssrc ssrc) (number 65535 seq) (number 4294967295 stamp)
+    then send_of file out (number most_ssrc ssrc) (number 65535 seq) (number 4294967295 timestamp)
     else None
 send_words _ = None
 
 -- `CONF`
 abbrev pub mix_words : List (List ℕ) → Option MixWords
-mix_words (conf ∷ []) = if is_word conf then Some (record { conf = conf }) else None
+mix_words (conference ∷ []) = if is_word conference then Some (record { conference = conference }) else None
 mix_words _ = None
 
 -- `N`, from 1 to 1000
@@ -143,16 +143,16 @@ channel_words (file ∷ ssrc ∷ out ∷ []) =
 channel_words _ = None
 
 -- the last word names a conference
-abbrev pub before_conf : ChannelWords → CascadeWords
-before_conf c = record { file = c.file; ssrc = c.ssrc; conf = c.out }
+abbrev pub before_conference : ChannelWords → CascadeWords
+before_conference c = record { file = c.file; ssrc = c.ssrc; conference = c.out }
 
 -- `FILE SSRC CONF`, of the same shape
 abbrev pub cascade_words : List (List ℕ) → Option CascadeWords
-cascade_words words = option_map before_conf (channel_words words)
+cascade_words words = option_map before_conference (channel_words words)
 
 -- the one word names a file
 abbrev pub to_check : MixWords → CheckWords
-to_check m = record { file = m.conf }
+to_check m = record { file = m.conference }
 
 -- `FILE`, of the same shape as `CONF`
 abbrev pub check_words : List (List ℕ) → Option CheckWords

@@ -1,6 +1,6 @@
 //! What the program is asked for.
 use crate::Topic;
-use rtt_base::Pts;
+use rtt_base::PayloadTypes;
 
 /// What `read` and `script` are asked for.
 #[derive(Clone, Copy, Debug, PartialEq, Eq)]
@@ -11,7 +11,7 @@ pub struct ReadWords<'a> {
     pub ssrc: u32,
     /// Whose text in them.
     pub source: u32,
-    pub pts: Pts,
+    pub payload_types: PayloadTypes,
 }
 
 /// What `list`, `show` and `times` are asked for.
@@ -19,7 +19,7 @@ pub struct ReadWords<'a> {
 pub struct ListWords<'a> {
     /// The name of the recording.
     pub file: &'a str,
-    pub pts: Pts,
+    pub payload_types: PayloadTypes,
 }
 
 /// What `send` and `relay` are asked for.
@@ -33,14 +33,14 @@ pub struct SendWords<'a> {
     /// The first sequence number.
     pub seq: u16,
     /// The timestamp at the time 0.
-    pub stamp: u32,
+    pub timestamp: u32,
 }
 
 /// What `mix`, `attend`, `live` and `watch` are asked for.
 #[derive(Clone, Copy, Debug, PartialEq, Eq)]
 pub struct MixWords<'a> {
     /// The name of the conference's file.
-    pub conf: &'a str,
+    pub conference: &'a str,
 }
 
 /// What `make` is asked for.
@@ -76,7 +76,7 @@ pub struct CascadeWords<'a> {
     /// The SSRC under which that sent it.
     pub ssrc: u32,
     /// The name of the conference's file.
-    pub conf: &'a str,
+    pub conference: &'a str,
 }
 
 /// A command, with the words after its name.

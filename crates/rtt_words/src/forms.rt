@@ -2,17 +2,17 @@
 ghost use Rattle.std.specs.Prelude.{◌≡◌, false, codes, map, IfOk};
 ghost use Rattle.clap.specs.Words.{app_of, first_value, found_of, rule_of};
 ghost use Rattle.rtt_words.specs.Words as table;
-ghost use Rattle.rtt_words.specs.Words.{payload_types};
+ghost use Rattle.rtt_words.specs.Words.{different_types};
 ghost use Rattle.rtt_words.specs.Commands.{asked, channelled, listed, made, mixed, sent};
-ghost use Rattle.rtt_words.specs.Apps.{app_with, bare_app, channel_given, help_given, list_given, make_given, mix_given, pts_given, read_given, rule_for, send_given, version_given, with_rules};
+ghost use Rattle.rtt_words.specs.Apps.{app_with, bare_app, channel_given, help_given, list_given, make_given, mix_given, payload_types_given, read_given, rule_for, send_given, version_given, with_rules};
 
 use crate::arguments::Arguments;
 use crate::topics::topic_of;
 use crate::{ChannelWords, ListWords, MakeWords, MixWords, ReadWords, SendWords, Topic};
 use clap::{Arg, ArgMatches, Command};
-use file_lines::{number_from, number_of, pts_of};
+use file_lines::{number_from, number_of, payload_types_of};
 use file_spec::limits::{USUAL_RED, USUAL_T140};
-use rtt_base::Pts;
+use rtt_base::PayloadTypes;
 use std::alloc::{AllocError, Global};
 
 /// A command without arguments, not even `--help`.
@@ -62,26 +62,26 @@ fn command_with<'a>(
 }
 
 /// The payload types where none are named.
-const USUAL: Pts = Pts {
+const USUAL: PayloadTypes = PayloadTypes {
     t140: USUAL_T140,
     red: USUAL_RED,
 };
 
 /// Two payload types that differ.
-fn payload_types_of(t140: &str, red: &str) -> Option<Pts>
-    ensures { result ≡ payload_types t140.now red.now }
+fn different_types_of(t140: &str, red: &str) -> Option<PayloadTypes>
+    ensures { result ≡ different_types t140.now red.now }
 {
-    let pts = pts_of(t140, red)?;
-    if pts.t140 == pts.red { None } else { Some(pts) }
+    let payload_types = payload_types_of(t140, red)?;
+    if payload_types.t140 == payload_types.red { None } else { Some(payload_types) }
 }
 
 /// The payload types that a command names, both or neither.
-fn pts_matched(matches: &ArgMatches<'_>) -> Option<Pts>
-    ensures { result ≡ pts_given (first_value (found_of matches.now) (codes "T140")) (first_value (found_of matches.now) (codes "RED")) }
+fn payload_types_matched(matches: &ArgMatches<'_>) -> Option<PayloadTypes>
+    ensures { result ≡ payload_types_given (first_value (found_of matches.now) (codes "T140")) (first_value (found_of matches.now) (codes "RED")) }
 {
     match (matches.get_str("T140"), matches.get_str("RED")) {
         (None, None) => Some(USUAL),
-        (Some(t140), Some(red)) => payload_types_of(t140, red),
+        (Some(t140), Some(red)) => different_types_of(t140, red),
         _ => None,
     }
 }
@@ -102,12 +102,12 @@ impl<'a> Arguments<'a> for ReadWords<'a> {
         let source = matches.get_str("SOURCE").unwrap_or(ssrc);
         let ssrc = number_of(ssrc, u32::MAX)?;
         let source = number_of(source, u32::MAX)?;
-        let pts = pts_matched(matches)?;
+        let payload_types = payload_types_matched(matches)?;
         Some(ReadWords {
             file,
             ssrc,
             source,
-            pts,
+            payload_types,
         })
     }
 }
@@ -124,8 +124,8 @@ impl<'a> Arguments<'a> for ListWords<'a> {
 
     fn from_matches(matches: &ArgMatches<'a>) -> Option<ListWords<'a>> {
         let file = matches.get_str("FILE")?;
-        let pts = pts_matched(matches)?;
-        Some(ListWords { file, pts })
+        let payload_types = payload_types_matched(matches)?;
+        Some(ListWords { file, payload_types })
     }
 }
 
@@ -149,13 +149,13 @@ impl<'a> Arguments<'a> for SendWords<'a> {
         let out = matches.get_str("OUT")?;
         let ssrc = number_of(matches.get_str("SSRC")?, u32::MAX)?;
         let seq = number_of(matches.get_str("SEQ")?, 65_535)?;
-        let stamp = number_of(matches.get_str("STAMP")?, u32::MAX)?;
+        let timestamp = number_of(matches.get_str("STAMP")?, u32::MAX)?;
         Some(SendWords {
             file,
             out,
             ssrc,
             seq: seq as u16,
-            stamp,
+            timestamp,
         })
     }
 }
@@ -171,8 +171,8 @@ impl<'a> Arguments<'a> for MixWords<'a> {
     }
 
     fn from_matches(matches: &ArgMatches<'a>) -> Option<MixWords<'a>> {
-        let conf = matches.get_str("CONF")?;
-        Some(MixWords { conf })
+        let conference = matches.get_str("CONF")?;
+        Some(MixWords { conference })
     }
 }
 

@@ -2,13 +2,13 @@ use crate::{
     CascadeWords, ChannelWords, CheckWords, Command, ListWords, MakeWords, MixWords, ReadWords,
     SendWords, Topic, WordFault, command_of,
 };
-use rtt_base::Pts;
+use rtt_base::PayloadTypes;
 use std::alloc::Global;
 use std::test::Fail;
 
-const NAMED: Pts = Pts { t140: 96, red: 127 };
+const NAMED: PayloadTypes = PayloadTypes { t140: 96, red: 127 };
 
-const USUAL: Pts = Pts { t140: 98, red: 100 };
+const USUAL: PayloadTypes = PayloadTypes { t140: 98, red: 100 };
 
 // The words, separated by spaces.
 fn split(alloc: Global, text: &str) -> Result<Vec<String>, Fail> {
@@ -45,17 +45,17 @@ fn are_wrong(alloc: Global, texts: &[&str]) -> Result<bool, Fail> {
     Ok(true)
 }
 
-fn read(ssrc: u32, source: u32, pts: Pts) -> ReadWords<'static> {
+fn read(ssrc: u32, source: u32, payload_types: PayloadTypes) -> ReadWords<'static> {
     ReadWords {
         file: "a.rtp",
         ssrc,
         source,
-        pts,
+        payload_types,
     }
 }
 
-fn list(pts: Pts) -> ListWords<'static> {
-    ListWords { file: "a.rtp", pts }
+fn list(payload_types: PayloadTypes) -> ListWords<'static> {
+    ListWords { file: "a.rtp", payload_types }
 }
 
 #[test]
@@ -105,7 +105,7 @@ fn a_send_or_a_relay_takes_the_greatest_numbers(rt: HostRuntime) -> Result<(), F
         out: "a.rtp",
         ssrc: 1001,
         seq: 65_535,
-        stamp: 4_294_967_295,
+        timestamp: 4_294_967_295,
     };
     let send = "send s.txt a.rtp 1001 65535 4294967295";
     assert!(rt; asks(rt.alloc(), send, Command::Send(words))?);
@@ -116,7 +116,7 @@ fn a_send_or_a_relay_takes_the_greatest_numbers(rt: HostRuntime) -> Result<(), F
 
 #[test]
 fn four_commands_name_a_conference(rt: HostRuntime) -> Result<(), Fail> {
-    let words = MixWords { conf: "c.txt" };
+    let words = MixWords { conference: "c.txt" };
     assert!(rt; asks(rt.alloc(), "mix c.txt", Command::Mix(words))?);
     assert!(rt; asks(rt.alloc(), "attend c.txt", Command::Attend(words))?);
     assert!(rt; asks(rt.alloc(), "live c.txt", Command::Live(words))?);
@@ -129,7 +129,7 @@ fn a_cascade_names_a_recording_and_a_conference(rt: HostRuntime) -> Result<(), F
     let cascade = Command::Cascade(CascadeWords {
         file: "b.out",
         ssrc: 9000,
-        conf: "c.txt",
+        conference: "c.txt",
     });
     assert!(rt; asks(rt.alloc(), "cascade b.out 9000 c.txt", cascade)?);
     Ok(())
@@ -226,10 +226,10 @@ fn no_word_is_empty_or_begins_with_a_hyphen(rt: HostRuntime) -> Result<(), Fail>
 #[test]
 fn numbers_outside_their_range_are_wrong(rt: HostRuntime) -> Result<(), Fail> {
     let sources = ["read a.rtp 12345678901", "channel a.rtp x f"];
-    let payload_types = ["list a.rtp 95 100", "list a.rtp 98 98"];
+    let different_types = ["list a.rtp 95 100", "list a.rtp 98 98"];
     let conferences = ["cascade b.out c.txt 9000", "make 0", "make 1001", "make x"];
     assert!(rt; are_wrong(rt.alloc(), &sources)?);
-    assert!(rt; are_wrong(rt.alloc(), &payload_types)?);
+    assert!(rt; are_wrong(rt.alloc(), &different_types)?);
     assert!(rt; are_wrong(rt.alloc(), &conferences)?);
     assert!(rt; is_wrong(rt.alloc(), "send s o 1 65536 0")?);
     Ok(())

@@ -61,8 +61,8 @@ fn cascade_command(alloc: Global, words: &[String]) -> Result<CascadeWords<'_>, 
     ensures wrong { result ≡ Err WordFault.Wrong → cascade_words (drop 1 (map string_bytes words.now)) ≡ None }
 {
     let ChannelWords { file, ssrc, out } = from_words(alloc, words)?;
-    let conf = out;
-    Ok(CascadeWords { file, ssrc, conf })
+    let conference = out;
+    Ok(CascadeWords { file, ssrc, conference })
 }
 
 /// A `check`, where the words after its name are in its row.
@@ -71,8 +71,8 @@ fn check_command(alloc: Global, words: &[String]) -> Result<CheckWords<'_>, Word
     ensures asked { IfOk result (λ c. check_words (drop 1 (map string_bytes words.now)) ≡ Some (checked c)) }
     ensures wrong { result ≡ Err WordFault.Wrong → check_words (drop 1 (map string_bytes words.now)) ≡ None }
 {
-    let MixWords { conf } = from_words(alloc, words)?;
-    Ok(CheckWords { file: conf })
+    let MixWords { conference } = from_words(alloc, words)?;
+    Ok(CheckWords { file: conference })
 }
 
 /// The command of this name, where the words after the first are in its rows.

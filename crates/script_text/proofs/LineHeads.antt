@@ -16,7 +16,7 @@ use Rattle.file_lines.specs.declared.faults.ConfFault.{ConfFault}
 use Rattle.file_lines.specs.declared.faults.ConfFault.TheVariants.{Refused}
 use Rattle.file_lines.specs.Causes.{IsCauseAt}
 use Rattle.file_lines.specs.Fronts.{number_and_rest}
-use Rattle.script_text.specs.declared.known.Known.{Known}
+use Rattle.script_text.specs.declared.line_facts.KnownLines.{KnownLines}
 use Rattle.script_text.specs.ScriptLines.{moment_said, head_said, IsPlain, IsKnown, AreKnown}
 use Rattle.script_text.proofs.EscapeLoop.{none_read, unescaped-plain, end_read, end_long}
 
@@ -165,13 +165,13 @@ pub plain_long : (n : ℕ) (octets : List ℕ) (fault : ConfFault) → IsPlain o
 plain_long n octets fault h long e = subst (λ f. IsCauseAt n f (typed octets)) (sym e) (refl, end_long octets octets [] (plain_is octets h) long (none_read octets))
 
 -- what is known of the first line, and of those behind it
-pub known_first : (known : Known) (rest after : List (List ℕ)) (l : List ℕ) → rest ≡ l ∷ after → AreKnown known rest → IsKnown known l
+pub known_first : (known : KnownLines) (rest after : List (List ℕ)) (l : List ℕ) → rest ≡ l ∷ after → AreKnown known rest → IsKnown known l
 known_first known rest after l e k = record {
   text = λ t. All-head (λ x. is_utf8 x ≡ true) l after (subst (λ ls. All (λ x. is_utf8 x ≡ true) ls) e (k.text t));
   plain = λ t. All-head (λ x. IsPlain x) l after (subst (λ ls. All (λ x. IsPlain x) ls) e (k.plain t));
 }
 
-pub known_behind : (known : Known) (rest after : List (List ℕ)) (l : List ℕ) → rest ≡ l ∷ after → AreKnown known rest → AreKnown known after
+pub known_behind : (known : KnownLines) (rest after : List (List ℕ)) (l : List ℕ) → rest ≡ l ∷ after → AreKnown known rest → AreKnown known after
 known_behind known rest after l e k = record {
   text = λ t. All-tail (λ x. is_utf8 x ≡ true) l after (subst (λ ls. All (λ x. is_utf8 x ≡ true) ls) e (k.text t));
   plain = λ t. All-tail (λ x. IsPlain x) l after (subst (λ ls. All (λ x. IsPlain x) ls) e (k.plain t));

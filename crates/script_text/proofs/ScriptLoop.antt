@@ -11,7 +11,7 @@ use Rattle.file_spec.specs.declared.limits.TheConstants.{MOST_SCRIPT_OCTETS}
 use Rattle.file_lines.specs.declared.faults.ConfFault.{ConfFault}
 use Rattle.file_lines.specs.declared.faults.ConfFault.TheVariants.{Refused, NoMemory}
 use Rattle.file_lines.specs.Causes.{IsCause, IsCauseAt}
-use Rattle.script_text.specs.declared.known.Known.{Known}
+use Rattle.script_text.specs.declared.line_facts.KnownLines.{KnownLines}
 use Rattle.script_text.specs.ScriptLines.{head_said, AreKnown}
 use Rattle.script_text.proofs.LineHeads.{and_line_is, line_without_head, with_text, known_behind}
 
@@ -27,14 +27,14 @@ latest_with (Ok t) above later n at h e =
 latest_with (Err kind) above later n at h e = absurd (cc)
 
 -- what a loop has read of a script, where `rest` is to come
-pub record HasReadLines (octets rest : List ℕ) (above : List ScriptLine) (moment number : ℕ) (known : Known) : Type 0 where
+pub record HasReadLines (octets rest : List ℕ) (above : List ScriptLine) (moment number : ℕ) (known : KnownLines) : Type 0 where
   pub same : read_lines and_line above (told is_comment (number + 1) (lines rest)) ≡ read_lines and_line [] (told is_comment 1 (lines octets))
   pub last : latest above ≡ moment
   pub counted : number + length rest ≤ length octets
   pub fits : length octets ≤ MOST_SCRIPT_OCTETS
   pub are_known : AreKnown known (lines rest)
 
-pub script_more : (octets rest line after : List ℕ) (above later : List ScriptLine) (at : ℕ) (said : List ℕ) (moment number : ℕ) (known : Known)
+pub script_more : (octets rest line after : List ℕ) (above later : List ScriptLine) (at : ℕ) (said : List ℕ) (moment number : ℕ) (known : KnownLines)
     → lines rest ≡ line ∷ lines after → length after < length rest → is_comment line ≡ false
     → head_said moment line ≡ Ok (at, said) → moment ≤ at → with_text above (number + 1) at (typed said) ≡ Ok later
     → HasReadLines octets rest above moment number known → HasReadLines octets after later at (number + 1) known
@@ -49,7 +49,7 @@ script_more octets rest line after above later at said moment number known first
       are_known = known_behind known (lines rest) (lines after) line first read.are_known;
     }
 
-pub script_over : (octets rest line after : List ℕ) (above : List ScriptLine) (moment number : ℕ) (known : Known)
+pub script_over : (octets rest line after : List ℕ) (above : List ScriptLine) (moment number : ℕ) (known : KnownLines)
     → lines rest ≡ line ∷ lines after → length after < length rest → is_comment line ≡ true
     → HasReadLines octets rest above moment number known → HasReadLines octets after above moment (number + 1) known
 script_over octets rest line after above moment number known first shorter over read = record {
@@ -63,7 +63,7 @@ script_over octets rest line after above moment number known first shorter over 
 script_is : (octets : List ℕ) → length octets ≤ MOST_SCRIPT_OCTETS → script octets ≡ read_lines and_line [] (told is_comment 1 (lines octets))
 script_is octets h = let small : ltb MOST_SCRIPT_OCTETS (length octets) ≡ false = le-ltb _ _ h in rw small refl
 
-script_refused : (octets rest line after : List ℕ) (above : List ScriptLine) (moment number : ℕ) (known : Known) (kind : ConfKind)
+script_refused : (octets rest line after : List ℕ) (above : List ScriptLine) (moment number : ℕ) (known : KnownLines) (kind : ConfKind)
     → lines rest ≡ line ∷ lines after → is_comment line ≡ false
     → (script_line moment (record { number = number + 1; octets = line }) >>= λ s. Ok (above ++ s ∷ [])) ≡ Err kind
     → HasReadLines octets rest above moment number known → script octets ≡ Err (record { line = number + 1; kind = kind })
@@ -73,14 +73,14 @@ script_refused octets rest line after above moment number known kind first told_
     ∙ one_refused and_line is_comment above (number + 1) rest line after kind first told_it
     (ap (λ m. script_line m (record { number = number + 1; octets = line }) >>= λ s. Ok (above ++ s ∷ [])) read.last ∙ bad)
 
-pub head_refused : (octets rest line after : List ℕ) (above : List ScriptLine) (moment number : ℕ) (known : Known) (kind : ConfKind) (fault : ConfFault)
+pub head_refused : (octets rest line after : List ℕ) (above : List ScriptLine) (moment number : ℕ) (known : KnownLines) (kind : ConfKind) (fault : ConfFault)
     → lines rest ≡ line ∷ lines after → is_comment line ≡ false → head_said moment line ≡ Err kind → fault ≡ Refused (number + 1) kind
     → HasReadLines octets rest above moment number known → IsCause fault (script octets)
 head_refused octets rest line after above moment number known kind fault first told_it bad e read =
     subst (λ f. IsCause f (script octets)) (sym e)
     (script_refused octets rest line after above moment number known kind first told_it (line_without_head above moment (number + 1) line kind bad) read)
 
-pub text_refused : (octets rest line after : List ℕ) (above : List ScriptLine) (moment number at : ℕ) (said : List ℕ) (known : Known) (fault : ConfFault)
+pub text_refused : (octets rest line after : List ℕ) (above : List ScriptLine) (moment number at : ℕ) (said : List ℕ) (known : KnownLines) (fault : ConfFault)
     → lines rest ≡ line ∷ lines after → is_comment line ≡ false → head_said moment line ≡ Ok (at, said) → IsCauseAt (number + 1) fault (typed said)
     → HasReadLines octets rest above moment number known → IsCause fault (script octets)
 text_refused octets rest line after above moment number at said known (Refused n kind) first told_it head bad read =

@@ -12,7 +12,7 @@ use Rattle.file_spec.specs.declared.kinds.ConfKind.TheVariants.{NotText, Count, 
 use Rattle.file_spec.specs.declared.limits.TheConstants.{LAST_MOMENT}
 use Rattle.script_text.specs.declared.script_lines.ScriptLine.{ScriptLine}
 use Rattle.script_text.specs.declared.heads.Head.{Head}
-use Rattle.script_text.specs.declared.known.Known.{Known}
+use Rattle.script_text.specs.declared.line_facts.KnownLines.{KnownLines}
 
 abbrev pub line_of : ScriptLine → spec.ScriptLine
 line_of l = record { line = l.line; at = l.at; text = l.text.now }
@@ -46,11 +46,11 @@ abbrev pub IsPlain : List ℕ → Type 0
 IsPlain octets = All (λ c. (c == 92) ≡ false) octets
 
 -- what is known holds of this line
-pub record IsKnown (known : Known) (line : List ℕ) : Type 0 where
+pub record IsKnown (known : KnownLines) (line : List ℕ) : Type 0 where
   pub text : known.text ≡ true → is_utf8 line ≡ true
   pub plain : known.plain ≡ true → IsPlain line
 
 -- it holds of each of these lines
-pub record AreKnown (known : Known) (lines : List (List ℕ)) : Type 0 where
+pub record AreKnown (known : KnownLines) (lines : List (List ℕ)) : Type 0 where
   pub text : known.text ≡ true → All (λ l. is_utf8 l ≡ true) lines
   pub plain : known.plain ≡ true → All (λ l. IsPlain l) lines

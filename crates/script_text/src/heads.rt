@@ -6,7 +6,7 @@ ghost use Rattle.file_lines.specs.Fronts.{number_and_rest};
 ghost use Rattle.script_text.specs.ScriptLines.{head_octets, head_said, moment_said, IsKnown};
 
 use crate::ConfKind;
-use crate::known::{Known, is_text};
+use crate::line_facts::{KnownLines, is_text};
 use file_lines::number_before_space;
 use file_spec::limits::LAST_MOMENT;
 
@@ -43,7 +43,7 @@ fn read_moment(octets: &[u8]) -> Result<Head<'_>, ConfKind>
     }
 }
 
-fn is_text_line(octets: &[u8], known: Known) -> bool
+fn is_text_line(octets: &[u8], known: KnownLines) -> bool
     requires { IsKnown known octets.now }
     ensures { result ≡ is_utf8 octets.now }
 {
@@ -51,7 +51,7 @@ fn is_text_line(octets: &[u8], known: Known) -> bool
 }
 
 /// Reads the head of a line. The latest line above is typed at `latest`.
-pub(crate) fn read_head(latest: u32, octets: &[u8], known: Known) -> Result<Head<'_>, ConfKind>
+pub(crate) fn read_head(latest: u32, octets: &[u8], known: KnownLines) -> Result<Head<'_>, ConfKind>
     requires { IsKnown known octets.now }
     ensures said { head_octets result ≡ head_said latest octets.now }
     ensures in_order { IfOk result (λ head. latest ≤ head.at) }

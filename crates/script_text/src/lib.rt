@@ -3,7 +3,7 @@
 
 mod escapes;
 mod heads;
-mod known;
+mod line_facts;
 mod script_lines;
 mod script_reader;
 mod scripts;

@@ -7,7 +7,7 @@ ghost use Rattle.script_text.specs.ScriptLines.{with_typed, IsPlain};
 
 use crate::escapes::read_text;
 use crate::heads::{Head, read_head};
-use crate::known::{is_plain_text, known_of};
+use crate::line_facts::{is_plain_text, known_of};
 use crate::{ConfFault, ConfKind, Script, ScriptLine};
 use file_lines::{next_line, says_nothing};
 use file_spec::limits::{LONGEST_TEXT, MOST_SCRIPT_OCTETS};

@@ -12,7 +12,7 @@ use Rattle.mixer_spec.specs.Table.{Seats, Table, no_seats, is_at, leg_in, is_fre
 use Rattle.seating.specs.declared.seats.Seat.{Seat}
 use Rattle.seating.specs.States.{State}
 use Rattle.seating.specs.Places.{is_vacant}
-use Rattle.seating.specs.Standing.{StandsFor, seat_of}
+use Rattle.seating.specs.Standing.{SeatingStandsFor, seat_of}
 
 -- ---- lists
 -- ---- what holds of all places
@@ -51,7 +51,7 @@ reach_set ys q n m o more all here p k e = elim (cases_eq p q) [
 ]
 
 -- no leg holds a place from some place on
-pub vacant_from : (s : Setup) (m : State) (table : Table) (n : ℕ) → StandsFor s m table.seats → ((p k : ℕ) → slice_get m.places p ≡ Some (Some k) → p < n)
+pub vacant_from : (s : Setup) (m : State) (table : Table) (n : ℕ) → SeatingStandsFor s m table.seats → ((p k : ℕ) → slice_get m.places p ≡ Some (Some k) → p < n)
     → (p : ℕ) → n ≤ p → p < 16 → leg_in table.seats s.legs p ≡ None
 vacant_from s m table n h all p l w = go (leg_in table.seats s.legs p) (h.holder p w)
   where
@@ -99,13 +99,13 @@ first_same f g low zero e = refl
 first_same f g low (suc n) e =
     ap (λ b. cond b (Some low) (first_from f (suc low) n)) (e low (omega arith)) ∙ ap (λ o. cond (g low) (Some low) o) (first_same f g (suc low) n (λ k l. e k (omega arith)))
 
-pub free_is : (s : Setup) (m : State) (seats : Seats) → StandsFor s m seats → length m.places ≡ 16 → first_from (is_vacant m.places) 0 (length m.places) ≡ free_place s seats
+pub free_is : (s : Setup) (m : State) (seats : Seats) → SeatingStandsFor s m seats → length m.places ≡ 16 → first_from (is_vacant m.places) 0 (length m.places) ≡ free_place s seats
 free_is s m seats h n =
     ap (first_from (is_vacant m.places) 0) (n ∙ sym h.sixteen)
     ∙ first_same (is_vacant m.places) (is_free s seats) 0 s.places (λ k l. ap (λ o. not (is_some (unwrap_or o None))) (h.holder k (omega (arith, h.sixteen))))
 
 -- ---- calls
-pub stands_new : (s : Setup) (m : State) → s.places ≡ 16 → length m.legs ≡ s.legs → ((i : ℕ) (x : Seat) → slice_get m.legs i ≡ Some x → x ≡ seat_of no_seats i) → ((p : ℕ) → p < 16 → slice_get m.places p ≡ Some None) → StandsFor s m no_seats
+pub stands_new : (s : Setup) (m : State) → s.places ≡ 16 → length m.legs ≡ s.legs → ((i : ℕ) (x : Seat) → slice_get m.legs i ≡ Some x → x ≡ seat_of no_seats i) → ((p : ℕ) → p < 16 → slice_get m.places p ≡ Some None) → SeatingStandsFor s m no_seats
 stands_new s m e l seats places = record {
   sixteen = e;
   all = l;
@@ -129,8 +129,8 @@ seat_with p a b = record { place = p; came = a; listens = b }
 seat_from : {p q : Option ℕ} {a b c d : Bool} → p ≡ q → a ≡ b → c ≡ d → seat_with p a c ≡ seat_with q b d
 seat_from e f g = cc
 
-came_stands : (s : Setup) (m : State) (table : Table) (leg p : ℕ) (l : Bool) → StandsFor s m table.seats → table.seats.place leg ≡ None → leg < length m.legs → length m.places ≡ 16 → free_place s table.seats ≡ Some p
-    → StandsFor s (record { legs = set m.legs leg (record { place = Some p; came = true; listens = l }); places = set m.places p (Some leg) }) (come_to leg l table (Some p)).seats
+came_stands : (s : Setup) (m : State) (table : Table) (leg p : ℕ) (l : Bool) → SeatingStandsFor s m table.seats → table.seats.place leg ≡ None → leg < length m.legs → length m.places ≡ 16 → free_place s table.seats ≡ Some p
+    → SeatingStandsFor s (record { legs = set m.legs leg (record { place = Some p; came = true; listens = l }); places = set m.places p (Some leg) }) (come_to leg l table (Some p)).seats
 came_stands s m table leg p l h none there n free =
     let f = first_some (is_free s table.seats) 0 s.places p free in
     let within : p < 16 = omega (arith, f.2, h.sixteen) in
@@ -181,21 +181,21 @@ came_stands s m table leg p l h none there n free =
         let t = leg_in_some new s.legs p r.0 r.1 in
         r.1 ∙ ap Some (elim (cases_eq r.0 leg) [ inl same ↦ same | inr other ↦ absurd (held empty r.0 p t.0 other refl (sym (set_other table.seats.place leg (Some p) r.0 other) ∙ t.1)) ])
 
-pub stands_admitted : (s : Setup) (m : State) (table : Table) (leg p : ℕ) (l : Bool) → StandsFor s m table.seats → table.seats.place leg ≡ None → leg < length m.legs → length m.places ≡ 16
+pub stands_admitted : (s : Setup) (m : State) (table : Table) (leg p : ℕ) (l : Bool) → SeatingStandsFor s m table.seats → table.seats.place leg ≡ None → leg < length m.legs → length m.places ≡ 16
     → Some p ≡ first_from (is_vacant m.places) 0 (length m.places)
-    → StandsFor s (record { legs = set m.legs leg (record { place = Some p; came = true; listens = l }); places = set m.places p (Some leg) }) (admitted s leg l table).seats
+    → SeatingStandsFor s (record { legs = set m.legs leg (record { place = Some p; came = true; listens = l }); places = set m.places p (Some leg) }) (admitted s leg l table).seats
 stands_admitted s m table leg p l h none there n e =
     let free : free_place s table.seats ≡ Some p = sym (e ∙ free_is s m table.seats h n) in
-    subst (λ (o : Option ℕ). StandsFor s (record { legs = set m.legs leg (record { place = Some p; came = true; listens = l }); places = set m.places p (Some leg) }) (come_to leg l table o).seats) (sym free)
+    subst (λ (o : Option ℕ). SeatingStandsFor s (record { legs = set m.legs leg (record { place = Some p; came = true; listens = l }); places = set m.places p (Some leg) }) (come_to leg l table o).seats) (sym free)
     (came_stands s m table leg p l h none there n free)
 
-pub stands_full : (s : Setup) (m : State) (table : Table) (leg : ℕ) (l : Bool) → StandsFor s m table.seats → length m.places ≡ 16 → None ≡ first_from (is_vacant m.places) 0 (length m.places)
-    → StandsFor s m (admitted s leg l table).seats
+pub stands_full : (s : Setup) (m : State) (table : Table) (leg : ℕ) (l : Bool) → SeatingStandsFor s m table.seats → length m.places ≡ 16 → None ≡ first_from (is_vacant m.places) 0 (length m.places)
+    → SeatingStandsFor s m (admitted s leg l table).seats
 stands_full s m table leg l h n e =
-    subst (λ (o : Option ℕ). StandsFor s m (come_to leg l table o).seats) (e ∙ free_is s m table.seats h n) h
+    subst (λ (o : Option ℕ). SeatingStandsFor s m (come_to leg l table o).seats) (e ∙ free_is s m table.seats h n) h
 
-pub stands_hushed : (s : Setup) (m : State) (table : Table) (leg : ℕ) (x y : Seat) → StandsFor s m table.seats → slice_get m.legs leg ≡ Some x → y ≡ record { place = x.place; came = x.came; listens = false }
-    → StandsFor s (record { legs = set m.legs leg y; places = m.places }) (hushed leg table).seats
+pub stands_hushed : (s : Setup) (m : State) (table : Table) (leg : ℕ) (x y : Seat) → SeatingStandsFor s m table.seats → slice_get m.legs leg ≡ Some x → y ≡ record { place = x.place; came = x.came; listens = false }
+    → SeatingStandsFor s (record { legs = set m.legs leg y; places = m.places }) (hushed leg table).seats
 stands_hushed s m table leg x y h g e = record {
   sixteen = h.sixteen;
   all = length-set m.legs leg y ∙ h.all;
@@ -210,8 +210,8 @@ stands_hushed s m table leg x y h g e = record {
     here : y ≡ seat_of new leg
     here = let f = h.seat leg x g in e ∙ seat_from (ap (λ (z : Seat). z.place) f) (ap (λ (z : Seat). z.came) f) (sym (set_same table.seats.listens leg false leg refl))
 
-pub stands_freed : (s : Setup) (m : State) (table : Table) (leg p : ℕ) (x y : Seat) → StandsFor s m table.seats → slice_get m.legs leg ≡ Some x → x.place ≡ Some p → p < 16 → length m.places ≡ 16
-    → y ≡ record { place = None; came = x.came; listens = x.listens } → StandsFor s (record { legs = set m.legs leg y; places = set m.places p None }) (freed leg table).seats
+pub stands_freed : (s : Setup) (m : State) (table : Table) (leg p : ℕ) (x y : Seat) → SeatingStandsFor s m table.seats → slice_get m.legs leg ≡ Some x → x.place ≡ Some p → p < 16 → length m.places ≡ 16
+    → y ≡ record { place = None; came = x.came; listens = x.listens } → SeatingStandsFor s (record { legs = set m.legs leg y; places = set m.places p None }) (freed leg table).seats
 stands_freed s m table leg p x y h g held within n e = record {
   sixteen = h.sixteen;
   all = length-set m.legs leg y ∙ h.all;
@@ -244,7 +244,7 @@ stands_freed s m table leg p x y h g held within n e = record {
         other_of k p ek (h.one k leg p l there (kept k p ek) was)
 
 -- a leg that holds no place has none to give back
-pub stands_placeless : (s : Setup) (m : State) (table : Table) (leg : ℕ) (x : Seat) → StandsFor s m table.seats → slice_get m.legs leg ≡ Some x → x.place ≡ None → StandsFor s m (freed leg table).seats
+pub stands_placeless : (s : Setup) (m : State) (table : Table) (leg : ℕ) (x : Seat) → SeatingStandsFor s m table.seats → slice_get m.legs leg ≡ Some x → x.place ≡ None → SeatingStandsFor s m (freed leg table).seats
 stands_placeless s m table leg x h g none = record {
   sixteen = h.sixteen;
   all = h.all;

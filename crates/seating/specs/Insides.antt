@@ -1,7 +1,7 @@
 -- What holds of all places: each is one of the mixer's, and is held by one of the legs; none is held from some place on.
 use Rattle.std.specs.Prelude.{◌≡◌, ℕ, ◌<◌, ◌≤◌, Some, length, slice_get}
 use Rattle.seating.specs.declared.seats.Seat.{Seat}
-use Rattle.seating.specs.declared.seats.Seating.TheInside.{Inside}
+use Rattle.seating.specs.declared.seats.SeatingPlan.TheInside.{Inside}
 use Rattle.seating.specs.States.{State}
 use Rattle.mixer_spec.specs.declared.limits.TheConstants.{PLACES}
 

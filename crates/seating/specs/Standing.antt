@@ -10,7 +10,7 @@ use Rattle.mixer_spec.specs.declared.limits.TheConstants.{PLACES}
 abbrev pub seat_of : Seats → ℕ → Seat
 seat_of seats i = record { place = seats.place i; came = seats.came i; listens = seats.listens i }
 
-pub record StandsFor (s : Setup) (m : State) (seats : Seats) : Type 0 where
+pub record SeatingStandsFor (s : Setup) (m : State) (seats : Seats) : Type 0 where
   pub sixteen : s.places ≡ PLACES
   pub all : length m.legs ≡ s.legs
   pub seat : (i : ℕ) (x : Seat) → slice_get m.legs i ≡ Some x → x ≡ seat_of seats i
@@ -18,9 +18,9 @@ pub record StandsFor (s : Setup) (m : State) (seats : Seats) : Type 0 where
   pub one : (a b p : ℕ) → a < s.legs → b < s.legs → seats.place a ≡ Some p → seats.place b ≡ Some p → a ≡ b
 
 -- of each table for whose seats they stand
-abbrev pub Tells : State → (Setup → Table → Type 0) → Type 0
-Tells m P = (s : Setup) (table : Table) → StandsFor s m table.seats → P s table
+abbrev pub SeatingTells : State → (Setup → Table → Type 0) → Type 0
+SeatingTells m P = (s : Setup) (table : Table) → SeatingStandsFor s m table.seats → P s table
 
 -- from the seats of each table for which they stood they come to those of another one
-abbrev pub Leads : State → State → (Table → Table) → Type 0
-Leads old new f = (s : Setup) (table : Table) → StandsFor s old table.seats → StandsFor s new (f table).seats
+abbrev pub LeadsSeats : State → State → (Table → Table) → Type 0
+LeadsSeats old new f = (s : Setup) (table : Table) → SeatingStandsFor s old table.seats → SeatingStandsFor s new (f table).seats

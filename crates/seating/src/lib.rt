@@ -3,7 +3,7 @@
 
 mod seats;
 
-pub use seats::Seating;
+pub use seats::SeatingPlan;
 
 #[cfg(test)]
 mod tests;

@@ -22,14 +22,14 @@ pub struct Seat {
 
 /// A seat of each leg, and of each place the leg that holds it. It takes all memory when it is made.
 #[derive(Drop)]
-pub struct Seating {
+pub struct SeatingPlan {
     seats: Vec<Seat>,
     holders: [Option<usize>; PLACES],
     /// Neither this place nor one behind it was ever held.
     reach: usize,
 }
 
-impl Model for Seating {
+impl Model for SeatingPlan {
     ghost Value = { State };
 
     ghost view = { state_of };
@@ -49,14 +49,14 @@ fn first_vacant(holders: &[Option<usize>]) -> Option<usize>
     None
 }
 
-impl Seating {
-    ghost use Rattle.seating.specs.Standing.{StandsFor, Tells, Leads};
+impl SeatingPlan {
+    ghost use Rattle.seating.specs.Standing.{SeatingStandsFor, SeatingTells, LeadsSeats};
 
     /// No leg came.
-    pub fn new(alloc: Global, legs: usize) -> Result<Seating, NoMemory>
+    pub fn new(alloc: Global, legs: usize) -> Result<SeatingPlan, NoMemory>
         ensures legs { IfOk result (λ seating. length seating.legs ≡ legs) }
         ensures stands { IfOk result (λ seating. (s : Setup) → s.legs ≡ legs → s.places ≡ PLACES
-            → StandsFor s seating no_seats) }
+            → SeatingStandsFor s seating no_seats) }
     {
         let seat = Seat {
             place: None,
@@ -64,7 +64,7 @@ impl Seating {
             listens: false,
         };
         let seats = vec![in alloc; seat; legs]?;
-        Ok(Seating {
+        Ok(SeatingPlan {
             seats,
             holders: [None; PLACES],
             reach: 0,
@@ -83,9 +83,9 @@ impl Seating {
     pub fn admit(&mut self, leg: usize, listens: bool) -> bool
         requires { leg < length self.old.legs }
         ensures legs { length self.new.legs ≡ length self.old.legs }
-        ensures free { Tells self.old (λ s table. result ≡ is_some (free_place s table.seats)) }
-        ensures stands { Tells self.old (λ s table. table.seats.place leg ≡ None
-            → StandsFor s self.new (admitted s leg listens table).seats) }
+        ensures free { SeatingTells self.old (λ s table. result ≡ is_some (free_place s table.seats)) }
+        ensures stands { SeatingTells self.old (λ s table. table.seats.place leg ≡ None
+            → SeatingStandsFor s self.new (admitted s leg listens table).seats) }
     {
         let Some(place) = first_vacant(&self.holders) else {
             return false;
@@ -105,7 +105,7 @@ impl Seating {
     pub fn hush(&mut self, leg: usize)
         requires { leg < length self.old.legs }
         ensures legs { length self.new.legs ≡ length self.old.legs }
-        ensures stands { Leads self.old self.new (hushed leg) }
+        ensures stands { LeadsSeats self.old self.new (hushed leg) }
     {
         self.seats[leg].listens = false;
     }
@@ -114,7 +114,7 @@ impl Seating {
     pub fn free(&mut self, leg: usize)
         requires { leg < length self.old.legs }
         ensures legs { length self.new.legs ≡ length self.old.legs }
-        ensures stands { Leads self.old self.new (freed leg) }
+        ensures stands { LeadsSeats self.old self.new (freed leg) }
     {
         if let Some(place) = self.seats[leg].place {
             self.holders[place] = None;
@@ -125,7 +125,7 @@ impl Seating {
     /// The place that the leg holds.
     pub fn place_of(&self, leg: usize) -> Option<usize>
         requires { leg < length self.now.legs }
-        ensures place { Tells self.now (λ s table. result ≡ table.seats.place leg) }
+        ensures place { SeatingTells self.now (λ s table. result ≡ table.seats.place leg) }
         ensures within { IfSome result (λ place. place < PLACES) }
     {
         self.seats[leg].place
@@ -133,7 +133,7 @@ impl Seating {
 
     /// No leg holds this place or one behind it.
     pub fn reach(&self) -> usize
-        ensures vacant { Tells self.now (λ s table. (place : ℕ) → result ≤ place → place < PLACES
+        ensures vacant { SeatingTells self.now (λ s table. (place : ℕ) → result ≤ place → place < PLACES
             → leg_in table.seats s.legs place ≡ None) }
         ensures within { result ≤ PLACES }
     {
@@ -143,7 +143,7 @@ impl Seating {
     /// The leg that holds the place.
     pub fn leg_at(&self, place: usize) -> Option<usize>
         requires { place < PLACES }
-        ensures leg { Tells self.now (λ s table. result ≡ leg_in table.seats s.legs place) }
+        ensures leg { SeatingTells self.now (λ s table. result ≡ leg_in table.seats s.legs place) }
         ensures within { IfSome result (λ leg. leg < length self.now.legs) }
     {
         self.holders[place]
@@ -152,7 +152,7 @@ impl Seating {
     /// Whether the leg holds a place. No more legs do than there are places.
     pub fn is_seated(&self, leg: usize) -> bool
         requires { leg < length self.now.legs }
-        ensures table { Tells self.now (λ s table. result ≡ is_seated table.seats leg) }
+        ensures table { SeatingTells self.now (λ s table. result ≡ is_seated table.seats leg) }
         ensures place { result ≡ has_place self.now leg }
         ensures few { count_below (has_place self.now) (length self.now.legs) ≤ PLACES }
     {
@@ -162,15 +162,15 @@ impl Seating {
     /// Whether the leg came.
     pub fn has_come(&self, leg: usize) -> bool
         requires { leg < length self.now.legs }
-        ensures { Tells self.now (λ s table. result ≡ table.seats.came leg) }
+        ensures { SeatingTells self.now (λ s table. result ≡ table.seats.came leg) }
     {
         self.seats[leg].came
     }
 
     /// Whether the leg listens.
-    pub fn listens(&self, leg: usize) -> bool
+    pub fn is_listening(&self, leg: usize) -> bool
         requires { leg < length self.now.legs }
-        ensures { Tells self.now (λ s table. result ≡ table.seats.listens leg) }
+        ensures { SeatingTells self.now (λ s table. result ≡ table.seats.listens leg) }
     {
         self.seats[leg].listens
     }

@@ -1,11 +1,11 @@
 //! Places that are used again.
-use crate::Seating;
+use crate::SeatingPlan;
 use std::process::Abort;
 use std::test::Fail;
 
 #[test]
 fn a_leg_comes_to_the_lowest_place_that_was_left(rt: HostRuntime) -> Result<(), Fail> {
-    let mut seating = Seating::new(rt.alloc(), 17)?;
+    let mut seating = SeatingPlan::new(rt.alloc(), 17)?;
     for leg in 0..16 {
         assert!(rt; leg < seating.legs());
         assert!(rt; seating.admit(leg, true));

@@ -5,7 +5,7 @@ use Rattle.std.proofs.lemmas.List.{append-nil}
 use Rattle.std.proofs.lemmas.Grind.{flat_map-append}
 use Rattle.stream_spec.specs.Own.{Sent}
 use Rattle.wire_spec.specs.Dump.{dump_opening, record_written}
-use Rattle.aware_output.specs.declared.outputs.OutConf.{OutConf}
+use Rattle.aware_output.specs.declared.outputs.PacketizerSettings.{PacketizerSettings}
 use Rattle.aware_output.specs.Sending.{octets_of}
 use Rattle.sent_log.specs.declared.pens.Pen.{Pen}
 use Rattle.sent_log.specs.Pens.{IsPenTo}
@@ -16,8 +16,8 @@ use Rattle.sent_files.specs.Writing.{HoldsRest}
 use Rattle.sent_files.proofs.Passing.{all_taken, err_then, front_before, front_taken, more_held, ok_then, taken_on}
 
 -- the octets of the records
-abbrev pub written_of : OutConf → List (ℕ × Sent) → List ℕ
-written_of conf sent = flat_map record_written (records_of conf sent)
+abbrev pub written_of : PacketizerSettings → List (ℕ × Sent) → List ℕ
+written_of settings sent = flat_map record_written (records_of settings sent)
 
 -- ---- the first that were sent
 drop_more : (n : ℕ) (sent : List (ℕ × Sent)) → length sent ≤ n → drop n sent ≡ []
@@ -33,65 +33,65 @@ pub all_first : (n : ℕ) (sent : List (ℕ × Sent)) → length sent ≤ n → 
 all_first n sent l = let none : length sent - n ≡ 0 = omega (arith, l) in ap (λ k. drop k sent) none
 
 -- ---- their records
-behind : (conf : OutConf) (k : ℕ) (sent : List (ℕ × Sent)) → (more : List (ℕ × List ℕ)) × (records_of conf sent ≡ records_of conf (drop k sent) ++ more)
-behind conf zero sent = ([], sym (append-nil (records_of conf sent)))
-behind conf (suc k) [] = ([], refl)
-behind conf (suc k) (x ∷ sent) =
-    let r = behind conf k sent in
-    let last : List (ℕ × List ℕ) = (x.0, octets_of conf (sents sent) x.1) ∷ [] in
-    (r.0 ++ last, ap (λ (xs : List (ℕ × List ℕ)). xs ++ last) r.1 ∙ append_assoc (records_of conf (drop k sent)) r.0 last)
+behind : (settings : PacketizerSettings) (k : ℕ) (sent : List (ℕ × Sent)) → (more : List (ℕ × List ℕ)) × (records_of settings sent ≡ records_of settings (drop k sent) ++ more)
+behind settings zero sent = ([], sym (append-nil (records_of settings sent)))
+behind settings (suc k) [] = ([], refl)
+behind settings (suc k) (x ∷ sent) =
+    let r = behind settings k sent in
+    let last : List (ℕ × List ℕ) = (x.0, octets_of settings (sents sent) x.1) ∷ [] in
+    (r.0 ++ last, ap (λ (xs : List (ℕ × List ℕ)). xs ++ last) r.1 ∙ append_assoc (records_of settings (drop k sent)) r.0 last)
 
 -- the records of the first of them stand in front
-pub first_in_front : (conf : OutConf) (n : ℕ) (sent : List (ℕ × Sent)) → (more : List ℕ) × (written_of conf sent ≡ written_of conf (first_sent n sent) ++ more)
-first_in_front conf n sent =
-    let r = behind conf (length sent - n) sent in
-    (flat_map record_written r.0, ap (λ (xs : List (ℕ × List ℕ)). flat_map record_written xs) r.1 ∙ flat_map-append record_written (records_of conf (first_sent n sent)) r.0)
+pub first_in_front : (settings : PacketizerSettings) (n : ℕ) (sent : List (ℕ × Sent)) → (more : List ℕ) × (written_of settings sent ≡ written_of settings (first_sent n sent) ++ more)
+first_in_front settings n sent =
+    let r = behind settings (length sent - n) sent in
+    (flat_map record_written r.0, ap (λ (xs : List (ℕ × List ℕ)). flat_map record_written xs) r.1 ∙ flat_map-append record_written (records_of settings (first_sent n sent)) r.0)
 
 -- one more was sent
-pub one_more : (conf : OutConf) (n : ℕ) (sent : List (ℕ × Sent)) (e : ℕ × Sent) (at : ℕ) (octets : List ℕ) → first_sent (n + 1) sent ≡ e ∷ first_sent n sent → at ≡ e.0
-    → octets ≡ octets_of conf (sents (first_sent n sent)) e.1 → written_of conf (first_sent n sent) ++ record_written (at, octets) ≡ written_of conf (first_sent (n + 1) sent)
-one_more conf n sent e at octets first moment packet =
+pub one_more : (settings : PacketizerSettings) (n : ℕ) (sent : List (ℕ × Sent)) (e : ℕ × Sent) (at : ℕ) (octets : List ℕ) → first_sent (n + 1) sent ≡ e ∷ first_sent n sent → at ≡ e.0
+    → octets ≡ octets_of settings (sents (first_sent n sent)) e.1 → written_of settings (first_sent n sent) ++ record_written (at, octets) ≡ written_of settings (first_sent (n + 1) sent)
+one_more settings n sent e at octets first moment packet =
     let past = first_sent n sent in
-    let made = octets_of conf (sents past) e.1 in
-    ap (λ (m : ℕ). written_of conf past ++ record_written (m, octets)) moment
-    ∙ (ap (λ (xs : List ℕ). written_of conf past ++ record_written (e.0, xs)) packet
-    ∙ (ap (λ (xs : List ℕ). written_of conf past ++ xs) (sym (append-nil (record_written (e.0, made))))
-    ∙ (sym (flat_map-append record_written (records_of conf past) ((e.0, made) ∷ []))
-    ∙ ap (λ (s : List (ℕ × Sent)). written_of conf s) (sym first))))
+    let made = octets_of settings (sents past) e.1 in
+    ap (λ (m : ℕ). written_of settings past ++ record_written (m, octets)) moment
+    ∙ (ap (λ (xs : List ℕ). written_of settings past ++ record_written (e.0, xs)) packet
+    ∙ (ap (λ (xs : List ℕ). written_of settings past ++ xs) (sym (append-nil (record_written (e.0, made))))
+    ∙ (sym (flat_map-append record_written (records_of settings past) ((e.0, made) ∷ []))
+    ∙ ap (λ (s : List (ℕ × Sent)). written_of settings s) (sym first))))
 
 -- the next record is in the page, and what the page held before was taken, or is there still
-pub next_held : (conf : OutConf) (n : ℕ) (sent : List (ℕ × Sent)) (e : ℕ × Sent) (at : ℕ) (octets : List ℕ) → first_sent (n + 1) sent ≡ e ∷ first_sent n sent → at ≡ e.0
-    → octets ≡ octets_of conf (sents (first_sent n sent)) e.1 → (before middle took held rest page opening : List ℕ) → HoldsRest before middle held (opening ++ written_of conf (first_sent n sent))
-    → HoldsRest middle took rest held → page ≡ rest ++ record_written (at, octets) → HoldsRest before took page (opening ++ written_of conf (first_sent (n + 1) sent))
-next_held conf n sent e at octets first moment packet before middle took held rest page opening h k is =
+pub next_held : (settings : PacketizerSettings) (n : ℕ) (sent : List (ℕ × Sent)) (e : ℕ × Sent) (at : ℕ) (octets : List ℕ) → first_sent (n + 1) sent ≡ e ∷ first_sent n sent → at ≡ e.0
+    → octets ≡ octets_of settings (sents (first_sent n sent)) e.1 → (before middle took held rest page opening : List ℕ) → HoldsRest before middle held (opening ++ written_of settings (first_sent n sent))
+    → HoldsRest middle took rest held → page ≡ rest ++ record_written (at, octets) → HoldsRest before took page (opening ++ written_of settings (first_sent (n + 1) sent))
+next_held settings n sent e at octets first moment packet before middle took held rest page opening h k is =
     let last = record_written (at, octets) in
-    let written = written_of conf (first_sent n sent) in
-    subst (λ (xs : List ℕ). HoldsRest before took xs (opening ++ written_of conf (first_sent (n + 1) sent))) (sym is)
+    let written = written_of settings (first_sent n sent) in
+    subst (λ (xs : List ℕ). HoldsRest before took xs (opening ++ written_of settings (first_sent (n + 1) sent))) (sym is)
     (subst (λ (xs : List ℕ). HoldsRest before took (rest ++ last) xs)
-    (append_assoc opening written last ∙ ap (λ (xs : List ℕ). opening ++ xs) (one_more conf n sent e at octets first moment packet))
+    (append_assoc opening written last ∙ ap (λ (xs : List ℕ). opening ++ xs) (one_more settings n sent e at octets first moment packet))
     (more_held before took rest (opening ++ written) last (taken_on before middle took held rest (opening ++ written) h k)))
 
 -- a front of the page, behind what was taken before, is a front of all
-pub front_of_all : (conf : OutConf) (n : ℕ) (sent : List (ℕ × Sent)) (before middle took page opening : List ℕ) → HoldsRest before middle page (opening ++ written_of conf (first_sent n sent))
-    → TakesFront middle took page → TakesFront before took (opening ++ written_of conf sent)
-front_of_all conf n sent before middle took page opening h f =
-    let r = first_in_front conf n sent in
-    let written = written_of conf (first_sent n sent) in
+pub front_of_all : (settings : PacketizerSettings) (n : ℕ) (sent : List (ℕ × Sent)) (before middle took page opening : List ℕ) → HoldsRest before middle page (opening ++ written_of settings (first_sent n sent))
+    → TakesFront middle took page → TakesFront before took (opening ++ written_of settings sent)
+front_of_all settings n sent before middle took page opening h f =
+    let r = first_in_front settings n sent in
+    let written = written_of settings (first_sent n sent) in
     subst (λ (xs : List ℕ). TakesFront before took xs) (append_assoc opening written r.0 ∙ ap (λ (xs : List ℕ). opening ++ xs) (sym r.1))
     (front_before before took (opening ++ written) r.0 (front_taken before middle took page (opening ++ written) h f))
 
 -- once all records were made, what was taken and the page are the whole recording
-all_held : (x : Sending) (n : ℕ) (before took page : List ℕ) → length x.sent ≤ n → HoldsRest before took page (dump_opening ++ written_of x.conf (first_sent n x.sent)) → HoldsRest before took page (recording_of x)
-all_held x n before took page l h = subst (λ (s : List (ℕ × Sent)). HoldsRest before took page (dump_opening ++ written_of x.conf s)) (all_first n x.sent l) h
+all_held : (x : Sending) (n : ℕ) (before took page : List ℕ) → length x.sent ≤ n → HoldsRest before took page (dump_opening ++ written_of x.settings (first_sent n x.sent)) → HoldsRest before took page (recording_of x)
+all_held x n before took page l h = subst (λ (s : List (ℕ × Sent)). HoldsRest before took page (dump_opening ++ written_of x.settings s)) (all_first n x.sent l) h
 
 -- where the page is taken then, the whole recording was
-pub whole_taken : {A B : Type 0} (r : Result A B) (x : Sending) (n : ℕ) (before middle took page : List ℕ) → length x.sent ≤ n → HoldsRest before middle page (dump_opening ++ written_of x.conf (first_sent n x.sent))
+pub whole_taken : {A B : Type 0} (r : Result A B) (x : Sending) (n : ℕ) (before middle took page : List ℕ) → length x.sent ≤ n → HoldsRest before middle page (dump_opening ++ written_of x.settings (first_sent n x.sent))
     → OnOk r (took ≡ middle ++ page) → OnOk r (took ≡ before ++ recording_of x)
 whole_taken r x n before middle took page l h =
     ok_then (took ≡ middle ++ page) (took ≡ before ++ recording_of x) r (all_taken before middle took page (recording_of x) (all_held x n before middle page l h))
 
 -- where a front of it is, a front of the recording was
-pub front_is_taken : {A B : Type 0} (r : Result A B) (x : Sending) (n : ℕ) (before middle took page : List ℕ) → length x.sent ≤ n → HoldsRest before middle page (dump_opening ++ written_of x.conf (first_sent n x.sent))
+pub front_is_taken : {A B : Type 0} (r : Result A B) (x : Sending) (n : ℕ) (before middle took page : List ℕ) → length x.sent ≤ n → HoldsRest before middle page (dump_opening ++ written_of x.settings (first_sent n x.sent))
     → OnErr r (TakesFront middle took page) → OnErr r (TakesFront before took (recording_of x))
 front_is_taken r x n before middle took page l h =
     err_then (TakesFront middle took page) (TakesFront before took (recording_of x)) r (front_taken before middle took page (recording_of x) (all_held x n before middle page l h))

@@ -1,10 +1,10 @@
 ghost use Rattle.std.specs.Prelude.{◌≡◌, ◌<◌, [], length, IfOk};
-ghost use Rattle.aware_output.specs.Confs.{IsConf};
+ghost use Rattle.aware_output.specs.Settings.{AreSettings};
 ghost use Rattle.sent_log.specs.States.{AreLawful};
 
 use crate::{SentFiles, in_memory};
-use aware_output::OutConf;
-use rtt_base::{NoMemory, Path, Pts};
+use aware_output::PacketizerSettings;
+use rtt_base::{NoMemory, Path, PayloadTypes};
 use rtt_io::{FailingWrite, MemSink};
 use sent_log::SentLog;
 use std::alloc::Global;
@@ -12,23 +12,23 @@ use std::process::Abort;
 use std::test::Fail;
 
 /// The stream of a mixer to a terminal that is sent no generations.
-fn conf() -> OutConf
-    ensures conf { IsConf result }
-    ensures gens { result.gens ≡ 0 }
+fn settings() -> PacketizerSettings
+    ensures settings { AreSettings result }
+    ensures generations { result.generations ≡ 0 }
 {
-    OutConf {
+    PacketizerSettings {
         ssrc: 9000,
         seq: 100,
-        stamp: 5000,
-        pts: Pts { t140: 98, red: 100 },
-        gens: 0,
+        timestamp: 5000,
+        payload_types: PayloadTypes { t140: 98, red: 100 },
+        generations: 0,
     }
 }
 
 /// To one terminal so many packets of no text were sent, one each millisecond.
-fn log_of(alloc: Global, stream: OutConf, packets: u32, text: &[u8]) -> Result<SentLog, NoMemory>
-    requires conf { IsConf stream }
-    requires gens { stream.gens ≡ 0 }
+fn log_of(alloc: Global, stream: PacketizerSettings, packets: u32, text: &[u8]) -> Result<SentLog, NoMemory>
+    requires settings { AreSettings stream }
+    requires generations { stream.generations ≡ 0 }
     requires few { packets < 1000000 }
     requires text { text.now ≡ [] }
     ensures one { IfOk result (λ log. length log ≡ 1) }
@@ -86,7 +86,7 @@ fn expect_written(
 #[test]
 fn a_recording_of_three_pages_is_written_twice(rt: HostRuntime) -> Result<(), Fail> {
     let alloc = rt.alloc();
-    let log = log_of(alloc, conf(), 6000, b"")?;
+    let log = log_of(alloc, settings(), 6000, b"")?;
     let whole = in_memory(alloc, &log, 0)?;
     expect_ends(&rt, whole.as_slice(), 144_044);
     let mut files = SentFiles::new(alloc, log)?;

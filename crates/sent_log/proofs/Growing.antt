@@ -6,8 +6,8 @@ use Rattle.std.proofs.lemmas.List.Elements.{All-tail}
 use Rattle.stream_spec.specs.Own.{Sent}
 use Rattle.aware_output.specs.Speakers.{text_of}
 use Rattle.sent_log.specs.declared.logs.SentLog.TheInside.{Inside}
-use Rattle.sent_log.specs.declared.terminals.Entry.{Entry}
-use Rattle.sent_log.specs.declared.terminals.Terminal.{Terminal}
+use Rattle.sent_log.specs.declared.terminals.LoggedPacket.{LoggedPacket}
+use Rattle.sent_log.specs.declared.terminals.TerminalLog.{TerminalLog}
 use Rattle.sent_log.specs.declared.turns.Turn.{Turn}
 use Rattle.sent_log.specs.Insides.{IsEntry, IsLog, IsTerminal, sending_of, sent_by, state_of, turn_at}
 use Rattle.sent_log.specs.Lists.{EachGrows, Grows, list_at, octets_at}
@@ -78,7 +78,7 @@ octets_still xs ys place len g w =
 turn_still : (old new : List Turn) (n : ℕ) → Grows old new → n < length old → turn_at new n ≡ turn_at old n
 turn_still old new n g l = ap (λ (ts : List Turn). turn_at ts n) g.1 ∙ get_or_append_left old g.0 (record { now = 0; media = 0 }) n l
 
-entry_same : (turns turns' : List Turn) (texts texts' : List (List ℕ)) (first : ℕ) (sources : List ℕ) (e : Entry) → Grows turns turns' → EachGrows texts texts' → IsEntry turns texts first sources e
+entry_same : (turns turns' : List Turn) (texts texts' : List (List ℕ)) (first : ℕ) (sources : List ℕ) (e : LoggedPacket) → Grows turns turns' → EachGrows texts texts' → IsEntry turns texts first sources e
     → sent_by turns' texts' first sources e ≡ sent_by turns texts first sources e
 entry_same turns turns' texts texts' first sources e g h k =
     let turn = turn_still turns turns' e.turn g k.turn in
@@ -86,7 +86,7 @@ entry_same turns turns' texts texts' first sources e g h k =
     ap (λ (t : Turn). (t.now, text_of sources e.source t.media (octets_at (list_at texts' (first + e.source)) e.place e.len))) turn
     ∙ ap (λ (xs : List ℕ). ((turn_at turns e.turn).now, text_of sources e.source (turn_at turns e.turn).media xs)) text
 
-entry_still : (turns turns' : List Turn) (texts texts' : List (List ℕ)) (first : ℕ) (sources : List ℕ) (e : Entry) → Grows turns turns' → EachGrows texts texts' → IsEntry turns texts first sources e → IsEntry turns' texts' first sources e
+entry_still : (turns turns' : List Turn) (texts texts' : List (List ℕ)) (first : ℕ) (sources : List ℕ) (e : LoggedPacket) → Grows turns turns' → EachGrows texts texts' → IsEntry turns texts first sources e → IsEntry turns' texts' first sources e
 entry_still turns turns' texts texts' first sources e g h k = record {
   turn = omega (arith, k.turn, grown_length turns turns' g);
   source = k.source;
@@ -101,16 +101,16 @@ map_same f g [] a = refl
 map_same {X} {Y} f g (x ∷ xs) a =
     ap (λ (y : Y). y ∷ map f xs) (a 0 x (omega arith)) ∙ ap (λ (ys : List Y). g x ∷ ys) (map_same f g xs (All-tail (λ (z : X). f z ≡ g z) x xs a))
 
-terminal_same : (turns turns' : List Turn) (texts texts' : List (List ℕ)) (t : Terminal) → Grows turns turns' → EachGrows texts texts' → IsTerminal turns texts t → sending_of turns' texts' t ≡ sending_of turns texts t
+terminal_same : (turns turns' : List Turn) (texts texts' : List (List ℕ)) (t : TerminalLog) → Grows turns turns' → EachGrows texts texts' → IsTerminal turns texts t → sending_of turns' texts' t ≡ sending_of turns texts t
 terminal_same turns turns' texts texts' t g h k =
     let sources = t.sources.items in
-    ap (λ (sent : List (ℕ × Sent)). record { conf = t.conf; sources = sources; sent = reverse sent })
+    ap (λ (sent : List (ℕ × Sent)). record { settings = t.settings; sources = sources; sent = reverse sent })
     (map_same (sent_by turns' texts' t.first sources) (sent_by turns texts t.first sources) t.entries.items
     (λ i d l. entry_same turns turns' texts texts' t.first sources _ g h (k.entries i d l)))
 
-terminal_still : (turns turns' : List Turn) (texts texts' : List (List ℕ)) (t : Terminal) → Grows turns turns' → EachGrows texts texts' → IsTerminal turns texts t → IsTerminal turns' texts' t
+terminal_still : (turns turns' : List Turn) (texts texts' : List (List ℕ)) (t : TerminalLog) → Grows turns turns' → EachGrows texts texts' → IsTerminal turns texts t → IsTerminal turns' texts' t
 terminal_still turns turns' texts texts' t g h k = record {
-  conf = k.conf;
+  settings = k.settings;
   distinct = k.distinct;
   lists = omega (arith, k.lists, h.count);
   each = k.each;
@@ -125,11 +125,11 @@ terminal_still turns turns' texts texts' t g h k = record {
       };
 }
 
-pub all_same : (turns turns' : List Turn) (texts texts' : List (List ℕ)) (ts : List Terminal) → Grows turns turns' → EachGrows texts texts' → All (IsTerminal turns texts) ts
+pub all_same : (turns turns' : List Turn) (texts texts' : List (List ℕ)) (ts : List TerminalLog) → Grows turns turns' → EachGrows texts texts' → All (IsTerminal turns texts) ts
     → map (sending_of turns' texts') ts ≡ map (sending_of turns texts) ts
 all_same turns turns' texts texts' ts g h a = map_same (sending_of turns' texts') (sending_of turns texts) ts (λ i d l. terminal_same turns turns' texts texts' _ g h (a i d l))
 
-pub all_still : (turns turns' : List Turn) (texts texts' : List (List ℕ)) (ts : List Terminal) → Grows turns turns' → EachGrows texts texts' → All (IsTerminal turns texts) ts → All (IsTerminal turns' texts') ts
+pub all_still : (turns turns' : List Turn) (texts texts' : List (List ℕ)) (ts : List TerminalLog) → Grows turns turns' → EachGrows texts texts' → All (IsTerminal turns texts) ts → All (IsTerminal turns' texts') ts
 all_still turns turns' texts texts' ts g h a = λ i d l. terminal_still turns turns' texts texts' _ g h (a i d l)
 
 -- where the lists of a log grew

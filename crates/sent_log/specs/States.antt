@@ -3,16 +3,16 @@ use Rattle.std.specs.Prelude.{◌≡◌, ◌+◌, ◌-◌, ◌<◌, ◌^◌, ◌
 use Rattle.std.specs.List.Sorted.{IsNonDecreasing}
 use Rattle.wire_spec.specs.Dump.{dump_written}
 use Rattle.stream_spec.specs.Own.{Sent}
-use Rattle.aware_output.specs.declared.outputs.OutConf.{OutConf}
-use Rattle.rtt_base.specs.declared.text_packets.Pts.{Pts}
+use Rattle.aware_output.specs.declared.outputs.PacketizerSettings.{PacketizerSettings}
+use Rattle.rtt_base.specs.declared.text_packets.PayloadTypes.{PayloadTypes}
 use Rattle.stream_spec.specs.Lists.{In}
-use Rattle.aware_output.specs.Confs.{IsConf, stream_of}
+use Rattle.aware_output.specs.Settings.{AreSettings, stream_of}
 use Rattle.aware_output.specs.Speakers.{EachIsNext}
 use Rattle.aware_output.specs.Sending.{octets_of}
 
 -- What was sent to a terminal: its stream, its sources, and what was sent of them, newest first, each at its moment.
 pub record Sending : Type 0 where
-  pub conf : OutConf
+  pub settings : PacketizerSettings
   pub sources : List ℕ
   pub sent : List (ℕ × Sent)
 
@@ -25,21 +25,21 @@ abbrev pub sents : List (ℕ × Sent) → List Sent
 sents sent = map (λ x. x.1) sent
 
 -- its packets, oldest first, each at its moment
-abbrev pub records_of : OutConf → List (ℕ × Sent) → List (ℕ × List ℕ)
-records_of conf [] = []
-records_of conf (x ∷ past) = records_of conf past ++ (x.0, octets_of conf (sents past) x.1) ∷ []
+abbrev pub records_of : PacketizerSettings → List (ℕ × Sent) → List (ℕ × List ℕ)
+records_of settings [] = []
+records_of settings (x ∷ past) = records_of settings past ++ (x.0, octets_of settings (sents past) x.1) ∷ []
 
 -- the recording of them
 abbrev pub recording_of : Sending → List ℕ
-recording_of x = dump_written (records_of x.conf x.sent)
+recording_of x = dump_written (records_of x.settings x.sent)
 
 -- their moments never fall
 abbrev pub NeverFalls : Sending → Type 0
-NeverFalls x = IsNonDecreasing (map (λ r. r.0) (records_of x.conf x.sent))
+NeverFalls x = IsNonDecreasing (map (λ r. r.0) (records_of x.settings x.sent))
 
 -- each could be sent after those before it
 abbrev pub IsLawful : Sending → Type 0
-IsLawful x = EachIsNext (stream_of x.conf) (sents x.sent)
+IsLawful x = EachIsNext (stream_of x.settings) (sents x.sent)
 
 abbrev pub AreLawful : State → Type 0
 AreLawful log = All IsLawful log
@@ -86,8 +86,8 @@ said s (e ∷ past) = said s past ++ (if e.source == s then e.text else [])
 -- ---- the whole stream
 
 -- it is a stream with this SSRC and these payload types, and the source of each text that was sent has 32 bits
-pub record IsStreamOf (ssrc : ℕ) (pts : Pts) (x : Sending) : Type 0 where
-  pub conf : IsConf x.conf
-  pub ssrc_is : x.conf.ssrc ≡ ssrc
-  pub pts_are : x.conf.pts ≡ pts
+pub record IsStreamOf (ssrc : ℕ) (payload_types : PayloadTypes) (x : Sending) : Type 0 where
+  pub settings : AreSettings x.settings
+  pub ssrc_is : x.settings.ssrc ≡ ssrc
+  pub payload_types_are : x.settings.payload_types ≡ payload_types
   pub words : (e : Sent) → In e (sents x.sent) → e.source < 2 ^ 32

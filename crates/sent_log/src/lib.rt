@@ -10,7 +10,7 @@ mod terminals;
 mod tests;
 mod text_lists;
 mod turns;
-mod writing;
+mod writers;
 
 pub use logs::SentLog;
 pub use pens::Pen;

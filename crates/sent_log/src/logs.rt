@@ -1,6 +1,6 @@
 //! A log of what was sent.
 ghost use Rattle.std.specs.Prelude.{◌≡◌, ◌+◌, ◌%◌, ◌^◌, ◌<◌, ◌≤◌, ◌++◌, ◌∷◌, [], true, length, IfOk, IfSome, OnOk, OnErr};
-ghost use Rattle.aware_output.specs.Confs.{IsConf};
+ghost use Rattle.aware_output.specs.Settings.{AreSettings};
 ghost use Rattle.aware_output.specs.Speakers.{AreDistinct, text_of};
 ghost use Rattle.sent_log.specs.States.{HasSource, IsStreamOf, NeverFalls, OfTerminal, State, TellsText, said, sent_to, sents};
 ghost use Rattle.sent_log.specs.Pens.{IsPacket, IsPenOf, IsPenTo};
@@ -8,12 +8,12 @@ ghost use Rattle.sent_log.specs.Insides.{IsLog, state_of};
 
 use crate::pens::Pen;
 use crate::runs::empty_runs;
-use crate::terminals::{Terminal, make_lists, never_fall};
+use crate::terminals::{TerminalLog, make_lists, never_fall};
 use crate::text_lists::TextList;
 use crate::turns::{Turn, note_turn};
-use crate::writing::make_packet;
-use aware_output::OutConf;
-use rtt_base::{NoMemory, Packet, Pts};
+use crate::writers::make_packet;
+use aware_output::PacketizerSettings;
+use rtt_base::{NoMemory, Packet, PayloadTypes};
 use std::alloc::Global;
 use std::marker::Model;
 
@@ -23,7 +23,7 @@ pub struct SentLog {
     turns: Vec<Turn>,
     /// The texts of each leg, as terminals with many sources are sent them, and those of each terminal with one source.
     texts: Vec<TextList>,
-    terminals: Vec<Terminal>,
+    terminals: Vec<TerminalLog>,
 }
 
 impl Model for SentLog {
@@ -59,18 +59,18 @@ impl SentLog {
 
     /// Adds the next terminal, to which nothing was sent: its stream, and its sources, all different. After `NoMemory` all
     /// is as before.
-    pub fn add(&mut self, alloc: Global, conf: OutConf, sources: Vec<u32>) -> Result<(), NoMemory>
-        requires conf { IsConf conf }
+    pub fn add(&mut self, alloc: Global, settings: PacketizerSettings, sources: Vec<u32>) -> Result<(), NoMemory>
+        requires settings { AreSettings settings }
         requires distinct { AreDistinct sources.items }
         ensures ok { OnOk result (self.new
-            ≡ self.old ++ record { conf = conf; sources = sources.items; sent = [] } ∷ []) }
+            ≡ self.old ++ record { settings = settings; sources = sources.items; sent = [] } ∷ []) }
         ensures err { OnErr result (self.new ≡ self.old) }
     {
         let first = first_list(sources.len(), self.texts.len());
         make_lists(alloc, &mut self.texts, first + sources.len())?;
         let runs = empty_runs(alloc, sources.len())?;
-        self.terminals.push(Terminal {
-            conf,
+        self.terminals.push(TerminalLog {
+            settings,
             sources,
             first,
             runs,
@@ -124,13 +124,13 @@ impl SentLog {
     }
 
     /// Whether what is sent to the terminal is a stream with this SSRC and these payload types.
-    pub fn is_stream(&self, terminal: usize, ssrc: u32, pts: Pts) -> bool
+    pub fn is_stream(&self, terminal: usize, ssrc: u32, payload_types: PayloadTypes) -> bool
         requires { terminal < length self.now }
-        ensures { result ≡ true → OfTerminal self.now terminal (IsStreamOf ssrc pts) }
+        ensures { result ≡ true → OfTerminal self.now terminal (IsStreamOf ssrc payload_types) }
     {
         let sent_to = &self.terminals[terminal];
         sent_to.has_ssrcs();
-        sent_to.is_stream(ssrc, pts)
+        sent_to.is_stream(ssrc, payload_types)
     }
 
     /// The number of the source, counted from 0, its SSRC, and the text of the packet with this number, counted from 0, that was
@@ -173,7 +173,7 @@ impl SentLog {
         ensures { IfOk result (λ pen. OfTerminal self.now terminal (λ x. IsPenOf x 0 pen)) }
     {
         let sent_to = &self.terminals[terminal];
-        Pen::new(alloc, sent_to.conf.seq, sent_to.sources.len())
+        Pen::new(alloc, sent_to.settings.seq, sent_to.sources.len())
     }
 
     /// As if the pen, which is one to the terminal, had written nothing. It takes no memory.
@@ -183,7 +183,7 @@ impl SentLog {
         ensures { OfTerminal self.now terminal (λ x. IsPenOf x 0 pen.new) }
     {
         let sent_to = &self.terminals[terminal];
-        pen.restart(sent_to.conf.seq);
+        pen.restart(sent_to.settings.seq);
     }
 
     /// Makes the packet with this number, counted from 0, that was sent to the terminal, by a pen that has written those
@@ -202,16 +202,16 @@ impl SentLog {
         let entry = &sent_to.entries[number];
         let turn = self.turns[entry.turn as usize];
         let source = entry.source as usize;
-        let stamp = stamp_at(sent_to.conf.stamp, turn.media);
+        let timestamp = timestamp_at(sent_to.settings.timestamp, turn.media);
         let repeats = &pen.sources[source];
-        make_packet(sent_to, &self.texts, repeats, entry, pen.seq, stamp, packet);
-        pen.keep(source, stamp, number);
+        make_packet(sent_to, &self.texts, repeats, entry, pen.seq, timestamp, packet);
+        pen.keep(source, timestamp, number);
         turn.now
     }
 }
 
 /// The timestamp at this media time, where it is `first` at 0.
-fn stamp_at(first: u32, media: u64) -> u32
+fn timestamp_at(first: u32, media: u64) -> u32
     ensures { result ≡ (first + media) % 2 ^ 32 }
 {
     first.wrapping_add((media % (1 << 32)) as u32)

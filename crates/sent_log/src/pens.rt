@@ -1,9 +1,9 @@
 //! What the next packet to a terminal needs of those before it.
 ghost use Rattle.std.specs.Prelude.{◌≡◌, ◌+◌, ◌%◌, ◌<◌, true, All, List, length, map, slice_index_or, slice_set, vec_len, IfOk};
-ghost use Rattle.sent_log.specs.declared.repeats.Kept.{Kept};
+ghost use Rattle.sent_log.specs.declared.repeats.PacketKey.{PacketKey};
 ghost use Rattle.sent_log.specs.Repeats.{anew, fresh, with_one};
 
-use crate::repeats::{Kept, Repeats};
+use crate::repeats::{PacketKey, Repeats};
 use rtt_base::NoMemory;
 use std::alloc::Global;
 
@@ -58,16 +58,16 @@ impl Pen {
     }
 
     /// Counts the packet with this timestamp and number, of the source, which is kept.
-    pub fn keep(&mut self, source: usize, stamp: u32, number: usize)
+    pub fn keep(&mut self, source: usize, timestamp: u32, number: usize)
         requires { source < length self.old.sources.items }
         ensures seq { self.new.seq ≡ (self.old.seq + 1) % 65536 }
-        ensures sources { (d : List Kept) → self.new.sources.items
+        ensures sources { (d : List PacketKey) → self.new.sources.items
             ≡ slice_set self.old.sources.items source
-            (with_one (record { sent = true; stamp = stamp; number = number }) (slice_index_or self.old.sources.items source d)) }
+            (with_one (record { sent = true; timestamp = timestamp; number = number }) (slice_index_or self.old.sources.items source d)) }
     {
-        self.sources[source].keep(Kept {
+        self.sources[source].keep(PacketKey {
             sent: true,
-            stamp,
+            timestamp,
             number,
         });
         self.seq = self.seq.wrapping_add(1);

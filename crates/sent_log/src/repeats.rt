@@ -7,47 +7,47 @@ use std::marker::Model;
 
 /// A packet, by its timestamp and its number, counted from 0; or nothing yet.
 #[derive(Clone, Copy, Debug)]
-pub struct Kept {
+pub struct PacketKey {
     pub sent: bool,
-    pub stamp: u32,
+    pub timestamp: u32,
     pub number: usize,
 }
 
-impl Kept {
+impl PacketKey {
     /// Nothing yet.
-    pub fn new() -> Kept
+    pub fn new() -> PacketKey
         ensures { result ≡ nothing }
     {
-        Kept {
+        PacketKey {
             sent: false,
-            stamp: 0,
+            timestamp: 0,
             number: 0,
         }
     }
 
     /// How far the packet lies before one with this timestamp.
-    pub fn offset(&self, stamp: u32) -> u16
-        ensures value { result ≡ offset_of stamp self.now }
+    pub fn offset(&self, timestamp: u32) -> u16
+        ensures value { result ≡ offset_of timestamp self.now }
         ensures fits { result < 2 ^ 14 }
     {
         if !self.sent {
             return MOST_OFFSET;
         }
-        stamp.wrapping_sub(self.stamp).min(u32::from(MOST_OFFSET)) as u16
+        timestamp.wrapping_sub(self.timestamp).min(u32::from(MOST_OFFSET)) as u16
     }
 }
 
 /// The last three packets of a source, oldest first.
 #[derive(Debug, Drop)]
 pub struct Repeats {
-    kept: [Kept; 3],
+    kept: [PacketKey; 3],
 }
 
 impl Model for Repeats {
     ghost use Rattle.std.specs.Prelude.{List, ◌≡◌, length};
-    ghost use Rattle.sent_log.specs.declared.repeats.Kept.{Kept};
+    ghost use Rattle.sent_log.specs.declared.repeats.PacketKey.{PacketKey};
 
-    ghost Value = { List Kept };
+    ghost Value = { List PacketKey };
 
     ghost view = { λ r. r.kept };
 
@@ -60,12 +60,12 @@ impl Repeats {
         ensures { result ≡ fresh }
     {
         Repeats {
-            kept: [Kept::new(), Kept::new(), Kept::new()],
+            kept: [PacketKey::new(), PacketKey::new(), PacketKey::new()],
         }
     }
 
     /// The last so many, oldest first.
-    pub fn last(&self, count: usize) -> &[Kept]
+    pub fn last(&self, count: usize) -> &[PacketKey]
         requires { count ≤ 3 }
         ensures are { result.now ≡ last_kept count self.now }
         ensures few { length result.now ≡ count }
@@ -74,7 +74,7 @@ impl Repeats {
     }
 
     /// One packet more was sent.
-    pub fn keep(&mut self, now: Kept)
+    pub fn keep(&mut self, now: PacketKey)
         ensures { self.new ≡ with_one now self.old }
     {
         self.kept[0] = self.kept[1];

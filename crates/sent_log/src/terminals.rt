@@ -7,13 +7,13 @@ ghost use Rattle.sent_log.specs.Lists.{EachGrows};
 use crate::runs::Run;
 use crate::text_lists::TextList;
 use crate::turns::Turn;
-use aware_output::OutConf;
-use rtt_base::{NoMemory, Pts};
+use aware_output::PacketizerSettings;
+use rtt_base::{NoMemory, PayloadTypes};
 use std::alloc::Global;
 
 /// A packet that was sent, in 12 octets.
 #[derive(Clone, Copy, Debug)]
-pub struct Entry {
+pub struct LoggedPacket {
     /// The turn's number.
     pub turn: u32,
     /// Where the text stands in the list of its source.
@@ -26,24 +26,24 @@ pub struct Entry {
 
 /// A terminal.
 #[derive(Drop)]
-pub struct Terminal {
-    pub conf: OutConf,
+pub struct TerminalLog {
+    pub settings: PacketizerSettings,
     pub sources: Vec<u32>,
     /// The number of the list of the first source's texts; those of the others follow.
     pub first: usize,
     /// Where the texts of each source stand, in its list.
     pub runs: Vec<Run>,
     /// Oldest first.
-    pub entries: Vec<Entry>,
+    pub entries: Vec<LoggedPacket>,
 }
 
-impl Terminal {
+impl TerminalLog {
     /// Whether it is sent a stream with this SSRC and these payload types.
-    pub fn is_stream(&self, ssrc: u32, pts: Pts) -> bool
-        ensures ssrc { result ≡ true → self.now.conf.ssrc ≡ ssrc }
-        ensures pts { result ≡ true → self.now.conf.pts ≡ pts }
+    pub fn is_stream(&self, ssrc: u32, payload_types: PayloadTypes) -> bool
+        ensures ssrc { result ≡ true → self.now.settings.ssrc ≡ ssrc }
+        ensures payload_types { result ≡ true → self.now.settings.payload_types ≡ payload_types }
     {
-        self.conf.ssrc == ssrc && self.conf.pts == pts
+        self.settings.ssrc == ssrc && self.settings.payload_types == payload_types
     }
 
     /// Whether the source with this number, if there is one, has this SSRC.
@@ -105,14 +105,14 @@ impl Terminal {
 }
 
 /// The entry of a text that stands at this place in the list of its source.
-fn entry_of(turn: u32, source: usize, place: usize, len: usize) -> Result<Entry, NoMemory>
+fn entry_of(turn: u32, source: usize, place: usize, len: usize) -> Result<LoggedPacket, NoMemory>
     requires { len < 1024 }
     ensures { IfOk result (λ e. e ≡ record { turn = turn; place = place; len = len; source = source }) }
 {
     if place > u32::MAX as usize || source > u16::MAX as usize {
         return Err(NoMemory);
     }
-    Ok(Entry {
+    Ok(LoggedPacket {
         turn,
         place: place as u32,
         len: len as u16,
@@ -132,7 +132,7 @@ pub fn make_lists(alloc: Global, texts: &mut Vec<TextList>, count: usize) -> Res
 }
 
 /// Whether the moments of these entries never fall.
-pub fn never_fall(entries: &[Entry], turns: &[Turn]) -> bool
+pub fn never_fall(entries: &[LoggedPacket], turns: &[Turn]) -> bool
     requires { All (λ e. e.turn < length turns.now) entries.now }
     ensures { result ≡ true → IsNonDecreasingBy (λ e. (turn_at turns.now e.turn).now) entries.now }
 {

@@ -1,30 +1,30 @@
 //! What was sent comes out as an output writes it at once, and texts are kept once.
-ghost use Rattle.aware_output.specs.Confs.{IsConf};
+ghost use Rattle.aware_output.specs.Settings.{AreSettings};
 
 use crate::SentLog;
 use crate::text_lists::TextList;
-use aware_output::{OutConf, Output};
-use rtt_base::{Packet, Pts};
+use aware_output::{PacketizerSettings, Packetizer};
+use rtt_base::{Packet, PayloadTypes};
 use std::alloc::Global;
 use std::process::Abort;
 use std::test::Fail;
 
 /// The stream of a mixer to a terminal.
-fn conf() -> OutConf
-    ensures { IsConf result }
+fn settings() -> PacketizerSettings
+    ensures { AreSettings result }
 {
-    OutConf {
+    PacketizerSettings {
         ssrc: 9000,
         seq: 100,
-        stamp: 5000,
-        pts: Pts { t140: 98, red: 100 },
-        gens: 1,
+        timestamp: 5000,
+        payload_types: PayloadTypes { t140: 98, red: 100 },
+        generations: 1,
     }
 }
 
 /// A text of a source, counted from 0, at its media time in milliseconds.
 #[derive(Clone, Copy)]
-struct Sent<'a> {
+struct SentText<'a> {
     media: u16,
     source: usize,
     text: &'a [u8],
@@ -36,7 +36,7 @@ fn send(
     alloc: Global,
     log: &mut SentLog,
     terminal: usize,
-    sent: &Sent,
+    sent: &SentText,
 ) -> Result<(), Fail> {
     assert!(rt; terminal < log.terminals());
     let pen = log.pen(alloc, terminal)?;
@@ -53,13 +53,13 @@ fn expect(
     alloc: Global,
     log: &SentLog,
     terminal: usize,
-    all: &[Sent],
+    all: &[SentText],
 ) -> Result<(), Fail> {
     assert!(rt; terminal < log.terminals());
     assert!(rt; log.count(terminal) == all.len());
     assert!(rt; log.never_falls(terminal));
     let mut made = log.pen(alloc, terminal)?;
-    let mut written = Output::new(alloc, conf(), &[1001, 1002])?;
+    let mut written = Packetizer::new(alloc, settings(), &[1001, 1002])?;
     for number in 0..all.len() {
         let sent = &all[number];
         let mut packet = Packet::new();
@@ -82,19 +82,19 @@ fn expect(
 #[test]
 fn packets_are_made_again(rt: HostRuntime) -> Result<(), Fail> {
     let mut log = SentLog::new(rt.alloc(), 2)?;
-    log.add(rt.alloc(), conf(), vec![in rt.alloc(); 1001u32, 1002]?)?;
-    log.add(rt.alloc(), conf(), vec![in rt.alloc(); 1001u32, 1002]?)?;
-    let first = Sent {
+    log.add(rt.alloc(), settings(), vec![in rt.alloc(); 1001u32, 1002]?)?;
+    log.add(rt.alloc(), settings(), vec![in rt.alloc(); 1001u32, 1002]?)?;
+    let first = SentText {
         media: 0,
         source: 0,
         text: b"Hel",
     };
-    let second = Sent {
+    let second = SentText {
         media: 300,
         source: 0,
         text: b"lo",
     };
-    let third = Sent {
+    let third = SentText {
         media: 600,
         source: 1,
         text: b"x",
@@ -136,29 +136,29 @@ fn expect_said(rt: &impl Abort, log: &SentLog, ssrc: u32, text: Option<&[u8]>) {
 #[test]
 fn what_was_sent_of_a_source_is_told_in_one_piece(rt: HostRuntime) -> Result<(), Fail> {
     let mut log = SentLog::new(rt.alloc(), 2)?;
-    log.add(rt.alloc(), conf(), vec![in rt.alloc(); 1001u32, 1002]?)?;
-    log.add(rt.alloc(), conf(), vec![in rt.alloc(); 1001u32, 1002]?)?;
-    let first = Sent {
+    log.add(rt.alloc(), settings(), vec![in rt.alloc(); 1001u32, 1002]?)?;
+    log.add(rt.alloc(), settings(), vec![in rt.alloc(); 1001u32, 1002]?)?;
+    let first = SentText {
         media: 0,
         source: 0,
         text: b"ab",
     };
-    let other = Sent {
+    let other = SentText {
         media: 300,
         source: 1,
         text: b"x",
     };
-    let second = Sent {
+    let second = SentText {
         media: 600,
         source: 0,
         text: b"c",
     };
-    let late = Sent {
+    let late = SentText {
         media: 900,
         source: 0,
         text: b"d",
     };
-    let last = Sent {
+    let last = SentText {
         media: 1200,
         source: 0,
         text: b"e",

@@ -2,13 +2,13 @@
 use Rattle.std.proofs.Common.{◌≡◌, ℕ, ◌*◌, ◌<◌, ◌^◌, Some, Ok, Result, List, [], ◌∷◌, refl, ap, ◌∙◌}
 use Rattle.std.specs.Prelude.{map}
 use Rattle.std.specs.List.{AllByRecursion}
-use Rattle.rtt_base.specs.declared.text_packets.Pts.{Pts}
+use Rattle.rtt_base.specs.declared.text_packets.PayloadTypes.{PayloadTypes}
 use Rattle.wire_spec.specs.declared.faults.TextFault.{TextFault}
 use Rattle.wire_spec.specs.Packets.{Packet, Arrival}
 use Rattle.wire_spec.specs.Text.{text_of}
 use Rattle.wire_spec.specs.SentPackets.{packet_written}
-use Rattle.file_spec.specs.declared.conf_lines.LegLine.{LegLine}
-use Rattle.file_spec.specs.Conf.{Conf}
+use Rattle.file_spec.specs.declared.conference_lines.LegLine.{LegLine}
+use Rattle.file_spec.specs.Conference.{Conference}
 use Rattle.file_spec.specs.Kept.{IsConference}
 use Rattle.stream_spec.specs.History.{placed}
 use Rattle.stream_spec.specs.Own.{own_packet}
@@ -24,15 +24,15 @@ use Rattle.serve_spec.specs.Served.{given_to}
 abbrev ok_packet : Packet → Result Packet TextFault
 ok_packet p = Ok p
 
-texts_back : (ssrc : ℕ) (pts : Pts) (sent : List Arrival) → AllByRecursion (IsBack ssrc pts) sent
-    → map (λ octets. text_of octets (Some ssrc) pts) (map (λ (a : Arrival). packet_written pts a.packet) sent) ≡ map ok_packet (map (λ (a : Arrival). a.packet) sent)
-texts_back ssrc pts [] b = refl
-texts_back ssrc pts (a ∷ sent) b = λ i. b.0.text_is i ∷ texts_back ssrc pts sent b.1 i
+texts_back : (ssrc : ℕ) (payload_types : PayloadTypes) (sent : List Arrival) → AllByRecursion (IsBack ssrc payload_types) sent
+    → map (λ octets. text_of octets (Some ssrc) payload_types) (map (λ (a : Arrival). packet_written payload_types a.packet) sent) ≡ map ok_packet (map (λ (a : Arrival). a.packet) sent)
+texts_back ssrc payload_types [] b = refl
+texts_back ssrc payload_types (a ∷ sent) b = λ i. b.0.text_is i ∷ texts_back ssrc payload_types sent b.1 i
 
-pub read_back : (c : Conf) (table : Table) (k : ℕ) → IsConference c → HasSsrcs c → (setup c).step * k < 2 ^ 31 → (j : ℕ) (leg : LegLine) → leg_at c.legs j ≡ Some leg
+pub read_back : (c : Conference) (table : Table) (k : ℕ) → IsConference c → HasSsrcs c → (setup c).step * k < 2 ^ 31 → (j : ℕ) (leg : LegLine) → leg_at c.legs j ≡ Some leg
     → Timed (setup c) table.seats j k table.media (table.terminals j).past
     → packets_to (setup c) j (table.terminals j).past ≡ map (own_packet (told_at (setup c) table j)) (placed (told_at (setup c) table j))
-    → map (λ octets. text_of octets (Some c.mixer.ssrc) leg.pts) (given_to c table j leg) ≡ map (λ x. Ok (own_packet (told_at (setup c) table j) x)) (placed (told_at (setup c) table j))
+    → map (λ octets. text_of octets (Some c.mixer.ssrc) leg.payload_types) (given_to c table j leg) ≡ map (λ x. Ok (own_packet (told_at (setup c) table j) x)) (placed (told_at (setup c) table j))
 read_back c table k is h span j leg at t own =
     let told = told_at (setup c) table j in
-    texts_back c.mixer.ssrc leg.pts (sent_to c table j) (timed_back c table k is h span j leg at t) ∙ (ap (map ok_packet) own ∙ map_twice ok_packet (own_packet told) (placed told))
+    texts_back c.mixer.ssrc leg.payload_types (sent_to c table j) (timed_back c table k is h span j leg at t) ∙ (ap (map ok_packet) own ∙ map_twice ok_packet (own_packet told) (placed told))

@@ -6,7 +6,7 @@ use Rattle.wire_spec.specs.Packets.{Arrival, Packet}
 use Rattle.wire_spec.specs.Text.{text_of}
 use Rattle.stream_spec.specs.Hearing.{heard}
 use Rattle.stream_spec.specs.Still.{still}
-use Rattle.file_spec.specs.Conf.{Conf}
+use Rattle.file_spec.specs.Conference.{Conference}
 use Rattle.mixer_spec.specs.Chunks.{texts_of}
 use Rattle.mixer_spec.specs.Setups.{leg_at, ssrc_of}
 use Rattle.link_spec.specs.Links.{Came, Closed, Datagram, Large, Quiet, Takes}
@@ -16,7 +16,7 @@ use Rattle.live_spec.proofs.Unfollowed.{unfollowed_law}
 use Rattle.serve_spec.specs.Served.{chunks_live, heard_live, hearing_at}
 use Rattle.serve_spec.specs.HeadLive.{OneSenderIsHeard, UnfollowedHasOneSender}
 
-pub live_heard : (c : Conf) (takes : ℕ → Takes) (i : ℕ) → texts_of (chunks_live c takes i) ≡ heard_live c takes i
+pub live_heard : (c : Conference) (takes : ℕ → Takes) (i : ℕ) → texts_of (chunks_live c takes i) ≡ heard_live c takes i
 live_heard c takes i = texts_law (hearing_at c i) (takes i)
 
 -- ---- of one sender
@@ -38,7 +38,7 @@ packet_begins h d t (Ok p) b = go (is_sender d.sender p.ssrc) (takes_over h d t 
     go false false e = b
 
 came_begins : (h : Hearing) (d : Told) (t : ℕ) (came : Came) → Begins d → Begins (told_came h d t came)
-came_begins h d t (Datagram octets) b = packet_begins h d t (text_of octets None h.pts) b
+came_begins h d t (Datagram octets) b = packet_begins h d t (text_of octets None h.payload_types) b
 came_begins h d t Large b = b
 came_begins h d t Quiet b = b
 came_begins h d t Closed b = b

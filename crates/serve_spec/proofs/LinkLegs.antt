@@ -3,15 +3,15 @@ use Rattle.std.proofs.Common.{◌≡◌, ℕ, true, false, Option, Some, List, [
 use Rattle.std.specs.Prelude.{not, nat_le, Ok, bytes_eq, is_some, ◌||◌, ◌==◌}
 use Rattle.std.specs.List.{list_any}
 use Rattle.std.proofs.lemmas.Bool.{not-false, or_parts}
-use Rattle.rtt_base.specs.declared.text_packets.Pts.{Pts}
+use Rattle.rtt_base.specs.declared.text_packets.PayloadTypes.{PayloadTypes}
 use Rattle.file_spec.specs.declared.kinds.ConfKind.TheVariants.{Clash, Many, Number, Twice}
-use Rattle.file_spec.specs.declared.conf_lines.Form.TheVariants.{Links}
-use Rattle.file_spec.specs.declared.conf_lines.LegLine.{LegLine}
+use Rattle.file_spec.specs.declared.conference_lines.Form.TheVariants.{Links}
+use Rattle.file_spec.specs.declared.conference_lines.LegLine.{LegLine}
 use Rattle.rtt_base.specs.Steps.{◌>>=◌}
 use Rattle.file_spec.specs.Steps.{unless}
 use Rattle.file_spec.specs.Lines.{Line}
-use Rattle.file_spec.specs.Numbers.{pts}
-use Rattle.file_spec.specs.Conf.{Above, Conf, Entry, Gens, Leg, Mixer, Plan, Relabel, Follows, Serves, Spacing, Stays, Tick, Turns, Wait, and_line, change_leg, clashes, conf, has_port, is_mixers, is_operators, leg, leg_of, most_legs, new_leg, port, shares_own, shares_path, usual_types, whole_stay, with_entry, with_follow, with_gens}
+use Rattle.file_spec.specs.Numbers.{payload_types}
+use Rattle.file_spec.specs.Conference.{Above, Conference, Entry, Generations, Leg, Mixer, Plan, Relabel, Follows, Serves, Spacing, Stays, Tick, Turns, Wait, and_line, change_leg, clashes, conference_from, has_port, is_mixers, is_operators, leg, leg_of, most_legs, new_leg, port, shares_own, shares_path, usual_types, whole_stay, with_entry, with_follow, with_generations}
 use Rattle.rtt_base.proofs.Steps.{bind_ok}
 use Rattle.file_spec.proofs.Passed.{unless_ok}
 use Rattle.file_spec.proofs.EachLine.{HoldsOf, leg_read, entry_holds, line_adds, lines_of, completed}
@@ -25,7 +25,7 @@ pub record IsNewLink (above : List LegLine) (l : LegLine) : Type 0 where
 abbrev Fits : List LegLine → Entry → Type 0
 Fits above (Leg l) = IsNewLink above l
 Fits above (Mixer m) = Unit {0}
-Fits above (Gens g) = Unit {0}
+Fits above (Generations g) = Unit {0}
 Fits above (Stays s) = ⊥
 Fits above (Tick n) = Unit {0}
 Fits above (Spacing n) = Unit {0}
@@ -49,7 +49,7 @@ new_leg_is above l x stays numbered e =
     let fourth = or_parts (list_any (λ a. shares_path Links a l) above.legs) (is_operators above.service.operator (port l.input)) third.1 in
     subst (IsNewLink above.legs) same (record { stays = stays; numbered = numbered; apart = fourth.0 })
 
-leg_of_fits : (above : Above) (n : ℕ) (name mode ssrc input output : List ℕ) (types : Option Pts) (x : LegLine) → leg_of Links above n name mode ssrc input output types ≡ Ok x → IsNewLink above.legs x
+leg_of_fits : (above : Above) (n : ℕ) (name mode ssrc input output : List ℕ) (types : Option PayloadTypes) (x : LegLine) → leg_of Links above n name mode ssrc input output types ≡ Ok x → IsNewLink above.legs x
 leg_of_fits above n name mode ssrc input output types x e =
     let r = leg_read Links above n name mode ssrc input output types x e in
     let u = unless_ok (not (has_port Links input)) Number input r.line.input r.comes in
@@ -63,7 +63,7 @@ leg_fits above n (a ∷ b ∷ c ∷ []) x e = absurd (cc e)
 leg_fits above n (a ∷ b ∷ c ∷ d ∷ []) x e = absurd (cc e)
 leg_fits above n (a ∷ b ∷ c ∷ d ∷ f ∷ []) x e = leg_of_fits above n a b c d f (Some usual_types) x e
 leg_fits above n (a ∷ b ∷ c ∷ d ∷ f ∷ g ∷ []) x e = absurd (cc e)
-leg_fits above n (a ∷ b ∷ c ∷ d ∷ f ∷ g ∷ h ∷ []) x e = leg_of_fits above n a b c d f (pts g h) x e
+leg_fits above n (a ∷ b ∷ c ∷ d ∷ f ∷ g ∷ h ∷ []) x e = leg_of_fits above n a b c d f (payload_types g h) x e
 leg_fits above n (a ∷ b ∷ c ∷ d ∷ f ∷ g ∷ h ∷ i ∷ more) x e = absurd (cc e)
 
 -- ---- lines
@@ -71,7 +71,7 @@ entry_fits : (above : Above) (n : ℕ) → HoldsOf (Fits above.legs) Links above
 entry_fits above n = record {
   each_leg = leg_fits above n;
   each_mixer = λ ws x e. tt;
-  each_gens = λ ws x e. tt;
+  each_generations = λ ws x e. tt;
   each_stay = λ q. absurd (cc q);
   each_plan = λ q. absurd (cc q);
   each_tick = λ ws x e. tt;
@@ -94,7 +94,7 @@ module _ (Fit : List LegLine → Type 0) (none : Fit []) (push : (above : List L
     (changed : (change : LegLine → LegLine) → Leaves change → (k : ℕ) (legs : List LegLine) → Fit legs → Fit (change_leg change k legs)) where
   more : (above : Above) (said : Entry) → Fit above.legs → Fits above.legs said → Fit (with_entry above said).legs
   more above (Leg l) f n = push above.legs l n f
-  more above (Gens g) f n = changed (with_gens g.gens) (record { stay = λ l. refl; input = λ l. refl }) g.leg above.legs f
+  more above (Generations g) f n = changed (with_generations g.generations) (record { stay = λ l. refl; input = λ l. refl }) g.leg above.legs f
   more above (Stays s) f n = absurd n
   more above (Tick m) f n = f
   more above (Spacing m) f n = f
@@ -111,8 +111,8 @@ module _ (Fit : List LegLine → Type 0) (none : Fit []) (push : (above : List L
       let a = line_adds Links above later line e in
       subst (λ (x : Above). Fit x.legs) a.3 (more above a.1 f (entry_holds (Fits above.legs) Links above line.number (entry_fits above line.number) a.0 a.1 a.2))
 
-  pub legs_fit : (octets : List ℕ) (c : Conf) → conf Links octets ≡ Ok c → Fit c.legs
+  pub legs_fit : (octets : List ℕ) (c : Conference) → conference_from Links octets ≡ Ok c → Fit c.legs
   legs_fit octets c e =
       let a = lines_of (λ (x : Above). Fit x.legs) Links line_fits none octets c e in
       let d = completed a.0 a.0.mixer c a.2 in
-      subst (λ (x : Conf). Fit x.legs) d.4 a.1
+      subst (λ (x : Conference). Fit x.legs) d.4 a.1

@@ -7,11 +7,11 @@ use Rattle.std.proofs.lemmas.List.Elements.{All-head, All-nil, All-push, All-tai
 use Rattle.std.proofs.lemmas.List.Folds.{list_any_at}
 use Rattle.std.proofs.lemmas.List.Quantifiers.{all_pairs_push}
 use Rattle.std.proofs.lemmas.List.Sums.{sum_by-cons}
-use Rattle.file_spec.specs.declared.conf_lines.Form.TheVariants.{Links}
-use Rattle.file_spec.specs.declared.conf_lines.LegLine.{LegLine}
+use Rattle.file_spec.specs.declared.conference_lines.Form.TheVariants.{Links}
+use Rattle.file_spec.specs.declared.conference_lines.LegLine.{LegLine}
 use Rattle.file_spec.specs.Stays.{staying, stays_at}
 use Rattle.file_spec.specs.Kept.{IsConference}
-use Rattle.file_spec.specs.Conf.{Conf, change_leg, conf, is_same_port, port, shares_path, whole_stay}
+use Rattle.file_spec.specs.Conference.{Conference, change_leg, conference_from, is_same_port, port, shares_path, whole_stay}
 use Rattle.file_spec.proofs.KeptLines.{length-change}
 use Rattle.mixer_spec.proofs.Conferences.{accepted_law}
 use Rattle.serve_spec.specs.HeadLive.{LinksApart, LinksStay}
@@ -72,7 +72,7 @@ none_shares above l e i d h = (or_parts (bytes_eq (get_or above i d).output l.ou
 one_more : (above : List LegLine) (l : LegLine) → IsNewLink above l → Fit above → Fit (above ++ l ∷ [])
 one_more above l n f = (All-push Stay above l f.0 (n.stays, n.numbered), all_pairs_push AreApart above l f.1 (none_shares above l n.apart))
 
-legs_stay : (octets : List ℕ) (c : Conf) → conf Links octets ≡ Ok c → Fit c.legs
+legs_stay : (octets : List ℕ) (c : Conference) → conference_from Links octets ≡ Ok c → Fit c.legs
 legs_stay octets c e =
     legs_fit Fit (All-nil Stay, λ i j d less within. absurd (omega (arith, within))) one_more
     (λ change leaves k legs f. (changed change leaves k legs f.0, still_apart change leaves k legs f.1)) octets c e
@@ -95,7 +95,7 @@ stay_until [] i a = refl
 stay_until (l ∷ legs) zero a = ap (λ s. s.until) (All-head Stay l legs a).0
 stay_until (l ∷ legs) (suc i) a = stay_until legs i (All-tail Stay l legs a)
 
-pub links_stay : (octets : List ℕ) (c : Conf) → conf Links octets ≡ Ok c → IsConference c → AllStay (setup c)
+pub links_stay : (octets : List ℕ) (c : Conference) → conference_from Links octets ≡ Ok c → IsConference c → AllStay (setup c)
 links_stay octets c e k =
     let a = (legs_stay octets c e).0 in
     let n = all_staying c.legs a in
@@ -122,7 +122,7 @@ line_at (x ∷ legs) zero l d e = (omega arith, cc e)
 line_at (x ∷ legs) (suc j) l d e = let r = line_at legs j l d e in (omega (arith, r.0), r.1)
 
 -- the earlier of two legs has another port
-earlier : (c : Conf) → AllPairs AreApart c.legs → (j k : ℕ) (a b : LegLine) (p : ℕ) → j < k → leg_at c.legs j ≡ Some a → leg_at c.legs k ≡ Some b → port a.input ≡ Some p → port b.input ≡ Some p → ⊥
+earlier : (c : Conference) → AllPairs AreApart c.legs → (j k : ℕ) (a b : LegLine) (p : ℕ) → j < k → leg_at c.legs j ≡ Some a → leg_at c.legs k ≡ Some b → port a.input ≡ Some p → port b.input ≡ Some p → ⊥
 earlier c apart j k a b p less at_j at_k is_a is_b =
     let x = line_at c.legs j a a at_j in
     let y = line_at c.legs k b a at_k in

@@ -8,10 +8,10 @@ use Rattle.std.specs.Fmt.{digits}
 use Rattle.wire_spec.specs.Rtp.{rtp, rtp_of_header}
 use Rattle.wire_spec.specs.Red.{headers_at, texts_at, red}
 use Rattle.wire_spec.specs.Text.{text_of_short, text_of}
-use Rattle.file_spec.specs.declared.conf_lines.Form.TheVariants.{Links}
-use Rattle.file_spec.specs.declared.conf_lines.LegLine.{LegLine}
+use Rattle.file_spec.specs.declared.conference_lines.Form.TheVariants.{Links}
+use Rattle.file_spec.specs.declared.conference_lines.LegLine.{LegLine}
 use Rattle.file_spec.specs.Services.{no_service}
-use Rattle.file_spec.specs.Conf.{Conf, conf, entry, leg_of, mixer_of, stay_or_plan, time_or_other}
+use Rattle.file_spec.specs.Conference.{Conference, conference_from, entry, leg_of, mixer_of, stay_or_plan, time_or_other}
 use Rattle.stream_spec.specs.Ready.{Chunk}
 use Rattle.text_spec.specs.Characters.{class_of}
 use Rattle.text_spec.specs.Shown.{shown}
@@ -35,19 +35,19 @@ abbrev legs : List ℕ
 legs = codes "leg Ann aware 1001 5004 127.0.0.1:6004\nleg Bob aware 1002 5006 127.0.0.1:6006\nmixer 9000 100 5000\n"
 
 abbrev ann : LegLine
-ann = record { line = 1; name = codes "Ann"; aware = true; ssrc = 1001; input = codes "5004"; output = codes "127.0.0.1:6004"; pts = types; gens = 2; stay = for_good; follow = false }
+ann = record { line = 1; name = codes "Ann"; aware = true; ssrc = 1001; input = codes "5004"; output = codes "127.0.0.1:6004"; payload_types = types; generations = 2; stay = for_good; follow = false }
 
 abbrev bob : LegLine
-bob = record { line = 2; name = codes "Bob"; aware = true; ssrc = 1002; input = codes "5006"; output = codes "127.0.0.1:6006"; pts = types; gens = 2; stay = for_good; follow = false }
+bob = record { line = 2; name = codes "Bob"; aware = true; ssrc = 1002; input = codes "5006"; output = codes "127.0.0.1:6006"; payload_types = types; generations = 2; stay = for_good; follow = false }
 
-abbrev call : ℕ → Conf
-call turns = record { legs = ann ∷ bob ∷ []; tick = 100; spacing = 300; wait = 1000; turns = turns; relabel = None; mixer = record { ssrc = 9000; seq = 100; stamp = 5000 }; plan = []; service = no_service }
+abbrev call : ℕ → Conference
+call turns = record { legs = ann ∷ bob ∷ []; tick = 100; spacing = 300; wait = 1000; turns = turns; relabel = None; mixer = record { ssrc = 9000; seq = 100; timestamp = 5000 }; plan = []; service = no_service }
 
-many_turns : conf Links legs ≡ Ok (call 5000000)
+many_turns : conference_from Links legs ≡ Ok (call 5000000)
 unfolding entry time_or_other stay_or_plan leg_of mixer_of is_utf8 chars encode_utf8
 many_turns = refl
 
-one_turn : conf Links (legs ++ codes "turns 1\n") ≡ Ok (call 1)
+one_turn : conference_from Links (legs ++ codes "turns 1\n") ≡ Ok (call 1)
 unfolding entry time_or_other stay_or_plan leg_of mixer_of is_utf8 chars encode_utf8
 one_turn = refl
 
@@ -146,7 +146,7 @@ nil [] = refl
 nil (x ∷ xs) = ap (λ ys. x ∷ ys) (nil xs)
 
 -- ---- the links are closed: what they gave counts
-abbrev long : Conf
+abbrev long : Conference
 long = call 5000000
 
 abbrev closed_after : List Event → Table
@@ -260,7 +260,7 @@ live_closed_keeps : HeadLive long to_the_end (to_bob (first ∷ second ∷ third
 live_closed_keeps = head_law legs long to_the_end (to_bob (first ∷ second ∷ third ∷ [])) Closed (shows (codes "A") 3 Closed) many_turns live_closed
 
 -- ---- one turn, before which each link has told nothing new but once
-abbrev short : Conf
+abbrev short : Conference
 short = call 1
 
 quiet_turn : AllMayTurn (setup short) (hearing_at short) quiet (chunks_live short quiet) entered (at_last []) (at_last (heard 2 1 ∷ []))

@@ -4,8 +4,8 @@ use Rattle.std.specs.Prelude.{map}
 use Rattle.std.proofs.Math.Nat.{mul-le-mul_left}
 use Rattle.wire_spec.specs.Packets.{Arrival}
 use Rattle.wire_spec.specs.Text.{text_of}
-use Rattle.file_spec.specs.declared.conf_lines.LegLine.{LegLine}
-use Rattle.file_spec.specs.Conf.{Conf, conf}
+use Rattle.file_spec.specs.declared.conference_lines.LegLine.{LegLine}
+use Rattle.file_spec.specs.Conference.{Conference, conference_from}
 use Rattle.file_spec.specs.Kept.{IsConference}
 use Rattle.stream_spec.specs.Ready.{Chunk}
 use Rattle.stream_spec.specs.History.{Come, History}
@@ -13,7 +13,7 @@ use Rattle.stream_spec.specs.Own.{Own}
 use Rattle.stream_spec.specs.Own as histories
 use Rattle.stream_spec.specs.Carries.{CarriesFront}
 use Rattle.mixer_spec.specs.Chunks.{texts_of}
-use Rattle.mixer_spec.specs.Setups.{AllStay, IsAnother, gens_of, leg_at, setup}
+use Rattle.mixer_spec.specs.Setups.{AllStay, IsAnother, generations_of, leg_at, setup}
 use Rattle.mixer_spec.specs.Table.{Table, chunks_taken, is_idle, is_quiet, shared}
 use Rattle.mixer_spec.specs.Legs.{left}
 use Rattle.mixer_spec.specs.Core.{Core, Event, after, turns_in}
@@ -33,7 +33,7 @@ use Rattle.mixer_spec.proofs.Legs.{in_order}
 use Rattle.mixer_spec.proofs.Lists.{nil}
 use Rattle.mixer_spec.proofs.Paced.{Timed}
 use Rattle.mixer_spec.proofs.Through.{groups_more}
-use Rattle.file_spec.specs.declared.conf_lines.Form.TheVariants.{Links}
+use Rattle.file_spec.specs.declared.conference_lines.Form.TheVariants.{Links}
 use Rattle.command_spec.proofs.SentBack.{below_legs}
 use Rattle.command_spec.proofs.Ssrcs.{HasSsrcs, ssrcs_fit}
 use Rattle.link_spec.specs.Links.{Takes}
@@ -52,19 +52,19 @@ use Rattle.serve_spec.proofs.Composing.{composed_more}
 use Rattle.serve_spec.proofs.LinksStay.{links_stay}
 
 -- what a call says of its table
-record Serves (c : Conf) (takes : ℕ → Takes) (given : ℕ → List (List ℕ)) (end : End) (table : Table) : Type 0 where
+record Serves (c : Conference) (takes : ℕ → Takes) (given : ℕ → List (List ℕ)) (end : End) (table : Table) : Type 0 where
   gives : (j : ℕ) (leg : LegLine) → leg_at c.legs j ≡ Some leg → given j ≡ given_to c table j leg
   drained : end ≡ Closed → (j : ℕ) → j < length c.legs → IsDrained c takes table j
   idle : end ≡ Closed → is_idle (setup c) table ≡ true
 
 -- what is promised of it
-record Promises (c : Conf) (takes : ℕ → Takes) (given : ℕ → List (List ℕ)) (end : End) (table : Table) : Type 0 where
+record Promises (c : Conference) (takes : ℕ → Takes) (given : ℕ → List (List ℕ)) (end : End) (table : Table) : Type 0 where
   sent : (j : ℕ) (leg : LegLine) → leg_at c.legs j ≡ Some leg → IsGiven c table end j leg (given j)
   told : (j i : ℕ) → IsPair (setup c) j i → IsToldLive c takes table end j i
   told_as_one : (j : ℕ) → j < length c.legs → (setup c).aware j ≡ false → IsToldAsOne c takes table end j
 
 -- these events are a live run of a conference of links
-record Runs (c : Conf) (takes : ℕ → Takes) (past : List Event) : Type 0 where
+record Runs (c : Conference) (takes : ℕ → Takes) (past : List Event) : Type 0 where
   is : IsConference c
   fits : HasSsrcs c
   stay : AllStay (setup c)
@@ -72,7 +72,7 @@ record Runs (c : Conf) (takes : ℕ → Takes) (past : List Event) : Type 0 wher
   live : AreLive (setup c) (hearing_at c) takes (chunks_live c takes) counts past
   few : turns_in past ≤ c.turns
 
-module _ (c : Conf) (takes : ℕ → Takes) (given : ℕ → List (List ℕ)) (end : End) (past : List Event) (r : Runs c takes past) where
+module _ (c : Conference) (takes : ℕ → Takes) (given : ℕ → List (List ℕ)) (end : End) (past : List Event) (r : Runs c takes past) where
   abbrev at : Core
   at = after (setup c) (chunks_live c takes) past
 
@@ -110,12 +110,12 @@ module _ (c : Conf) (takes : ℕ → Takes) (given : ℕ → List (List ℕ)) (e
     sent_to_it j leg there =
         let low = below_legs c.legs j leg there in
         let out : IsOut (setup c) j (w.terminals j) (told j) = any_out_law (setup c) (chunks_live c takes) past running j low in
-        let gens : gens_of (leg_at c.legs j) ≡ leg.gens = ap gens_of there in
+        let generations : generations_of (leg_at c.legs j) ≡ leg.generations = ap generations_of there in
         record {
           lawful = out.lawful;
-          own = subst (λ (g : ℕ). Own g (told j)) gens out.own;
-          packets = ap (map (λ octets. text_of octets (Some c.mixer.ssrc) leg.pts)) (v.gives j leg there) ∙ read_back c w (turns_in past) r.is r.fits span j leg there (timed j low) out.packets_are;
-          closed = λ q. subst (λ (g : ℕ). histories.Closed g (told j)) gens (out.closed (quiet q j low));
+          own = subst (λ (g : ℕ). Own g (told j)) generations out.own;
+          packets = ap (map (λ octets. text_of octets (Some c.mixer.ssrc) leg.payload_types)) (v.gives j leg there) ∙ read_back c w (turns_in past) r.is r.fits span j leg there (timed j low) out.packets_are;
+          closed = λ q. subst (λ (g : ℕ). histories.Closed g (told j)) generations (out.closed (quiet q j low));
         }
 
     -- ---- an aware terminal
@@ -188,7 +188,7 @@ head_law octets c takes given end printed read v =
     record { served = v; sent = p.sent; told = p.told; told_as_one = p.told_as_one }
 
 -- the run that it tells is the call's
-pub same_run : (octets : List ℕ) (c : Conf) (takes : ℕ → Takes) (given : ℕ → List (List ℕ)) (end : End) (printed : List ℕ) (read : conf Links octets ≡ Ok c) (v : IsServed c takes given end printed)
+pub same_run : (octets : List ℕ) (c : Conference) (takes : ℕ → Takes) (given : ℕ → List (List ℕ)) (end : End) (printed : List ℕ) (read : conference_from Links octets ≡ Ok c) (v : IsServed c takes given end printed)
     → (head_law octets c takes given end printed read v).served ≡ v
 unfolding head_law
 same_run octets c takes given end printed read v = refl

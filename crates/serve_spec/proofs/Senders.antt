@@ -2,8 +2,8 @@
 use Rattle.std.proofs.Common.{◌≡◌, ℕ, zero, suc, ◌<◌, Some, List, [], ◌∷◌, ◌++◌, length, refl, ap, subst, sym, ◌∙◌, append_assoc, arith}
 use Rattle.std.specs.List.{AllByRecursion}
 use Rattle.wire_spec.specs.Packets.{Arrival}
-use Rattle.file_spec.specs.declared.conf_lines.LegLine.{LegLine}
-use Rattle.file_spec.specs.Conf.{Conf}
+use Rattle.file_spec.specs.declared.conference_lines.LegLine.{LegLine}
+use Rattle.file_spec.specs.Conference.{Conference}
 use Rattle.stream_spec.specs.Hearing.{marker}
 use Rattle.stream_spec.specs.History.{History}
 use Rattle.stream_spec.specs.Carries.{CarriesFront}
@@ -36,7 +36,7 @@ formers_heard h of (f ∷ before) last =
     ∙ (ap (λ ts. former_texts h before ++ ts) (sym (append_assoc (sender_texts h f.ssrc f.past) (marker ∷ []) (hears last)))
     ∙ sym (append_assoc (former_texts h before) (sender_texts h f.ssrc f.past ++ marker ∷ []) (hears last)))))
 
-heard_is : (c : Conf) (takes : ℕ → Takes) (i : ℕ) (of : ℕ → History) → heard_live c takes i ≡ heard_in_turn (hops_before c.wait of (told_live c takes i).before) (last_hop c takes i of)
+heard_is : (c : Conference) (takes : ℕ → Takes) (i : ℕ) (of : ℕ → History) → heard_live c takes i ≡ heard_in_turn (hops_before c.wait of (told_live c takes i).before) (last_hop c takes i of)
 heard_is c takes i of =
     let h = hearing_at c i in
     let d = told_by h (takes i) in

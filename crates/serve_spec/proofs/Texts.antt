@@ -1,7 +1,7 @@
 -- What is heard of a live leg are texts.
 use Rattle.std.proofs.Common.{◌≡◌, ℕ, Bool, true, false, Option, Some, None, Ok, Err, Result, List, [], ◌∷◌, ◌++◌, refl, subst}
 use Rattle.std.specs.Prelude.{map, max, if◌then◌else◌}
-use Rattle.rtt_base.specs.declared.text_packets.Pts.{Pts}
+use Rattle.rtt_base.specs.declared.text_packets.PayloadTypes.{PayloadTypes}
 use Rattle.wire_spec.specs.declared.faults.TextFault.{TextFault}
 use Rattle.wire_spec.specs.Packets.{AreTextArrivals, Arrival, IsTextPacket, Packet}
 use Rattle.wire_spec.specs.Text.{text_of}
@@ -32,8 +32,8 @@ abbrev IsText : Result Packet TextFault → Type 0
 IsText r = (p : Packet) → r ≡ Ok p → IsTextPacket p
 
 -- what is read is a text
-read_text : (octets : List ℕ) (pts : Pts) → IsText (text_of octets None pts)
-read_text octets pts p e = (subst (λ (r : Result Packet TextFault). AreTextArrivals (arrived 0 r [])) (own_asked octets pts p e) (recordings_law (sent_item (0, octets) ∷ []) p.ssrc pts).0).0
+read_text : (octets : List ℕ) (payload_types : PayloadTypes) → IsText (text_of octets None payload_types)
+read_text octets payload_types p e = (subst (λ (r : Result Packet TextFault). AreTextArrivals (arrived 0 r [])) (own_asked octets payload_types p e) (recordings_law (sent_item (0, octets) ∷ []) p.ssrc payload_types).0).0
 
 former_texts : (sender : Option ℕ) (past : List Arrival) (m : ℕ) (before : List Former) → AreTextArrivals past → FormerTexts before → FormerTexts (former_after sender past m before)
 former_texts None past m before a b = b
@@ -49,7 +49,7 @@ packet_texts h d t (Ok p) one a = go (is_sender d.sender p.ssrc) (takes_over h d
     go false false = a
 
 came_texts : (h : Hearing) (d : Told) (t : ℕ) (came : Came) → ToldTexts d → ToldTexts (told_came h d t came)
-came_texts h d t (Datagram octets) a = packet_texts h d t (text_of octets None h.pts) (read_text octets h.pts) a
+came_texts h d t (Datagram octets) a = packet_texts h d t (text_of octets None h.payload_types) (read_text octets h.payload_types) a
 came_texts h d t Large a = record { past = a.past; before = a.before }
 came_texts h d t Quiet a = record { past = a.past; before = a.before }
 came_texts h d t Closed a = record { past = a.past; before = a.before }

@@ -5,7 +5,7 @@ use Rattle.std.proofs.lemmas.List.{length-append}
 use Rattle.std.proofs.lemmas.List.Folds.{concat-append}
 use Rattle.stream_spec.specs.Carries.{Groups, texts_by}
 use Rattle.stream_spec.specs.Ready.{Chunk}
-use Rattle.file_spec.specs.Conf.{Conf}
+use Rattle.file_spec.specs.Conference.{Conference}
 use Rattle.mixer_spec.specs.Bridged.{told_at, waiting_texts}
 use Rattle.mixer_spec.specs.Chunks.{octets, texts_of}
 use Rattle.mixer_spec.specs.Setups.{setup}
@@ -52,7 +52,7 @@ groups_size (e ∷ es) texts rest g =
 covers : (told taken behind rest waits heard : ℕ) → heard ≡ told + rest → heard ≡ taken + behind → rest ≡ waits + behind → told ≤ taken
 covers told taken behind rest waits heard a b c = omega (arith, a, b, c)
 
-told_is_covered : (c : Conf) (takes : ℕ → Takes) (table : Table) (end : End) (j i : ℕ) → IsToldLive c takes table end j i
+told_is_covered : (c : Conference) (takes : ℕ → Takes) (table : Table) (end : End) (j i : ℕ) → IsToldLive c takes table end j i
     → octets_told (told_at (setup c) table j) ((setup c).ssrc i) ≤ octets (chunks_taken (table.taken i))
 told_is_covered c takes table end j i t =
     let heard = heard_live c takes i in
@@ -66,5 +66,5 @@ told_is_covered c takes table end j i t =
     let rest : size t.rest ≡ size waits + octets behind = ap size t.left.2 ∙ (size_both waits (texts_of behind) ∙ ap (λ n. size waits + n) (sym (octets_are behind))) in
     covers (size texts) (octets taken) (octets behind) (size t.rest) (size waits) (size heard) (groups_size texts heard t.rest t.front) all rest
 
-pub covers_told : (c : Conf) (takes : ℕ → Takes) (given : ℕ → List (List ℕ)) (end : End) (printed : List ℕ) (h : HeadLive c takes given end printed) → CoversTold c h.served.table
+pub covers_told : (c : Conference) (takes : ℕ → Takes) (given : ℕ → List (List ℕ)) (end : End) (printed : List ℕ) (h : HeadLive c takes given end printed) → CoversTold c h.served.table
 covers_told c takes given end printed h = λ j i p. told_is_covered c takes h.served.table end j i (h.told j i p)

@@ -7,7 +7,7 @@ use Rattle.wire_spec.specs.Packets.{has_text}
 use Rattle.stream_spec.specs.Lists.{In}
 use Rattle.stream_spec.specs.Hearing.{marker}
 use Rattle.stream_spec.specs.History.{Placed, placed}
-use Rattle.stream_spec.specs.Kept.{Item, Mark, Block, Parts, Rising, blocks_in, is_entry_of, is_text_of, texts}
+use Rattle.stream_spec.specs.Kept.{Item, Marker, Block, Parts, Rising, blocks_in, is_entry_of, is_text_of, texts}
 use Rattle.stream_spec.specs.Carries.{CarriesFront, Groups}
 use Rattle.stream_spec.proofs.Blocks.{blocks_in_append, l2_rises}
 use Rattle.stream_spec.proofs.Lists.{filter_in, in_append, in_filter, in_left, in_right}
@@ -15,16 +15,16 @@ use Rattle.stream_spec.proofs.Places.{same_place_after}
 use Rattle.stream_spec.proofs.Walks.{l1}
 use Rattle.mixer_spec.specs.Laws.{PartsAt}
 use Rattle.mixer_spec.specs.Through.{group_of, replaced, text_entries}
-use Rattle.mixer_spec.specs.Headline.{Hop, IsBlock, IsHop, IsLostBehind, IsMarkBehind, OneHop, group, groups, said, told, told_by, used}
+use Rattle.mixer_spec.specs.Headline.{Hop, IsBlock, IsHop, IsLostBehind, IsMarkerBehind, OneHop, group, groups, said, told, told_by, used}
 use Rattle.mixer_spec.proofs.Lists.{nil}
 use Rattle.mixer_spec.proofs.BothHops.{Front, front_of}
-use Rattle.mixer_spec.proofs.HopMarks.{Home, TwoCuts, above_place, around, below_place, home, mark_came, mark_lost, rising_entries, second_mark, two_cuts}
+use Rattle.mixer_spec.proofs.HopMarkers.{Home, TwoCuts, above_place, around, below_place, home, marker_came, marker_lost, rising_entries, second_marker, two_cuts}
 use Rattle.mixer_spec.proofs.HopOrder.{Segments, block_from, block_in, from_block, group_order, group_within, parts, replaced_rises}
 use Rattle.mixer_spec.proofs.HopWhole.{all_groups}
 use Rattle.mixer_spec.proofs.OneHop.{absent_lost, block_is, lost_absent, one_hop, parts_between, places_of, told_whole}
 use Rattle.mixer_spec.proofs.Through.{Carry, NoneEmpty, carry_of, entries_are, hops_group, hops_text, none_left}
 use Rattle.serve_spec.specs.InTurn.{AreHops, HoldsOfOne, InTurn, IsLostBlock, heard_in_turn, told_in_turn}
-use Rattle.serve_spec.proofs.Turns.{is_told, turn_blocks, turn_lost, turn_marks, turn_none, turn_rises, turn_texts, turn_told}
+use Rattle.serve_spec.proofs.Turns.{is_told, turn_blocks, turn_lost, turn_markers, turn_none, turn_rises, turn_texts, turn_told}
 
 -- ---- the entries of the second hop
 entry_block : (q : Hop) (y : Placed) → In y (text_entries q.sent q.source) → IsBlock q y
@@ -39,7 +39,7 @@ block_entry q y b = filter_in (is_text_of q.source) y (placed q.sent) b.sent (an
 -- what is said is that of each piece
 each_said : (q : Hop) (sent xs : List Item) → Carry (text_entries q.sent q.source) sent → ((y : Placed) → In (Block y) xs → In y (text_entries q.sent q.source)) → texts xs ≡ map said (groups sent q xs)
 each_said q sent [] c f = refl
-each_said q sent (Mark ∷ xs) c f = ap (λ t. t ∷ texts xs) (sym (nil marker)) ∙ ap (λ ts. said (Mark ∷ []) ∷ ts) (each_said q sent xs c (λ y i. f y (inr i)))
+each_said q sent (Marker ∷ xs) c f = ap (λ t. t ∷ texts xs) (sym (nil marker)) ∙ ap (λ ts. said (Marker ∷ []) ∷ ts) (each_said q sent xs c (λ y i. f y (inr i)))
 each_said q sent (Block y ∷ xs) c f =
     ap (λ t. t ∷ texts xs) (sym (hops_group q.sent q.source sent y c (f y (inl refl)))) ∙ ap (λ ts. said (group sent q y) ∷ ts) (each_said q sent xs c (λ z i. f z (inr i)))
 
@@ -61,10 +61,10 @@ both_law before last q hops iq sent waiting is carried = record {
   blocks = λ x i. let r = block_from (text_entries q.sent q.source) sent (told q) x i in turn_blocks 0 before last x hops (of_all (Block x) (group_within (text_entries q.sent q.source) sent r.0 (Block x) r.2));
   order = replaced_rises (text_entries q.sent q.source) sent (told q) (rising_entries q.sent q.source) rises.left rises_second;
   absent = λ x b. (why x b, gone x b);
-  marked_behind = λ x l w. second_mark q.sent (used q) q.source sent x l.entry rises.left (places_of q iq) l.is_block.sent l.is_block.source l.carries
+  marked_behind = λ x l w. second_marker q.sent (used q) q.source sent x l.entry rises.left (places_of q iq) l.is_block.sent l.is_block.source l.carries
       (parts_between q iq l.entry l.is_block (lost_absent q iq l.entry l.lost) w);
-  mark_stands = λ x h. turn_marks 0 before last x hops h;
-  mark_is = λ x m. mark_in x m;
+  marker_stands = λ x h. turn_markers 0 before last x hops h;
+  marker_is = λ x m. marker_in x m;
   marked = λ x r. stands x r;
   passed = λ a. ap (replaced (text_entries q.sent q.source) sent) (told_whole q iq a) ∙ all_groups (text_entries q.sent q.source) sent none_sent (rising_entries q.sent q.source) carried;
 }
@@ -136,15 +136,15 @@ both_law before last q hops iq sent waiting is carried = record {
                   | inr more ↦ order l.entry r.0 l.carries r.2 (omega (arith, more, d))
                 ]
 
-    -- where a mark is sent on it stands behind both
-    stands : (x : Placed) (r : PartsAt x sent) → IsMarkBehind q sent x
-    stands x r = found (home (text_entries q.sent q.source) sent r.0 Mark r.1 none_sent (rising_entries q.sent q.source) carried r.2)
+    -- where a marker is sent on it stands behind both
+    stands : (x : Placed) (r : PartsAt x sent) → IsMarkerBehind q sent x
+    stands x r = found (home (text_entries q.sent q.source) sent r.0 Marker r.1 none_sent (rising_entries q.sent q.source) carried r.2)
       where
-        found : Home (text_entries q.sent q.source) sent r.0 Mark r.1 → IsMarkBehind q sent x
+        found : Home (text_entries q.sent q.source) sent r.0 Marker r.1 → IsMarkerBehind q sent x
         found h = record {
           entry = h.entry;
           is_block = entry_block q h.entry h.is_in;
-          carries = subst (λ (xs : List Item). In Mark xs) (sym h.is) (in_right Mark h.before (Mark ∷ h.behind) (inl refl));
+          carries = subst (λ (xs : List Item). In Marker xs) (sym h.is) (in_right Marker h.before (Marker ∷ h.behind) (inl refl));
           stands = λ w. elim w [
             | inl i ↦ came (around (told q) (Block h.entry) i)
             | inr w ↦ elim (is_told q iq h.entry (entry_block q h.entry h.is_in)) [
@@ -158,22 +158,22 @@ both_law before last q hops iq sent waiting is carried = record {
             came s =
                 let g = parts (blocks_in s.0) (h.entry ∷ blocks_in s.1) (subst Rising (ap blocks_in s.2 ∙ blocks_in_append s.0 (Block h.entry ∷ s.1)) rises_second) in
                 subst (PartsAt x) (sym (ap (replaced (text_entries q.sent q.source) sent) s.2))
-                (mark_came (text_entries q.sent q.source) sent r.0 r.1 s.0 s.1 x h r.3 r.4
+                (marker_came (text_entries q.sent q.source) sent r.0 r.1 s.0 s.1 x h r.3 r.4
                 (λ y i. g.cross y h.entry (block_in y s.0 i) (inl refl)) (λ y i. g.right.0 y (block_in y s.1 i)))
 
             lost : Parts h.entry (told q) → PartsAt x (told_by sent q)
             lost s =
                 let b = entry_block q h.entry h.is_in in
                 subst (PartsAt x) (sym (ap (replaced (text_entries q.sent q.source) sent) s.2))
-                (mark_lost (text_entries q.sent q.source) sent r.0 r.1 s.0 s.1 x h r.3 r.4
-                (λ y i. below_place q.sent (used q) q.source y h.entry (places_of q iq) (subst (λ (xs : List Item). In (Block y) xs) (sym s.2) (in_left (Block y) s.0 (Mark ∷ s.1) i)) b.sent b.source (s.3 y i))
-                (λ y i. above_place q.sent (used q) q.source y h.entry (places_of q iq) (subst (λ (xs : List Item). In (Block y) xs) (sym s.2) (in_right (Block y) s.0 (Mark ∷ s.1) (inr i))) b.sent b.source (s.4 y i)))
+                (marker_lost (text_entries q.sent q.source) sent r.0 r.1 s.0 s.1 x h r.3 r.4
+                (λ y i. below_place q.sent (used q) q.source y h.entry (places_of q iq) (subst (λ (xs : List Item). In (Block y) xs) (sym s.2) (in_left (Block y) s.0 (Marker ∷ s.1) i)) b.sent b.source (s.3 y i))
+                (λ y i. above_place q.sent (used q) q.source y h.entry (places_of q iq) (subst (λ (xs : List Item). In (Block y) xs) (sym s.2) (in_right (Block y) s.0 (Marker ∷ s.1) (inr i))) b.sent b.source (s.4 y i)))
 
-    -- in which part a mark stands
-    mark_in : (x : Placed) (m : PartsAt x (told_in_turn 0 before last)) → PartsAt x sent ⊎ (length sent ≤ length m.0)
-    mark_in x m = found (two_cuts m.0 Mark m.1 sent waiting (sym m.2 ∙ is))
+    -- in which part a marker stands
+    marker_in : (x : Placed) (m : PartsAt x (told_in_turn 0 before last)) → PartsAt x sent ⊎ (length sent ≤ length m.0)
+    marker_in x m = found (two_cuts m.0 Marker m.1 sent waiting (sym m.2 ∙ is))
       where
-        found : TwoCuts m.0 Mark m.1 sent waiting → PartsAt x sent ⊎ (length sent ≤ length m.0)
+        found : TwoCuts m.0 Marker m.1 sent waiting → PartsAt x sent ⊎ (length sent ≤ length m.0)
         found (inl d) = let a = ap length d.1 ∙ length-append sent d.0 in inr (omega (arith, a))
         found (inr d) = inl (m.0, d.0, d.1, m.3, λ y i. m.4 y (subst (λ (xs : List Item). In (Block y) xs) (sym d.2) (in_left (Block y) d.0 waiting i)))
 

@@ -3,8 +3,8 @@ use Rattle.std.proofs.Common.{◌≡◌, ◌<◌, ◌+◌, ℕ, List, [], ◌∷
 use Rattle.std.specs.Prelude.{flat_map}
 use Rattle.std.specs.List.{enumerate_from}
 use Rattle.stream_spec.specs.Ready.{Chunk}
-use Rattle.file_spec.specs.declared.conf_lines.LegLine.{LegLine}
-use Rattle.file_spec.specs.Conf.{Conf}
+use Rattle.file_spec.specs.declared.conference_lines.LegLine.{LegLine}
+use Rattle.file_spec.specs.Conference.{Conference}
 use Rattle.mixer_spec.specs.Chunks.{octets}
 use Rattle.mixer_spec.specs.Table.{chunks_taken}
 use Rattle.link_spec.specs.Links.{Takes}
@@ -22,7 +22,7 @@ same_lines n (leg ∷ legs) a b same =
     ∙ ap (λ (more : List ℕ). board_line leg (octets (b n)) ++ more) (same_lines (n + 1) legs a b (λ j low. same j (omega (arith, low))))
 
 -- the lines of what the mixer took are those of a board
-pub board_law : (c : Conf) (takes : ℕ → Takes) (given : ℕ → List (List ℕ)) (end : End) (printed : List ℕ) (w : IsServed c takes given end printed) → IsBoardOf c takes w.table end (board_lines c (λ j. chunks_taken (w.table.taken j)))
+pub board_law : (c : Conference) (takes : ℕ → Takes) (given : ℕ → List (List ℕ)) (end : End) (printed : List ℕ) (w : IsServed c takes given end printed) → IsBoardOf c takes w.table end (board_lines c (λ j. chunks_taken (w.table.taken j)))
 board_law c takes given end printed w = record {
   taken = refl;
   whole = λ closed. same_lines 0 c.legs (λ j. chunks_taken (w.table.taken j)) (chunks_live c takes) (λ j low. (w.drained closed j (omega (arith, low))).taken);

@@ -2,9 +2,9 @@
 use Rattle.std.specs.Prelude.{◌≡◌, ◌<◌, ℕ, false, Some, Ok, List, [], ◌++◌, length, map, IsSome}
 use Rattle.wire_spec.specs.Packets.{Arrival}
 use Rattle.wire_spec.specs.Text.{text_of}
-use Rattle.file_spec.specs.declared.conf_lines.Form.TheVariants.{Links}
-use Rattle.file_spec.specs.declared.conf_lines.LegLine.{LegLine}
-use Rattle.file_spec.specs.Conf.{Conf, conf, port}
+use Rattle.file_spec.specs.declared.conference_lines.Form.TheVariants.{Links}
+use Rattle.file_spec.specs.declared.conference_lines.LegLine.{LegLine}
+use Rattle.file_spec.specs.Conference.{Conference, conference_from, port}
 use Rattle.stream_spec.specs.Lists.{In}
 use Rattle.stream_spec.specs.History.{Come, History, Lawful, Placed, placed}
 use Rattle.stream_spec.specs.Hearing.{heard}
@@ -28,28 +28,28 @@ use Rattle.serve_spec.specs.Served.{Closed, End, IsServed, came_live, chunks_liv
 
 -- What was given to the terminal j, where this is the leg j: the packets of the history that they tell, which is lawful and of the
 -- mixer's own making. At `Closed` each text was repeated as often as it is to be.
-pub record IsGiven (c : Conf) (table : Table) (end : End) (j : ℕ) (leg : LegLine) (given : List (List ℕ)) : Type 0 where
+pub record IsGiven (c : Conference) (table : Table) (end : End) (j : ℕ) (leg : LegLine) (given : List (List ℕ)) : Type 0 where
   pub lawful : Lawful (told_at (setup c) table j)
-  pub own : Own leg.gens (told_at (setup c) table j)
-  pub packets : map (λ octets. text_of octets (Some c.mixer.ssrc) leg.pts) given ≡ map (λ x. Ok (own_packet (told_at (setup c) table j) x)) (placed (told_at (setup c) table j))
-  pub closed : end ≡ Closed → histories.Closed leg.gens (told_at (setup c) table j)
+  pub own : Own leg.generations (told_at (setup c) table j)
+  pub packets : map (λ octets. text_of octets (Some c.mixer.ssrc) leg.payload_types) given ≡ map (λ x. Ok (own_packet (told_at (setup c) table j) x)) (placed (told_at (setup c) table j))
+  pub closed : end ≡ Closed → histories.Closed leg.generations (told_at (setup c) table j)
 
 -- nobody took over from the sender of the leg i
-abbrev pub HasOneSender : Conf → (ℕ → Takes) → ℕ → Type 0
+abbrev pub HasOneSender : Conference → (ℕ → Takes) → ℕ → Type 0
 HasOneSender c takes i = (told_live c takes i).before ≡ []
 
 -- what came of the leg i is of one sender, and of the lawful history h
-pub record IsFromLive (c : Conf) (takes : ℕ → Takes) (i : ℕ) (h : History) : Type 0 where
+pub record IsFromLive (c : Conference) (takes : ℕ → Takes) (i : ℕ) (h : History) : Type 0 where
   pub alone : HasOneSender c takes i
   pub lawful : Lawful h
   pub come : Come h (came_live c takes i)
 
 -- the hop from the leg i, of whom the history h was sent, but for keep-alives
-abbrev pub inward_live : Conf → (ℕ → Takes) → ℕ → History → Hop
+abbrev pub inward_live : Conference → (ℕ → Takes) → ℕ → History → Hop
 inward_live c takes i h = record { sent = still_history h; wait = c.wait; came = still (came_live c takes i); source = sender_live c takes i }
 
 -- Of the leg i the aware terminal j is given a front of what is heard of it, in order. At `Closed` it is given all of that.
-pub record IsToldLive (c : Conf) (takes : ℕ → Takes) (table : Table) (end : End) (j i : ℕ) : Type 0 where
+pub record IsToldLive (c : Conference) (takes : ℕ → Takes) (table : Table) (end : End) (j i : ℕ) : Type 0 where
   pub rest : List (List ℕ)
   pub front : CarriesFront (told_at (setup c) table j) ((setup c).ssrc i) (heard_live c takes i) rest
   pub whole : end ≡ Closed → Carries (told_at (setup c) table j) ((setup c).ssrc i) (heard_live c takes i)
@@ -64,7 +64,7 @@ pub record IsToldLive (c : Conf) (takes : ℕ → Takes) (table : Table) (end : 
 
 -- A terminal that is not aware is given one text, of the mixer: what the composer gives of what is heard of the other legs. What it
 -- gives of each is a front of that, in order. At `Closed` it is all of that.
-pub record IsToldAsOne (c : Conf) (takes : ℕ → Takes) (table : Table) (end : End) (j : ℕ) : Type 0 where
+pub record IsToldAsOne (c : Conference) (takes : ℕ → Takes) (table : Table) (end : End) (j : ℕ) : Type 0 where
   pub source : (x : Placed) → In x (placed (told_at (setup c) table j)) → x.source ≡ c.mixer.ssrc
   pub one_hop : (wait : ℕ) (came : List Arrival) → Come (told_at (setup c) table j) came → OneHop (hop_to (told_at (setup c) table j) c.mixer.ssrc wait came)
   pub composed : IsComposed (setup c) (chunks_live c takes) j (table.terminals j).asks
@@ -82,7 +82,7 @@ pub record IsToldAsOne (c : Conf) (takes : ℕ → Takes) (table : Table) (end :
   pub whole : end ≡ Closed → (i : ℕ) → i < length c.legs → IsAnother i j → texts_of (chunks_given i (table.terminals j).asks) ≡ heard_live c takes i
 
 -- A live call: what its links gave was mixed in time, and is told to each terminal so. What is printed is seen of what was given.
-pub record HeadLive (c : Conf) (takes : ℕ → Takes) (given : ℕ → List (List ℕ)) (end : End) (printed : List ℕ) : Type 0 where
+pub record HeadLive (c : Conference) (takes : ℕ → Takes) (given : ℕ → List (List ℕ)) (end : End) (printed : List ℕ) : Type 0 where
   pub served : IsServed c takes given end printed
   pub sent : (j : ℕ) (leg : LegLine) → leg_at c.legs j ≡ Some leg → IsGiven c served.table end j leg (given j)
   pub told : (j i : ℕ) → IsPair (setup c) j i → IsToldLive c takes served.table end j i
@@ -91,8 +91,8 @@ pub record HeadLive (c : Conf) (takes : ℕ → Takes) (given : ℕ → List (Li
 -- Whatever a conference file of links says, and whatever these links give.
 abbrev pub ServedIsHeadLive : Type 0
 ServedIsHeadLive =
-    (octets : List ℕ) (c : Conf) (takes : ℕ → Takes) (given : ℕ → List (List ℕ)) (end : End) (printed : List ℕ)
-    → conf Links octets ≡ Ok c
+    (octets : List ℕ) (c : Conference) (takes : ℕ → Takes) (given : ℕ → List (List ℕ)) (end : End) (printed : List ℕ)
+    → conference_from Links octets ≡ Ok c
     → IsServed c takes given end printed
     → HeadLive c takes given end printed
 
@@ -100,28 +100,28 @@ ServedIsHeadLive =
 -- Where nobody took over, a leg is heard as one stream, that of its sender.
 abbrev pub OneSenderIsHeard : Type 0
 OneSenderIsHeard =
-    (c : Conf) (takes : ℕ → Takes) (i : ℕ)
+    (c : Conference) (takes : ℕ → Takes) (i : ℕ)
     → HasOneSender c takes i
     → heard_live c takes i ≡ heard c.wait (still (came_live c takes i)) (sender_live c takes i)
 
 -- From the sender of a leg that is not followed nobody takes over, and that is the SSRC of the conference.
 abbrev pub UnfollowedHasOneSender : Type 0
 UnfollowedHasOneSender =
-    (c : Conf) (takes : ℕ → Takes) (i : ℕ)
+    (c : Conference) (takes : ℕ → Takes) (i : ℕ)
     → is_followed (leg_at c.legs i) ≡ false
     → HasOneSender c takes i × (sender_live c takes i ≡ (setup c).ssrc i)
 
 -- ---- links
 -- the input of each leg is a port, and no two legs have one
-pub record HavePorts (c : Conf) : Type 0 where
+pub record HavePorts (c : Conference) : Type 0 where
   pub each : (j : ℕ) (leg : LegLine) → leg_at c.legs j ≡ Some leg → IsSome (port leg.input)
   pub differ : (j k : ℕ) (a b : LegLine) (p : ℕ) → leg_at c.legs j ≡ Some a → leg_at c.legs k ≡ Some b
       → port a.input ≡ Some p → port b.input ≡ Some p → j ≡ k
 
 -- In a conference of links each leg has a port of its own.
 abbrev pub LinksApart : Type 0
-LinksApart = (octets : List ℕ) (c : Conf) → conf Links octets ≡ Ok c → HavePorts c
+LinksApart = (octets : List ℕ) (c : Conference) → conference_from Links octets ≡ Ok c → HavePorts c
 
 -- In a conference of links no leg comes later or goes, and each has a place.
 abbrev pub LinksStay : Type 0
-LinksStay = (octets : List ℕ) (c : Conf) → conf Links octets ≡ Ok c → AllStay (setup c)
+LinksStay = (octets : List ℕ) (c : Conference) → conference_from Links octets ≡ Ok c → AllStay (setup c)

@@ -1,7 +1,7 @@
 -- What a live call tells of a leg, sender by sender (profile).
 use Rattle.std.specs.Prelude.{◌≡◌, ℕ, List, [], ◌∷◌, ◌++◌, length}
 use Rattle.wire_spec.specs.Packets.{Arrival}
-use Rattle.file_spec.specs.Conf.{Conf}
+use Rattle.file_spec.specs.Conference.{Conference}
 use Rattle.stream_spec.specs.History.{Come, History}
 use Rattle.stream_spec.specs.Kept.{Item, texts}
 use Rattle.stream_spec.specs.Still.{still, still_history}
@@ -26,7 +26,7 @@ hops_before wait of [] = []
 hops_before wait of (f ∷ before) = hops_before wait of before ++ sender_hop wait (of (length before)) f.ssrc f.past ∷ []
 
 -- that of who is the sender now
-abbrev pub last_hop : Conf → (ℕ → Takes) → ℕ → (ℕ → History) → Hop
+abbrev pub last_hop : Conference → (ℕ → Takes) → ℕ → (ℕ → History) → Hop
 last_hop c takes i of = sender_hop c.wait (of (length (told_live c takes i).before)) (sender_live c takes i) (told_live c takes i).past
 
 -- what came of each is of its lawful history
@@ -37,7 +37,7 @@ pub record ComeInTurn (d : Told) (of : ℕ → History) : Type 0 where
 -- At each aware terminal j, of each other leg i, whatever comes there of what it is given.
 abbrev pub CallsTellInTurn : Type 0
 CallsTellInTurn =
-    (c : Conf) (takes : ℕ → Takes) (given : ℕ → List (List ℕ)) (end : End) (printed : List ℕ) (live : HeadLive c takes given end printed)
+    (c : Conference) (takes : ℕ → Takes) (given : ℕ → List (List ℕ)) (end : End) (printed : List ℕ) (live : HeadLive c takes given end printed)
     → (j i : ℕ) (pair : IsPair (setup c) j i)
     → (of : ℕ → History) → ComeInTurn (told_live c takes i) of
     → (wait : ℕ) (came : List Arrival) → Come (told_at (setup c) live.served.table j) came

@@ -4,7 +4,7 @@ use Rattle.std.specs.Prelude.{codes, map, take, drop}
 use Rattle.std.specs.Fmt.{digits}
 use Rattle.std.specs.Str.{is_utf8, chars}
 use Rattle.std.specs.Char.{encode_utf8}
-use Rattle.rtt_base.specs.declared.text_packets.Pts.{Pts}
+use Rattle.rtt_base.specs.declared.text_packets.PayloadTypes.{PayloadTypes}
 use Rattle.wire_spec.specs.SentPackets.{packet_written}
 use Rattle.wire_spec.specs.Rtp.{rtp, rtp_of_header}
 use Rattle.wire_spec.specs.Red.{headers_at, texts_at, red}
@@ -23,11 +23,11 @@ use Rattle.times_spec.specs.Times.{start_of, began_line, day_text, time_text}
 use Rattle.show_spec.specs.Showing.{show_view, stream_view, stream_title, pair_view, items_view}
 
 -- ---- recordings
-abbrev types : Pts
+abbrev types : PayloadTypes
 types = record { t140 = 98; red = 100 }
 
 abbrev typist : Stream
-typist = record { ssrc = 1001; first = 0; base = 0; gens = 2 }
+typist = record { ssrc = 1001; first = 0; base = 0; generations = 2 }
 
 abbrev typed : List Sent
 typed =
@@ -54,7 +54,7 @@ with_others = take 74 two_letters ++ rtcp_record ++ of_sound ++ drop 74 two_lett
 
 -- a packet of SSRC 1001 whose text is one letter, with this sequence number and this timestamp
 abbrev letter : ℕ → ℕ → ℕ → List ℕ
-letter seq stamp octet = 0x80 ∷ 98 ∷ 0 ∷ seq ∷ 0 ∷ 0 ∷ 0 ∷ stamp ∷ 0 ∷ 0 ∷ 3 ∷ 0xE9 ∷ octet ∷ []
+letter seq timestamp octet = 0x80 ∷ 98 ∷ 0 ∷ seq ∷ 0 ∷ 0 ∷ 0 ∷ timestamp ∷ 0 ∷ 0 ∷ 3 ∷ 0xE9 ∷ octet ∷ []
 
 abbrev with_gaps : List ℕ
 with_gaps = dump_written ((0, letter 10 0 0x61) ∷ (100, letter 13 100 0x64) ∷ (1500, letter 12 90 0x63) ∷ [])

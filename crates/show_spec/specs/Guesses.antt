@@ -1,6 +1,6 @@
 -- What the packets of another payload type may be (profile).
 use Rattle.std.specs.Prelude.{ℕ, ◌*◌, ◌&&◌, Bool, true, false, List, [], ◌++◌, length, filter, Result, Ok, Err, nat_le, codes, decimal, if◌then◌else◌}
-use Rattle.rtt_base.specs.declared.text_packets.Pts.{Pts}
+use Rattle.rtt_base.specs.declared.text_packets.PayloadTypes.{PayloadTypes}
 use Rattle.wire_spec.specs.declared.faults.TextFault.{TextFault}
 use Rattle.wire_spec.specs.Packets.{Packet, has_text}
 use Rattle.wire_spec.specs.Dump.{Item}
@@ -18,15 +18,15 @@ is_ok (Ok packet) = true
 is_ok (Err fault) = false
 
 -- it has a payload, and is a packet of text
-abbrev pub is_accepted : ℕ → Pts → Item → Bool
-is_accepted ssrc pts item = has_payload item && is_ok (text_at ssrc pts item)
+abbrev pub is_accepted : ℕ → PayloadTypes → Item → Bool
+is_accepted ssrc payload_types item = has_payload item && is_ok (text_at ssrc payload_types item)
 
-abbrev pub accepted : ℕ → Pts → List Item → List Item
-accepted ssrc pts came = filter (is_accepted ssrc pts) came
+abbrev pub accepted : ℕ → PayloadTypes → List Item → List Item
+accepted ssrc payload_types came = filter (is_accepted ssrc payload_types) came
 
 -- of those that have a payload at least half are packets of text
-abbrev pub are_mostly_text : ℕ → Pts → List Item → Bool
-are_mostly_text ssrc pts came = nat_le (length (filled came)) (2 * length (accepted ssrc pts came))
+abbrev pub are_mostly_text : ℕ → PayloadTypes → List Item → Bool
+are_mostly_text ssrc payload_types came = nat_le (length (filled came)) (2 * length (accepted ssrc payload_types came))
 
 -- plain texts; the type of red is one that none of them has
 abbrev pub may_be_plain : ℕ → ℕ → List Item → Bool

@@ -1,7 +1,7 @@
 -- What `show` prints of a recording: what was typed in each stream of text, what else is there, where the recording can't
 -- be read further, and when it began (profile). Each line ends with LF.
 use Rattle.std.specs.Prelude.{ℕ, ◌==◌, Option, None, Some, List, [], ◌++◌, length, flat_map, codes, decimal, if◌then◌else◌}
-use Rattle.rtt_base.specs.declared.text_packets.Pts.{Pts}
+use Rattle.rtt_base.specs.declared.text_packets.PayloadTypes.{PayloadTypes}
 use Rattle.wire_spec.specs.Dump.{Item, Recording, dump, usual_limit}
 use Rattle.stream_spec.specs.Numbering.{Numbered, numbered}
 use Rattle.view_spec.specs.Seen.{arrivals_at}
@@ -20,22 +20,22 @@ abbrev pub counted : List ℕ → ℕ → List ℕ
 counted words number = if number == 0 then [] else words ++ decimal number
 
 -- the packets of the stream with their numbers, newest first
-abbrev pub numbers_of : Pts → ℕ → List Item → List Numbered
-numbers_of pts ssrc came = numbered (arrivals_at (hearing pts ssrc) came)
+abbrev pub numbers_of : PayloadTypes → ℕ → List Item → List Numbered
+numbers_of payload_types ssrc came = numbered (arrivals_at (hearing payload_types ssrc) came)
 
 abbrev pub title_of : ℕ → ℕ → ℕ → ℕ → ℕ → List ℕ
 title_of ssrc from to lost late =
     printed_line (codes "== " ++ decimal ssrc ++ codes " from " ++ decimal from ++ codes " to " ++ decimal to
     ++ counted (codes " lost ") lost ++ counted (codes " late ") late)
 
-unfoldable pub stream_title : Pts → ℕ → List Item → List ℕ
-stream_title pts ssrc came =
-    title_of ssrc (least_time came) (greatest_time came) (lost_count (numbers_of pts ssrc came))
-    (late_count usual_wait (numbers_of pts ssrc came))
+unfoldable pub stream_title : PayloadTypes → ℕ → List Item → List ℕ
+stream_title payload_types ssrc came =
+    title_of ssrc (least_time came) (greatest_time came) (lost_count (numbers_of payload_types ssrc came))
+    (late_count usual_wait (numbers_of payload_types ssrc came))
 
 -- what is seen of the stream whose packets these are
-unfoldable pub stream_view : Pts → ℕ → List Item → List ℕ
-stream_view pts ssrc came = stream_title pts ssrc came ++ hearing_view (hearing pts ssrc) (sources ssrc pts came) came
+unfoldable pub stream_view : PayloadTypes → ℕ → List Item → List ℕ
+stream_view payload_types ssrc came = stream_title payload_types ssrc came ++ hearing_view (hearing payload_types ssrc) (sources ssrc payload_types came) came
 
 -- ---- the packets of another payload type
 
@@ -46,19 +46,19 @@ pair_view pair came =
 
 -- ---- all
 
-unfoldable pub items_view : Pts → List Item → List ℕ
-items_view pts items =
-    flat_map (λ ssrc. stream_view pts ssrc (stream pts ssrc items)) (streams pts items).kept
-    ++ flat_map (λ pair. pair_view pair (packets_of pts pair items)) (pairs pts items).kept
-    ++ other_lines pts items
+unfoldable pub items_view : PayloadTypes → List Item → List ℕ
+items_view payload_types items =
+    flat_map (λ ssrc. stream_view payload_types ssrc (stream payload_types ssrc items)) (streams payload_types items).kept
+    ++ flat_map (λ pair. pair_view pair (packets_of payload_types pair items)) (pairs payload_types items).kept
+    ++ other_lines payload_types items
 
 -- when it began, where it has a start, and that is not 0
 abbrev pub start_line : Option ℕ → List ℕ
 start_line None = []
 start_line (Some start) = if start == 0 then [] else began_line start
 
-abbrev pub recording_view : Pts → Option ℕ → Recording → List ℕ
-recording_view pts start r = items_view pts r.items ++ end_line r.fault ++ start_line start
+abbrev pub recording_view : PayloadTypes → Option ℕ → Recording → List ℕ
+recording_view payload_types start r = items_view payload_types r.items ++ end_line r.fault ++ start_line start
 
-unfoldable pub show_view : Pts → List ℕ → List ℕ
-show_view pts octets = recording_view pts (start_of octets) (dump usual_limit octets)
+unfoldable pub show_view : PayloadTypes → List ℕ → List ℕ
+show_view payload_types octets = recording_view payload_types (start_of octets) (dump usual_limit octets)

@@ -10,7 +10,7 @@ use Rattle.mixer_spec.specs.Laws.{AllGiven}
 use Rattle.slot_table.specs.declared.parts.Part.{Part}
 use Rattle.slot_table.specs.Rings.{pushed}
 use Rattle.slot_table.specs.Lanes.{Waiting}
-use Rattle.slot_table.specs.Standing.{kept_of, IsPart, Holds}
+use Rattle.slot_table.specs.Standing.{kept_of, IsPart, SlotHolds}
 use Rattle.slot_table.proofs.Sizes.{same_chunks, joined_taken, taken_append}
 
 given_last : (b : Bool) (j : ℕ) (xs : List Taken) (x : Taken) → AllGiven b j xs → x.given j ≡ b → AllGiven b j (xs ++ x ∷ [])
@@ -47,8 +47,8 @@ part_added j false ws kept p x h g = record {
   goes_on = λ e. absurd (true≢false (sym e));
 }
 
-pub added : (w : Waiting) (taken : List Taken) (listens : ℕ → Bool) (waits : ℕ → List Chunk) → Holds w taken listens waits → (c : Chunk) (text : List ℕ) → c.text ≡ text
-    → Holds (record { chunks = pushed text w.chunks; parts = w.parts }) (taken ++ record { chunk = c; given = listens } ∷ []) listens (λ j. if listens j then waits j ++ c ∷ [] else waits j)
+pub added : (w : Waiting) (taken : List Taken) (listens : ℕ → Bool) (waits : ℕ → List Chunk) → SlotHolds w taken listens waits → (c : Chunk) (text : List ℕ) → c.text ≡ text
+    → SlotHolds (record { chunks = pushed text w.chunks; parts = w.parts }) (taken ++ record { chunk = c; given = listens } ∷ []) listens (λ j. if listens j then waits j ++ c ∷ [] else waits j)
 added w taken listens waits h c text e =
     let x : Taken = record { chunk = c; given = listens } in
     record {

@@ -7,13 +7,13 @@ use Rattle.mixer_spec.specs.Rounds.{set_at}
 use Rattle.mixer_spec.proofs.Lists.{set_same, set_other, get_set_other}
 use Rattle.mixer_spec.specs.Chunks.{joined, octets, has_chunk}
 use Rattle.mixer_spec.specs.Table.{Taken, chunks_taken}
-use Rattle.slot_table.specs.declared.rings.Place.{Place}
+use Rattle.slot_table.specs.declared.rings.RingPosition.{RingPosition}
 use Rattle.slot_table.specs.declared.parts.Part.{Part}
-use Rattle.slot_table.specs.declared.lanes.Lane.TheInside.{Inside}
+use Rattle.slot_table.specs.declared.lanes.SourceQueue.TheInside.{Inside}
 use Rattle.slot_table.specs.Rings.{Chunks, IsPlace, end_of}
 use Rattle.slot_table.specs.Lanes.{Waiting, part_end, part_heard}
 use Rattle.slot_table.specs.LaneInsides.{IsLane, waiting_in}
-use Rattle.slot_table.specs.Standing.{kept_of, place_of, IsPart, Holds}
+use Rattle.slot_table.specs.Standing.{kept_of, place_of, IsPart, SlotHolds}
 use Rattle.slot_table.proofs.Lists.{get_set_same, get_read}
 use Rattle.slot_table.proofs.Sizes.{joined_size, end_is, is_place, octets_taken, has_chunk_is}
 
@@ -27,8 +27,8 @@ pub part_end_is : (j : ℕ) (l : Bool) (ws : List Chunk) (kept : List Taken) (p 
 part_end_is j true ws kept p h =
     let none : h.behind ≡ [] = h.goes_on refl in
     let all : kept ≡ h.before ++ h.part = h.whole ∙ ap (λ (ys : List Taken). h.before ++ ys) (ap (λ (ys : List Taken). h.part ++ ys) none ∙ append-nil h.part) in
-    ap (λ (o : Option Place). unwrap_or o (end_of (kept_of kept))) h.to ∙ (end_is kept ∙ ap place_of all)
-part_end_is j false ws kept p h = ap (λ (o : Option Place). unwrap_or o (end_of (kept_of kept))) h.to
+    ap (λ (o : Option RingPosition). unwrap_or o (end_of (kept_of kept))) h.to ∙ (end_is kept ∙ ap place_of all)
+part_end_is j false ws kept p h = ap (λ (o : Option RingPosition). unwrap_or o (end_of (kept_of kept))) h.to
 
 -- the facts on places that the code rests on
 pub record Bounds (chunks : Chunks) (p : Part) : Type 0 where
@@ -38,7 +38,7 @@ pub record Bounds (chunks : Chunks) (p : Part) : Type 0 where
   pub octets_in_order : p.from.octets ≤ (part_end (end_of chunks) p).octets
   pub within : (part_end (end_of chunks) p).octets ≤ length chunks.octets
 
-pub bounds : (w : Waiting) (taken : List Taken) (listens : ℕ → Bool) (waits : ℕ → List Chunk) → Holds w taken listens waits → (j : ℕ) (p : Part) → slice_get w.parts j ≡ Some p → Bounds w.chunks p
+pub bounds : (w : Waiting) (taken : List Taken) (listens : ℕ → Bool) (waits : ℕ → List Chunk) → SlotHolds w taken listens waits → (j : ℕ) (p : Part) → slice_get w.parts j ≡ Some p → Bounds w.chunks p
 bounds w taken listens waits h j p g =
     let q = h.parts j p g in
     let k = kept_of h.kept in
@@ -47,38 +47,38 @@ bounds w taken listens waits h j p g =
     let size : length (joined (chunks_taken h.kept)) ≡ octets (chunks_taken (q.before ++ q.part)) + octets (chunks_taken q.behind) =
     joined_size (chunks_taken h.kept) ∙ (ap (λ (xs : List Taken). octets (chunks_taken xs)) (sym whole) ∙ octets_taken (q.before ++ q.part) q.behind) in
     subst (λ (c : Chunks). Bounds c p) (sym h.chunks) (record {
-      from = subst (λ (xs : List Taken). IsPlace (kept_of xs) p.from) (sym q.whole) (subst (λ (x : Place). IsPlace (kept_of (q.before ++ (q.part ++ q.behind))) x) (sym q.from) (is_place q.before (q.part ++ q.behind)));
-      end = subst (λ (x : Place). IsPlace k x) (sym e) (subst (λ (xs : List Taken). IsPlace (kept_of xs) (place_of (q.before ++ q.part))) whole (is_place (q.before ++ q.part) q.behind));
-      in_order = omega (arith, ap (λ (x : Place). x.chunks) q.from, ap (λ (x : Place). x.chunks) e, length-append q.before q.part);
-      octets_in_order = omega (arith, ap (λ (x : Place). x.octets) q.from, ap (λ (x : Place). x.octets) e, octets_taken q.before q.part);
-      within = omega (arith, ap (λ (x : Place). x.octets) e, size);
+      from = subst (λ (xs : List Taken). IsPlace (kept_of xs) p.from) (sym q.whole) (subst (λ (x : RingPosition). IsPlace (kept_of (q.before ++ (q.part ++ q.behind))) x) (sym q.from) (is_place q.before (q.part ++ q.behind)));
+      end = subst (λ (x : RingPosition). IsPlace k x) (sym e) (subst (λ (xs : List Taken). IsPlace (kept_of xs) (place_of (q.before ++ q.part))) whole (is_place (q.before ++ q.part) q.behind));
+      in_order = omega (arith, ap (λ (x : RingPosition). x.chunks) q.from, ap (λ (x : RingPosition). x.chunks) e, length-append q.before q.part);
+      octets_in_order = omega (arith, ap (λ (x : RingPosition). x.octets) q.from, ap (λ (x : RingPosition). x.octets) e, octets_taken q.before q.part);
+      within = omega (arith, ap (λ (x : RingPosition). x.octets) e, size);
     })
 
 -- ---- what waits
-end_place : (w : Waiting) (taken : List Taken) (listens : ℕ → Bool) (waits : ℕ → List Chunk) (h : Holds w taken listens waits) (j : ℕ) (p : Part) (g : slice_get w.parts j ≡ Some p)
+end_place : (w : Waiting) (taken : List Taken) (listens : ℕ → Bool) (waits : ℕ → List Chunk) (h : SlotHolds w taken listens waits) (j : ℕ) (p : Part) (g : slice_get w.parts j ≡ Some p)
     → part_end (end_of w.chunks) p ≡ place_of ((h.parts j p g).before ++ (h.parts j p g).part)
 end_place w taken listens waits h j p g =
     ap (λ (c : Chunks). part_end (end_of c) p) h.chunks ∙ part_end_is j (listens j) (waits j) h.kept p (h.parts j p g)
 
-pub waiting_is : (w : Waiting) (taken : List Taken) (listens : ℕ → Bool) (waits : ℕ → List Chunk) → Holds w taken listens waits → (j : ℕ) (p : Part) → slice_get w.parts j ≡ Some p
+pub waiting_is : (w : Waiting) (taken : List Taken) (listens : ℕ → Bool) (waits : ℕ → List Chunk) → SlotHolds w taken listens waits → (j : ℕ) (p : Part) → slice_get w.parts j ≡ Some p
     → (part_end (end_of w.chunks) p).octets - p.from.octets ≡ octets (waits j)
 waiting_is w taken listens waits h j p g =
     let q = h.parts j p g in
-    omega (arith, ap (λ (x : Place). x.octets) (end_place w taken listens waits h j p g), ap (λ (x : Place). x.octets) q.from, octets_taken q.before q.part, ap octets q.waits)
+    omega (arith, ap (λ (x : RingPosition). x.octets) (end_place w taken listens waits h j p g), ap (λ (x : RingPosition). x.octets) q.from, octets_taken q.before q.part, ap octets q.waits)
 
-pub has_waiting_is : (w : Waiting) (taken : List Taken) (listens : ℕ → Bool) (waits : ℕ → List Chunk) → Holds w taken listens waits → (j : ℕ) (p : Part) → slice_get w.parts j ≡ Some p
+pub has_waiting_is : (w : Waiting) (taken : List Taken) (listens : ℕ → Bool) (waits : ℕ → List Chunk) → SlotHolds w taken listens waits → (j : ℕ) (p : Part) → slice_get w.parts j ≡ Some p
     → nat_lt p.from.chunks (part_end (end_of w.chunks) p).chunks ≡ has_chunk (waits j)
 has_waiting_is w taken listens waits h j p g =
     let q = h.parts j p g in
-    ap (λ (x : Place). nat_lt p.from.chunks x.chunks) (end_place w taken listens waits h j p g)
-    ∙ (ap (λ (x : Place). nat_lt x.chunks (length (q.before ++ q.part))) q.from
+    ap (λ (x : RingPosition). nat_lt p.from.chunks x.chunks) (end_place w taken listens waits h j p g)
+    ∙ (ap (λ (x : RingPosition). nat_lt x.chunks (length (q.before ++ q.part))) q.from
     ∙ (ap (λ (n : ℕ). nat_lt (length q.before) n) (length-append q.before q.part)
     ∙ (has_chunk_is q.part (length q.before) ∙ ap has_chunk q.waits)))
 
 -- ---- one part changes
-pub holds_set : (w : Waiting) (taken : List Taken) (listens ms : ℕ → Bool) (waits vs : ℕ → List Chunk) (h : Holds w taken listens waits) (j : ℕ) (q : Part)
+pub holds_set : (w : Waiting) (taken : List Taken) (listens ms : ℕ → Bool) (waits vs : ℕ → List Chunk) (h : SlotHolds w taken listens waits) (j : ℕ) (q : Part)
     → IsPart j (ms j) (vs j) h.kept q → ((k : ℕ) → (k ≡ j → ⊥) → (ms k ≡ listens k) × (vs k ≡ waits k))
-    → Holds (record { chunks = w.chunks; parts = set w.parts j q }) taken ms vs
+    → SlotHolds (record { chunks = w.chunks; parts = set w.parts j q }) taken ms vs
 holds_set w taken listens ms waits vs h j q new same = record {
   gone = h.gone;
   kept = h.kept;
@@ -118,8 +118,8 @@ part_listens j l ws kept p h false = record {
   goes_on = λ e. absurd (true≢false (sym e));
 }
 
-pub listened : (w : Waiting) (taken : List Taken) (listens : ℕ → Bool) (waits : ℕ → List Chunk) → Holds w taken listens waits → (j : ℕ) (p : Part) → slice_get w.parts j ≡ Some p → (on : Bool)
-    → Holds (record { chunks = w.chunks; parts = set w.parts j (part_heard on (end_of w.chunks) p) }) taken (set_at listens j on) (if on then set_at waits j [] else waits)
+pub listened : (w : Waiting) (taken : List Taken) (listens : ℕ → Bool) (waits : ℕ → List Chunk) → SlotHolds w taken listens waits → (j : ℕ) (p : Part) → slice_get w.parts j ≡ Some p → (on : Bool)
+    → SlotHolds (record { chunks = w.chunks; parts = set w.parts j (part_heard on (end_of w.chunks) p) }) taken (set_at listens j on) (if on then set_at waits j [] else waits)
 listened w taken listens waits h j p g on =
     holds_set w taken listens (set_at listens j on) waits (if on then set_at waits j [] else waits) h j (part_heard on (end_of w.chunks) p)
     (part_same j on (set_at listens j on j) (if on then [] else waits j) ((if on then set_at waits j [] else waits) j) h.kept (part_heard on (end_of w.chunks) p)
@@ -144,5 +144,5 @@ pub bounds_in : (i : Inside) (now : Waiting) (j : ℕ) (p : Part) → IsLane i �
 bounds_in i now j p k same l is = bounds (waiting_in i) k.taken k.listens k.waits k.holds j p (part_at (waiting_in i) now j p same l is)
 
 -- where it ends, by the end of all
-pub end_read : (all whole end : Place) (p : Part) → end ≡ part_end all p → all ≡ whole → end ≡ part_end whole p
-end_read all whole end p e same = e ∙ ap (λ (x : Place). part_end x p) same
+pub end_read : (all whole end : RingPosition) (p : Part) → end ≡ part_end all p → all ≡ whole → end ≡ part_end whole p
+end_read all whole end p e same = e ∙ ap (λ (x : RingPosition). part_end x p) same

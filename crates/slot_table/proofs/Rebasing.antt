@@ -7,11 +7,11 @@ use Rattle.stream_spec.specs.Ready.{Chunk}
 use Rattle.mixer_spec.specs.Chunks.{joined, octets}
 use Rattle.mixer_spec.specs.Table.{Taken, chunks_taken}
 use Rattle.mixer_spec.specs.Laws.{AllGiven}
-use Rattle.slot_table.specs.declared.rings.Place.{Place}
+use Rattle.slot_table.specs.declared.rings.RingPosition.{RingPosition}
 use Rattle.slot_table.specs.declared.parts.Part.{Part}
 use Rattle.slot_table.specs.Rings.{Chunks, IsPlace, end_of, given_up, pushed}
 use Rattle.slot_table.specs.Lanes.{Waiting, IsOldest, part_end, place_after, end_after, part_after, without}
-use Rattle.slot_table.specs.Standing.{kept_of, place_of, IsPart, Holds}
+use Rattle.slot_table.specs.Standing.{kept_of, place_of, IsPart, SlotHolds}
 use Rattle.slot_table.proofs.Lists.{drop-append, take-append, get_map}
 use Rattle.slot_table.proofs.Sizes.{lengths_of, same_place, same_chunks, octets_taken, joined_taken, joined_size, end_is, is_place}
 use Rattle.slot_table.proofs.Holding.{part_end_is}
@@ -72,9 +72,9 @@ part_rebased j l ws kept p h n early =
       waits = h.waits;
       all_given = h.all_given;
       none_behind = given_drop false j m h.behind h.none_behind;
-      from = ap (λ (x : Place). place_after (place_of (take n kept)) x) h.from
+      from = ap (λ (x : RingPosition). place_after (place_of (take n kept)) x) h.from
           ∙ (ap (λ (xs : List Taken). place_after (place_of (take n xs)) (place_of h.before)) h.whole ∙ place_drop n h.before (h.part ++ h.behind));
-      to = ap (λ (o : Option Place). end_after (place_of (take n kept)) o) h.to ∙ ends l (place_of (take n kept)) (place_of (h.before ++ h.part)) (place_of (drop n h.before ++ h.part)) (ap (λ (xs : List Taken). place_after (place_of (take n xs)) (place_of (h.before ++ h.part))) whole_end ∙ (place_drop n (h.before ++ h.part) h.behind ∙ ap place_of until));
+      to = ap (λ (o : Option RingPosition). end_after (place_of (take n kept)) o) h.to ∙ ends l (place_of (take n kept)) (place_of (h.before ++ h.part)) (place_of (drop n h.before ++ h.part)) (ap (λ (xs : List Taken). place_after (place_of (take n xs)) (place_of (h.before ++ h.part))) whole_end ∙ (place_drop n (h.before ++ h.part) h.behind ∙ ap place_of until));
       goes_on = λ t. ap (λ (xs : List Taken). drop m xs) (h.goes_on t) ∙ none m;
     }
   where
@@ -82,49 +82,49 @@ part_rebased j l ws kept p h n early =
     none zero = refl
     none (suc m) = refl
 
-    ends : (b : Bool) (front x y : Place) → place_after front x ≡ y → end_after front (if b then None else Some x) ≡ (if b then None else Some y)
+    ends : (b : Bool) (front x y : RingPosition) → place_after front x ≡ y → end_after front (if b then None else Some x) ≡ (if b then None else Some y)
     ends true front x y e = refl
     ends false front x y e = ap Some e
 
 -- ---- the oldest
 -- the place is the one behind the first so many
-pub record IsCut (kept : List Taken) (p : Place) : Type 0 where
+pub record IsCut (kept : List Taken) (p : RingPosition) : Type 0 where
   pub within : p.chunks ≤ length kept
   pub place : p ≡ place_of (take p.chunks kept)
 
-cut_at : (xs ys : List Taken) (p : Place) → p ≡ place_of xs → IsCut (xs ++ ys) p
+cut_at : (xs ys : List Taken) (p : RingPosition) → p ≡ place_of xs → IsCut (xs ++ ys) p
 cut_at xs ys p e =
-    let n : p.chunks ≡ length xs = ap (λ (x : Place). x.chunks) e in
+    let n : p.chunks ≡ length xs = ap (λ (x : RingPosition). x.chunks) e in
     record {
       within = omega (arith, n, length-append xs ys);
       place = e ∙ ap place_of (sym (ap (λ (k : ℕ). take k (xs ++ ys)) n ∙ take-append_seam xs ys));
     }
 
-pub oldest_cuts : (w : Waiting) (taken : List Taken) (listens : ℕ → Bool) (waits : ℕ → List Chunk) (h : Holds w taken listens waits) (p : Place) → IsOldest (end_of w.chunks) w.parts p → IsCut h.kept p
+pub oldest_cuts : (w : Waiting) (taken : List Taken) (listens : ℕ → Bool) (waits : ℕ → List Chunk) (h : SlotHolds w taken listens waits) (p : RingPosition) → IsOldest (end_of w.chunks) w.parts p → IsCut h.kept p
 oldest_cuts w taken listens waits h p o = elim o.first [
   | inl e ↦ subst (λ (xs : List Taken). IsCut xs p) (append-nil h.kept) (cut_at h.kept [] p (e ∙ (ap end_of h.chunks ∙ end_is h.kept)))
   | inr r ↦ let q = h.parts r.0 r.1 r.2 in subst (λ (xs : List Taken). IsCut xs p) (sym q.whole) (cut_at q.before (q.part ++ q.behind) p (r.4 ∙ q.from))
 ]
 
 -- all that waits stands behind it
-pub early : (w : Waiting) (taken : List Taken) (listens : ℕ → Bool) (waits : ℕ → List Chunk) (h : Holds w taken listens waits) (p : Place) → IsOldest (end_of w.chunks) w.parts p → (j : ℕ) (r : Part) (g : slice_get w.parts j ≡ Some r)
+pub early : (w : Waiting) (taken : List Taken) (listens : ℕ → Bool) (waits : ℕ → List Chunk) (h : SlotHolds w taken listens waits) (p : RingPosition) → IsOldest (end_of w.chunks) w.parts p → (j : ℕ) (r : Part) (g : slice_get w.parts j ≡ Some r)
     → ((h.parts j r g).part ≡ []) ⊎ (p.chunks ≤ length (h.parts j r g).before)
 early w taken listens waits h p o j r g =
     let q = h.parts j r g in
-    let from : r.from.chunks ≡ length q.before = ap (λ (x : Place). x.chunks) q.from in
-    let end : (part_end (end_of w.chunks) r).chunks ≡ length (q.before ++ q.part) = ap (λ (c : Chunks). (part_end (end_of c) r).chunks) h.chunks ∙ ap (λ (x : Place). x.chunks) (part_end_is j (listens j) (waits j) h.kept r q) in
+    let from : r.from.chunks ≡ length q.before = ap (λ (x : RingPosition). x.chunks) q.from in
+    let end : (part_end (end_of w.chunks) r).chunks ≡ length (q.before ++ q.part) = ap (λ (c : Chunks). (part_end (end_of c) r).chunks) h.chunks ∙ ap (λ (x : RingPosition). x.chunks) (part_end_is j (listens j) (waits j) h.kept r q) in
     go q.part (λ l. let least = o.least j r g (omega (arith, from, end, l, length-append q.before q.part)) in omega (arith, least, from))
   where
     go : {P : Type 0} (part : List Taken) → (0 < length part → P) → (part ≡ []) ⊎ P
     go [] f = inl refl
     go (x ∷ xs) f = inr (f (omega arith))
 
-pub oldest_place : (w : Waiting) (taken : List Taken) (listens : ℕ → Bool) (waits : ℕ → List Chunk) → Holds w taken listens waits → (p : Place) → IsOldest (end_of w.chunks) w.parts p → IsPlace w.chunks p
+pub oldest_place : (w : Waiting) (taken : List Taken) (listens : ℕ → Bool) (waits : ℕ → List Chunk) → SlotHolds w taken listens waits → (p : RingPosition) → IsOldest (end_of w.chunks) w.parts p → IsPlace w.chunks p
 oldest_place w taken listens waits h p o =
     let c = oldest_cuts w taken listens waits h p o in
     subst (λ (x : Chunks). IsPlace x p) (sym h.chunks)
     (subst (λ (xs : List Taken). IsPlace (kept_of xs) p) (take-append-drop p.chunks h.kept)
-    (subst (λ (x : Place). IsPlace (kept_of (take p.chunks h.kept ++ drop p.chunks h.kept)) x) (sym c.place) (is_place (take p.chunks h.kept) (drop p.chunks h.kept))))
+    (subst (λ (x : RingPosition). IsPlace (kept_of (take p.chunks h.kept ++ drop p.chunks h.kept)) x) (sym c.place) (is_place (take p.chunks h.kept) (drop p.chunks h.kept))))
 
 kept_behind : (xs ys : List Taken) → given_up (place_of xs) (kept_of (xs ++ ys)) ≡ kept_of ys
 kept_behind xs ys =
@@ -132,7 +132,7 @@ kept_behind xs ys =
     (ap (λ (l : List ℕ). drop (octets (chunks_taken xs)) l) (joined_taken xs ys) ∙ (ap (λ (n : ℕ). drop n (joined (chunks_taken xs) ++ joined (chunks_taken ys))) (sym (joined_size (chunks_taken xs))) ∙ drop-append_seam (joined (chunks_taken xs)) (joined (chunks_taken ys))))
     (drop-map (λ (x : Taken). length x.chunk.text) (length xs) (xs ++ ys) ∙ ap lengths_of (drop-append_seam xs ys))
 
-pub gave_up : (w : Waiting) (taken : List Taken) (listens : ℕ → Bool) (waits : ℕ → List Chunk) → Holds w taken listens waits → (p : Place) → IsOldest (end_of w.chunks) w.parts p → Holds (without p w) taken listens waits
+pub gave_up : (w : Waiting) (taken : List Taken) (listens : ℕ → Bool) (waits : ℕ → List Chunk) → SlotHolds w taken listens waits → (p : RingPosition) → IsOldest (end_of w.chunks) w.parts p → SlotHolds (without p w) taken listens waits
 gave_up w taken listens waits h p o =
     let c = oldest_cuts w taken listens waits h p o in
     let n = p.chunks in
@@ -141,20 +141,20 @@ gave_up w taken listens waits h p o =
       gone = h.gone ++ take n h.kept;
       kept = drop n h.kept;
       all = h.all ∙ (ap (λ (xs : List Taken). h.gone ++ xs) (sym halves) ∙ sym (append_assoc h.gone (take n h.kept) (drop n h.kept)));
-      chunks = ap (given_up p) h.chunks ∙ (ap (λ (x : Place). given_up x (kept_of h.kept)) c.place
+      chunks = ap (given_up p) h.chunks ∙ (ap (λ (x : RingPosition). given_up x (kept_of h.kept)) c.place
           ∙ (ap (λ (xs : List Taken). given_up (place_of (take n h.kept)) (kept_of xs)) (sym halves) ∙ kept_behind (take n h.kept) (drop n h.kept)));
       parts = λ j r g.
           let m = get_map (part_after p) w.parts j r g in
           let q = h.parts j m.0 m.1 in
           let new = part_rebased j (listens j) (waits j) h.kept m.0 q n (early w taken listens waits h p o j m.0 m.1) in
-          subst (λ (x : Part). IsPart j (listens j) (waits j) (drop n h.kept) x) (ap (λ (x : Place). part_after x m.0) (sym c.place) ∙ sym m.2) new;
+          subst (λ (x : Part). IsPart j (listens j) (waits j) (drop n h.kept) x) (ap (λ (x : RingPosition). part_after x m.0) (sym c.place) ∙ sym m.2) new;
     }
 
 -- the oldest are given up, and a chunk comes behind the others
-pub added_where_full : (w : Waiting) (taken : List Taken) (listens : ℕ → Bool) (waits : ℕ → List Chunk) → Holds w taken listens waits → (p : Place) → IsOldest (end_of w.chunks) w.parts p → (c : Chunk) (text : List ℕ) → c.text ≡ text
+pub added_where_full : (w : Waiting) (taken : List Taken) (listens : ℕ → Bool) (waits : ℕ → List Chunk) → SlotHolds w taken listens waits → (p : RingPosition) → IsOldest (end_of w.chunks) w.parts p → (c : Chunk) (text : List ℕ) → c.text ≡ text
     → (chunks : Chunks) (parts : List Part) → chunks ≡ pushed text (given_up p w.chunks) → parts ≡ map (part_after p) w.parts
-    → Holds (record { chunks = chunks; parts = parts }) (taken ++ record { chunk = c; given = listens } ∷ []) listens (λ j. if listens j then waits j ++ c ∷ [] else waits j)
+    → SlotHolds (record { chunks = chunks; parts = parts }) (taken ++ record { chunk = c; given = listens } ∷ []) listens (λ j. if listens j then waits j ++ c ∷ [] else waits j)
 added_where_full w taken listens waits h p o c text e chunks parts f g =
-    subst (λ (x : Chunks). Holds (record { chunks = x; parts = parts }) (taken ++ record { chunk = c; given = listens } ∷ []) listens (λ j. if listens j then waits j ++ c ∷ [] else waits j)) (sym f)
-    (subst (λ (xs : List Part). Holds (record { chunks = pushed text (given_up p w.chunks); parts = xs }) (taken ++ record { chunk = c; given = listens } ∷ []) listens (λ j. if listens j then waits j ++ c ∷ [] else waits j)) (sym g)
+    subst (λ (x : Chunks). SlotHolds (record { chunks = x; parts = parts }) (taken ++ record { chunk = c; given = listens } ∷ []) listens (λ j. if listens j then waits j ++ c ∷ [] else waits j)) (sym f)
+    (subst (λ (xs : List Part). SlotHolds (record { chunks = pushed text (given_up p w.chunks); parts = xs }) (taken ++ record { chunk = c; given = listens } ∷ []) listens (λ j. if listens j then waits j ++ c ∷ [] else waits j)) (sym g)
     (added (without p w) taken listens waits (gave_up w taken listens waits h p o) c text e))

@@ -8,7 +8,7 @@ use Rattle.std.proofs.Math.Seq.{take-append_seam, drop-append_seam}
 use Rattle.stream_spec.specs.Ready.{Chunk}
 use Rattle.mixer_spec.specs.Chunks.{joined, octets, front, behind, has_chunk}
 use Rattle.mixer_spec.specs.Table.{Taken, chunks_taken}
-use Rattle.slot_table.specs.declared.rings.Place.{Place}
+use Rattle.slot_table.specs.declared.rings.RingPosition.{RingPosition}
 use Rattle.slot_table.specs.Rings.{Chunks, IsPlace, end_of, chunks_between, count_fitting}
 use Rattle.slot_table.specs.Standing.{kept_of, place_of}
 use Rattle.slot_table.proofs.Fronts.{fits_more, fits_none}
@@ -44,10 +44,10 @@ octets_taken xs ys = ap octets (taken_append xs ys) ∙ octets_append (chunks_ta
 pub joined_taken : (xs ys : List Taken) → joined (chunks_taken (xs ++ ys)) ≡ joined (chunks_taken xs) ++ joined (chunks_taken ys)
 joined_taken xs ys = ap joined (taken_append xs ys) ∙ joined_append (chunks_taken xs) (chunks_taken ys)
 
-pub same_place : (p q : Place) → p.chunks ≡ q.chunks → p.octets ≡ q.octets → p ≡ q
+pub same_place : (p q : RingPosition) → p.chunks ≡ q.chunks → p.octets ≡ q.octets → p ≡ q
 same_place p q e f =
-    let one : p ≡ record { chunks = q.chunks; octets = p.octets } = ap (λ (n : ℕ). let r : Place = record { chunks = n; octets = p.octets } in r) e in
-    one ∙ ap (λ (n : ℕ). let r : Place = record { chunks = q.chunks; octets = n } in r) f
+    let one : p ≡ record { chunks = q.chunks; octets = p.octets } = ap (λ (n : ℕ). let r : RingPosition = record { chunks = n; octets = p.octets } in r) e in
+    one ∙ ap (λ (n : ℕ). let r : RingPosition = record { chunks = q.chunks; octets = n } in r) f
 
 pub same_chunks : (c d : Chunks) → c.octets ≡ d.octets → c.lengths ≡ d.lengths → c ≡ d
 same_chunks c d e f =

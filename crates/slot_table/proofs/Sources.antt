@@ -12,11 +12,11 @@ use Rattle.mixer_spec.specs.Chunks.{behind}
 use Rattle.mixer_spec.specs.Table.{Seats, Taken, Terminal, Table, is_given, give, given}
 use Rattle.slot_table.specs.Lanes.{Waiting}
 use Rattle.slot_table.specs.Words.{all_listen, listening, take_front, fetched, NoneWaits}
-use Rattle.slot_table.specs.Standing.{Holds, SourceStands, StandsFor}
+use Rattle.slot_table.specs.Standing.{SlotHolds, SourceStands, SlotsStandFor}
 use Rattle.slot_table.proofs.Lists.{get_set_same}
 use Rattle.slot_table.proofs.Holding.{part_same}
 
-pub holds_same : (w : Waiting) (taken us : List Taken) (listens ms : ℕ → Bool) (waits vs : ℕ → List Chunk) → Holds w taken listens waits → us ≡ taken → ((j : ℕ) → ms j ≡ listens j) → ((j : ℕ) → vs j ≡ waits j) → Holds w us ms vs
+pub holds_same : (w : Waiting) (taken us : List Taken) (listens ms : ℕ → Bool) (waits vs : ℕ → List Chunk) → SlotHolds w taken listens waits → us ≡ taken → ((j : ℕ) → ms j ≡ listens j) → ((j : ℕ) → vs j ≡ waits j) → SlotHolds w us ms vs
 holds_same w taken us listens ms waits vs h e f g = record {
   gone = h.gone;
   kept = h.kept;
@@ -38,8 +38,8 @@ source_same s k w old new h a = record {
 }
 
 -- Slots that stand for a table stand for each that says the same of what waits, was taken and listens.
-pub stands_same : (s : Setup) (slots : List Waiting) (old new : Table) → StandsFor s slots old → ((i : ℕ) → new.taken i ≡ old.taken i) → ((j : ℕ) → new.seats.listens j ≡ old.seats.listens j) → ((j i : ℕ) → (new.terminals j).waits i ≡ (old.terminals j).waits i)
-    → StandsFor s slots new
+pub stands_same : (s : Setup) (slots : List Waiting) (old new : Table) → SlotsStandFor s slots old → ((i : ℕ) → new.taken i ≡ old.taken i) → ((j : ℕ) → new.seats.listens j ≡ old.seats.listens j) → ((j i : ℕ) → (new.terminals j).waits i ≡ (old.terminals j).waits i)
+    → SlotsStandFor s slots new
 stands_same s slots old new h e f g = record {
   legs = h.legs;
   sources = λ i w k. source_same s i w old new (h.sources i w k) (record {
@@ -50,11 +50,11 @@ stands_same s slots old new h e f g = record {
 }
 
 -- what is known of the source of a lane
-pub source_of : (s : Setup) (slots : List Waiting) (table : Table) → StandsFor s slots table → (i : ℕ) (w : Waiting) → slice_get slots i ≡ Some w → SourceStands s i w table
+pub source_of : (s : Setup) (slots : List Waiting) (table : Table) → SlotsStandFor s slots table → (i : ℕ) (w : Waiting) → slice_get slots i ≡ Some w → SourceStands s i w table
 source_of s slots table h i w g = h.sources i w g
 
 -- one source changes
-stands_set : (s : Setup) (slots : List Waiting) (old new : Table) (i : ℕ) (w : Waiting) → StandsFor s slots old → SourceStands s i w new → ((k : ℕ) → (k ≡ i → ⊥) → IsAlike old new k) → StandsFor s (set slots i w) new
+stands_set : (s : Setup) (slots : List Waiting) (old new : Table) (i : ℕ) (w : Waiting) → SlotsStandFor s slots old → SourceStands s i w new → ((k : ℕ) → (k ≡ i → ⊥) → IsAlike old new k) → SlotsStandFor s (set slots i w) new
 stands_set s slots old new i w h n a = record {
   legs = length-set slots i w ∙ h.legs;
   sources = λ k v g. elim (cases_eq k i) [
@@ -74,9 +74,9 @@ pub given_others : (b : Bool) (i k : ℕ) (c : Chunk) (d : Terminal) → (k ≡ 
 given_others true i k c d n = set_other d.waits i (d.waits i ++ c ∷ []) k n
 given_others false i k c d n = refl
 
-pub stands_given : (s : Setup) (slots : List Waiting) (table : Table) (i : ℕ) (w v : Waiting) (c : Chunk) → StandsFor s slots table → slice_get slots i ≡ Some w → length v.parts ≡ length w.parts
-    → ((taken : List Taken) (listens : ℕ → Bool) (waits : ℕ → List Chunk) → Holds w taken listens waits → Holds v (taken ++ record { chunk = c; given = listens } ∷ []) listens (λ j. if listens j then waits j ++ c ∷ [] else waits j))
-    → StandsFor s (set slots i v) (given i c table)
+pub stands_given : (s : Setup) (slots : List Waiting) (table : Table) (i : ℕ) (w v : Waiting) (c : Chunk) → SlotsStandFor s slots table → slice_get slots i ≡ Some w → length v.parts ≡ length w.parts
+    → ((taken : List Taken) (listens : ℕ → Bool) (waits : ℕ → List Chunk) → SlotHolds w taken listens waits → SlotHolds v (taken ++ record { chunk = c; given = listens } ∷ []) listens (λ j. if listens j then waits j ++ c ∷ [] else waits j))
+    → SlotsStandFor s (set slots i v) (given i c table)
 stands_given s slots table i w v c h g l f =
     let k = h.sources i w g in
     stands_set s slots table (given i c table) i v h (record {
@@ -93,9 +93,9 @@ stands_given s slots table i w v c h g l f =
     })
 
 -- ---- a terminal takes
-pub stands_fetched : (s : Setup) (slots : List Waiting) (table : Table) (j i room : ℕ) (w v : Waiting) → StandsFor s slots table → slice_get slots i ≡ Some w → length v.parts ≡ length w.parts
-    → ((taken : List Taken) (listens : ℕ → Bool) (waits : ℕ → List Chunk) → Holds w taken listens waits → Holds v taken listens (set_at waits j (behind room (waits j))))
-    → StandsFor s (set slots i v) (fetched j i room table)
+pub stands_fetched : (s : Setup) (slots : List Waiting) (table : Table) (j i room : ℕ) (w v : Waiting) → SlotsStandFor s slots table → slice_get slots i ≡ Some w → length v.parts ≡ length w.parts
+    → ((taken : List Taken) (listens : ℕ → Bool) (waits : ℕ → List Chunk) → SlotHolds w taken listens waits → SlotHolds v taken listens (set_at waits j (behind room (waits j))))
+    → SlotsStandFor s (set slots i v) (fetched j i room table)
 stands_fetched s slots table j i room w v h g l f =
     let k = h.sources i w g in
     let waits : ℕ → List Chunk = λ x. (table.terminals x).waits i in
@@ -120,7 +120,7 @@ stands_fetched s slots table j i room w v h g l f =
 -- ---- a terminal listens
 pub record Heard (j : ℕ) (on : Bool) (w v : Waiting) : Type 0 where
   pub parts : length v.parts ≡ length w.parts
-  pub holds : (taken : List Taken) (listens : ℕ → Bool) (waits : ℕ → List Chunk) → Holds w taken listens waits → Holds v taken (set_at listens j on) (if on then set_at waits j [] else waits)
+  pub holds : (taken : List Taken) (listens : ℕ → Bool) (waits : ℕ → List Chunk) → SlotHolds w taken listens waits → SlotHolds v taken (set_at listens j on) (if on then set_at waits j [] else waits)
 
 -- the first n lanes were told
 pub record Told (j : ℕ) (on : Bool) (n : ℕ) (old new : List Waiting) : Type 0 where
@@ -165,7 +165,7 @@ pub right_of : (a b : Bool) → (a && b) ≡ true → b ≡ true
 right_of true b e = e
 right_of false b e = cc e
 
-pub stands_told : (s : Setup) (old new : List Waiting) (table : Table) (j : ℕ) (on : Bool) → StandsFor s old table → Told j on (length old) old new → (on ≡ true → NoneWaits s j table) → StandsFor s new (listening j on table)
+pub stands_told : (s : Setup) (old new : List Waiting) (table : Table) (j : ℕ) (on : Bool) → SlotsStandFor s old table → Told j on (length old) old new → (on ≡ true → NoneWaits s j table) → SlotsStandFor s new (listening j on table)
 stands_told s old new table j on h t none = record {
   legs = t.legs ∙ h.legs;
   sources = λ i v g.
@@ -186,9 +186,9 @@ stands_told s old new table j on h t none = record {
 -- ---- the start
 pub record Starts (legs k : ℕ) (w : Waiting) : Type 0 where
   pub parts : length w.parts ≡ legs
-  pub holds : Holds w [] (is_given all_listen.seats k) (λ j. [])
+  pub holds : SlotHolds w [] (is_given all_listen.seats k) (λ j. [])
 
-pub stands_new : (s : Setup) (slots : List Waiting) (legs : ℕ) → s.legs ≡ legs → length slots ≡ legs → ((k : ℕ) (w : Waiting) → slice_get slots k ≡ Some w → Starts legs k w) → StandsFor s slots all_listen
+pub stands_new : (s : Setup) (slots : List Waiting) (legs : ℕ) → s.legs ≡ legs → length slots ≡ legs → ((k : ℕ) (w : Waiting) → slice_get slots k ≡ Some w → Starts legs k w) → SlotsStandFor s slots all_listen
 stands_new s slots legs e l f = record {
   legs = l ∙ sym e;
   sources = λ k w g. record { terminals = (f k w g).parts ∙ sym e; holds = (f k w g).holds };

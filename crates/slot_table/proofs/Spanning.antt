@@ -9,7 +9,7 @@ use Rattle.mixer_spec.specs.Setups.{Setup}
 use Rattle.mixer_spec.specs.Chunks.{octets}
 use Rattle.mixer_spec.specs.Table.{Taken, Table, chunks_taken, shared, count_given, still_waits, span_of, span_with, is_fit, is_given}
 use Rattle.mixer_spec.specs.Laws.{AllGiven}
-use Rattle.slot_table.specs.declared.rings.Place.{Place}
+use Rattle.slot_table.specs.declared.rings.RingPosition.{RingPosition}
 use Rattle.slot_table.specs.declared.parts.Part.{Part}
 use Rattle.slot_table.specs.Rings.{Chunks, end_of}
 use Rattle.slot_table.specs.Lanes.{Waiting, Waits, IsOldest, part_end}
@@ -104,9 +104,9 @@ span_first : (s : Setup) (i : ℕ) (w : Waiting) (table : Table) (h : SourceStan
 span_first s i w table h n j r g u e =
     let k = h.holds in
     let q = k.parts j r g in
-    let from : r.from.chunks ≡ length q.before = ap (λ (x : Place). x.chunks) q.from in
+    let from : r.from.chunks ≡ length q.before = ap (λ (x : RingPosition). x.chunks) q.from in
     let end : (part_end (end_of w.chunks) r).chunks ≡ length (q.before ++ q.part) =
-    ap (λ (c : Chunks). (part_end (end_of c) r).chunks) k.chunks ∙ ap (λ (x : Place). x.chunks) (part_end_is j (is_given table.seats i j) ((table.terminals j).waits i) k.kept r q) in
+    ap (λ (c : Chunks). (part_end (end_of c) r).chunks) k.chunks ∙ ap (λ (x : RingPosition). x.chunks) (part_end_is j (is_given table.seats i j) ((table.terminals j).waits i) k.kept r q) in
     let some : 0 < length q.part = omega (arith, u, from, end, length-append q.before q.part) in
     let at : drop n k.kept ≡ q.part ++ q.behind = ap (λ (xs : List Taken). drop n xs) q.whole ∙ (ap (λ (m : ℕ). drop m (q.before ++ (q.part ++ q.behind))) (e ∙ from) ∙ drop-append_seam q.before (q.part ++ q.behind)) in
     let l : j < s.legs = omega (arith, slice_get_within w.parts j r g, h.terminals) in
@@ -115,12 +115,12 @@ span_first s i w table h n j r g u e =
 span_end : (s : Setup) (i : ℕ) (table : Table) (n : ℕ) (xs : List Taken) → length xs ≤ n → span_of s i table (drop n xs) ≡ drop n xs
 span_end s i table n xs l = let none : drop n xs ≡ [] = drop_all n xs l in ap (λ (ys : List Taken). span_of s i table ys) none ∙ sym none
 
-pub span_is : (s : Setup) (i : ℕ) (w : Waiting) (table : Table) (h : SourceStands s i w table) (p : Place) → IsOldest (end_of w.chunks) w.parts p → span_of s i table (table.taken i) ≡ drop p.chunks h.holds.kept
+pub span_is : (s : Setup) (i : ℕ) (w : Waiting) (table : Table) (h : SourceStands s i w table) (p : RingPosition) → IsOldest (end_of w.chunks) w.parts p → span_of s i table (table.taken i) ≡ drop p.chunks h.holds.kept
 span_is s i w table h p o =
     span_behind s i w table h p.chunks (early w (table.taken i) (is_given table.seats i) (λ j. (table.terminals j).waits i) h.holds p o)
     ∙ elim o.first [
-      | inl e ↦ span_end s i table p.chunks h.holds.kept (let n : p.chunks ≡ length h.holds.kept = ap (λ (x : Place). x.chunks) (e ∙ (ap end_of h.holds.chunks ∙ end_is h.holds.kept)) in omega arith)
-      | inr r ↦ span_first s i w table h p.chunks r.0 r.1 r.2 r.3 (ap (λ (x : Place). x.chunks) r.4)
+      | inl e ↦ span_end s i table p.chunks h.holds.kept (let n : p.chunks ≡ length h.holds.kept = ap (λ (x : RingPosition). x.chunks) (e ∙ (ap end_of h.holds.chunks ∙ end_is h.holds.kept)) in omega arith)
+      | inr r ↦ span_first s i w table h p.chunks r.0 r.1 r.2 r.3 (ap (λ (x : RingPosition). x.chunks) r.4)
     ]
 
 -- ---- room
@@ -136,7 +136,7 @@ lt_is m n = refl
 same_test : (a b m n : ℕ) → a ≡ b → suc m ≡ n → (nat_le a MOST_SPAN_OCTETS && nat_lt m MOST_SPAN_CHUNKS) ≡ (nat_le b MOST_SPAN_OCTETS && nat_le n MOST_SPAN_CHUNKS)
 same_test a b m n e f = ap (λ (k : ℕ). nat_le k MOST_SPAN_OCTETS && nat_lt m MOST_SPAN_CHUNKS) e ∙ (ap (λ (t : Bool). nat_le b MOST_SPAN_OCTETS && t) (lt_is m MOST_SPAN_CHUNKS) ∙ ap (λ (k : ℕ). nat_le b MOST_SPAN_OCTETS && nat_le k MOST_SPAN_CHUNKS) f)
 
-pub room_is : (s : Setup) (i : ℕ) (w : Waiting) (table : Table) → SourceStands s i w table → (p : Place) → IsOldest (end_of w.chunks) w.parts p → (c : Chunk) (n : ℕ) → length c.text ≡ n
+pub room_is : (s : Setup) (i : ℕ) (w : Waiting) (table : Table) → SourceStands s i w table → (p : RingPosition) → IsOldest (end_of w.chunks) w.parts p → (c : Chunk) (n : ℕ) → length c.text ≡ n
     → (nat_le (length w.chunks.octets - p.octets + n) MOST_SPAN_OCTETS && nat_lt (length w.chunks.lengths - p.chunks) MOST_SPAN_CHUNKS) ≡ is_fit (span_with s i c table)
 room_is s i w table h p o c n e =
     let k = h.holds in
@@ -146,7 +146,7 @@ room_is s i w table h p o c n e =
     let size : length w.chunks.octets ≡ octets (chunks_taken a) + octets (chunks_taken b) =
     ap (λ (x : Chunks). length x.octets) k.chunks ∙ (joined_size (chunks_taken k.kept) ∙ (ap (λ (xs : List Taken). octets (chunks_taken xs)) (sym (take-append-drop p.chunks k.kept)) ∙ octets_taken a b)) in
     let count : length w.chunks.lengths ≡ length k.kept = ap (λ (x : Chunks). length x.lengths) k.chunks ∙ length-map k.kept (λ (x : Taken). length x.chunk.text) in
-    let gone : p.octets ≡ octets (chunks_taken a) = ap (λ (x : Place). x.octets) cut.place in
+    let gone : p.octets ≡ octets (chunks_taken a) = ap (λ (x : RingPosition). x.octets) cut.place in
     same_test (length w.chunks.octets - p.octets + n) (octets (chunks_taken b ++ c ∷ [])) (length w.chunks.lengths - p.chunks) (length (chunks_taken b ++ c ∷ []))
     (omega (arith, size, gone, e, with_octets b c))
     (omega (arith, count, with_length b c, length-drop p.chunks k.kept))

@@ -2,12 +2,12 @@
 use Rattle.std.proofs.Common.{◌≡◌, ℕ, Bool, true, false, Option, Some, None, List, [], refl, subst, sym}
 use Rattle.std.specs.Prelude.{slice_get, not, ◌&&◌, ◌==◌, if◌then◌else◌}
 use Rattle.mixer_spec.specs.Table.{is_given}
-use Rattle.slot_table.specs.declared.rings.Place.{Place}
+use Rattle.slot_table.specs.declared.rings.RingPosition.{RingPosition}
 use Rattle.slot_table.specs.declared.parts.Part.{Part}
 use Rattle.slot_table.specs.Rings.{Chunks, no_chunks}
 use Rattle.slot_table.specs.Lanes.{first_part, start}
 use Rattle.slot_table.specs.Words.{all_listen}
-use Rattle.slot_table.specs.Standing.{place_of, IsPart, Holds}
+use Rattle.slot_table.specs.Standing.{place_of, IsPart, SlotHolds}
 
 first_is_part : (own j : ℕ) → IsPart j (is_given all_listen.seats own j) [] [] (first_part own j)
 first_is_part own j = record {
@@ -23,12 +23,12 @@ first_is_part own j = record {
   goes_on = λ e. refl;
 }
   where
-    go : (b : Bool) → ◌≡◌ {A = Option Place} (if b then Some start else None) (if not b && true then None else Some (place_of []))
+    go : (b : Bool) → ◌≡◌ {A = Option RingPosition} (if b then Some start else None) (if not b && true then None else Some (place_of []))
     go true = refl
     go false = refl
 
 pub new_holds : (own : ℕ) (chunks : Chunks) (parts : List Part) → chunks ≡ no_chunks → ((k : ℕ) (p : Part) → slice_get parts k ≡ Some p → p ≡ first_part own k)
-    → Holds (record { chunks = chunks; parts = parts }) [] (is_given all_listen.seats own) (λ j. [])
+    → SlotHolds (record { chunks = chunks; parts = parts }) [] (is_given all_listen.seats own) (λ j. [])
 new_holds own chunks parts e f = record {
   gone = [];
   kept = [];

@@ -9,7 +9,7 @@ use Rattle.mixer_spec.proofs.Kept.{front_behind}
 use Rattle.slot_table.specs.declared.parts.Part.{Part}
 use Rattle.slot_table.specs.Lanes.{Waiting}
 use Rattle.slot_table.specs.LaneInsides.{AreUtf8}
-use Rattle.slot_table.specs.Standing.{Holds}
+use Rattle.slot_table.specs.Standing.{SlotHolds}
 
 left_utf8 : (xs ys : List Chunk) → AreUtf8 (xs ++ ys) → AreUtf8 xs
 left_utf8 [] ys a = tt
@@ -33,7 +33,7 @@ more_utf8 [] x a u = (u, tt)
 more_utf8 (y ∷ xs) x a u = (a.0, more_utf8 xs x a.1 u)
 
 -- what waits at a terminal was taken
-waits_utf8 : (w : Waiting) (taken : List Taken) (listens : ℕ → Bool) (waits : ℕ → List Chunk) → Holds w taken listens waits → AreUtf8 (chunks_taken taken)
+waits_utf8 : (w : Waiting) (taken : List Taken) (listens : ℕ → Bool) (waits : ℕ → List Chunk) → SlotHolds w taken listens waits → AreUtf8 (chunks_taken taken)
     → (j : ℕ) (p : Part) → slice_get w.parts j ≡ Some p → AreUtf8 (waits j)
 waits_utf8 w taken listens waits h u j p g =
     let r = h.parts j p g in
@@ -42,7 +42,7 @@ waits_utf8 w taken listens waits h u j p g =
     subst AreUtf8 r.waits (taken_left r.part r.behind rest)
 
 -- what is taken of it is UTF-8
-pub fetched_utf8 : (w : Waiting) (taken : List Taken) (listens : ℕ → Bool) (waits : ℕ → List Chunk) → Holds w taken listens waits → AreUtf8 (chunks_taken taken)
+pub fetched_utf8 : (w : Waiting) (taken : List Taken) (listens : ℕ → Bool) (waits : ℕ → List Chunk) → SlotHolds w taken listens waits → AreUtf8 (chunks_taken taken)
     → (j : ℕ) (p : Part) → slice_get w.parts j ≡ Some p → (room : ℕ) → IsUtf8 (joined (front room (waits j)))
 fetched_utf8 w taken listens waits h u j p g room =
     joined_utf8 (front room (waits j)) (left_utf8 (front room (waits j)) (behind room (waits j)) (subst AreUtf8 (sym (front_behind room (waits j))) (waits_utf8 w taken listens waits h u j p g)))

@@ -2,9 +2,9 @@
 use Rattle.std.specs.Prelude.{ℕ, Bool, List, [], ◌∷◌, IsUtf8}
 use Rattle.stream_spec.specs.Ready.{Chunk}
 use Rattle.mixer_spec.specs.Table.{Taken, chunks_taken}
-use Rattle.slot_table.specs.declared.lanes.Lane.TheInside.{Inside}
+use Rattle.slot_table.specs.declared.lanes.SourceQueue.TheInside.{Inside}
 use Rattle.slot_table.specs.Lanes.{Waiting}
-use Rattle.slot_table.specs.Standing.{Holds}
+use Rattle.slot_table.specs.Standing.{SlotHolds}
 
 abbrev pub waiting_in : Inside → Waiting
 waiting_in l = record { chunks = l.ring; parts = l.parts.items }
@@ -19,5 +19,5 @@ pub record IsLane (l : Inside) : Type 0 where
   pub taken : List Taken
   pub listens : ℕ → Bool
   pub waits : ℕ → List Chunk
-  pub holds : Holds (waiting_in l) taken listens waits
+  pub holds : SlotHolds (waiting_in l) taken listens waits
   pub utf8 : AreUtf8 (chunks_taken taken)

@@ -1,6 +1,6 @@
 -- What a ring keeps of the chunks of one source: their octets, one chunk behind the other, and how long each is.
 use Rattle.std.specs.Prelude.{◌≡◌, ℕ, suc, ◌-◌, ◌≤◌, List, [], ◌∷◌, ◌++◌, length, take, drop, sum, nat_le, if◌then◌else◌}
-use Rattle.slot_table.specs.declared.rings.Place.{Place}
+use Rattle.slot_table.specs.declared.rings.RingPosition.{RingPosition}
 
 pub record Chunks : Type 0 where
   pub octets : List ℕ
@@ -13,14 +13,14 @@ abbrev pub pushed : List ℕ → Chunks → Chunks
 pushed text c = record { octets = c.octets ++ text; lengths = c.lengths ++ length text ∷ [] }
 
 -- without the chunks before the place
-abbrev pub given_up : Place → Chunks → Chunks
+abbrev pub given_up : RingPosition → Chunks → Chunks
 given_up p c = record { octets = drop p.octets c.octets; lengths = drop p.chunks c.lengths }
 
-abbrev pub end_of : Chunks → Place
+abbrev pub end_of : Chunks → RingPosition
 end_of c = record { chunks = length c.lengths; octets = length c.octets }
 
 -- the octets before the place are those of the chunks before it
-pub record IsPlace (c : Chunks) (p : Place) : Type 0 where
+pub record IsPlace (c : Chunks) (p : RingPosition) : Type 0 where
   pub chunks : p.chunks ≤ length c.lengths
   pub octets : p.octets ≡ sum (take p.chunks c.lengths)
 

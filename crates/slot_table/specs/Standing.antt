@@ -6,7 +6,7 @@ use Rattle.mixer_spec.specs.Chunks.{joined, octets}
 use Rattle.mixer_spec.specs.Setups.{Setup}
 use Rattle.mixer_spec.specs.Table.{Taken, Table, chunks_taken, is_given, is_fit, span_with}
 use Rattle.mixer_spec.specs.Laws.{AllGiven}
-use Rattle.slot_table.specs.declared.rings.Place.{Place}
+use Rattle.slot_table.specs.declared.rings.RingPosition.{RingPosition}
 use Rattle.slot_table.specs.declared.parts.Part.{Part}
 use Rattle.slot_table.specs.Rings.{Chunks}
 use Rattle.rtt_base.specs.declared.limits.TheConstants.{MOST_TEXT_OCTETS}
@@ -17,7 +17,7 @@ abbrev pub kept_of : List Taken → Chunks
 kept_of xs = record { octets = joined (chunks_taken xs); lengths = map (λ x. length x.chunk.text) xs }
 
 -- the place behind these
-abbrev pub place_of : List Taken → Place
+abbrev pub place_of : List Taken → RingPosition
 place_of xs = record { chunks = length xs; octets = octets (chunks_taken xs) }
 
 -- The part of the kept chunks that waits for the terminal j: it was given each of them, and none behind them.
@@ -35,7 +35,7 @@ pub record IsPart (j : ℕ) (listens : Bool) (waiting : List Chunk) (kept : List
 
 -- Of a source that is heard by the terminals that pass `listens`, these were taken, the last of which are kept; at each
 -- terminal these wait.
-pub record Holds (w : Waiting) (taken : List Taken) (listens : ℕ → Bool) (waits : ℕ → List Chunk) : Type 0 where
+pub record SlotHolds (w : Waiting) (taken : List Taken) (listens : ℕ → Bool) (waits : ℕ → List Chunk) : Type 0 where
   pub gone : List Taken
   pub kept : List Taken
   pub all : taken ≡ gone ++ kept
@@ -44,7 +44,7 @@ pub record Holds (w : Waiting) (taken : List Taken) (listens : ℕ → Bool) (wa
 
 -- of whatever the lane holds
 abbrev pub LaneTells : Waiting → (List Taken → (ℕ → Bool) → (ℕ → List Chunk) → Type 0) → Type 0
-LaneTells w P = (taken : List Taken) (listens : ℕ → Bool) (waits : ℕ → List Chunk) → Holds w taken listens waits → P taken listens waits
+LaneTells w P = (taken : List Taken) (listens : ℕ → Bool) (waits : ℕ → List Chunk) → SlotHolds w taken listens waits → P taken listens waits
 
 -- a chunk may have this text
 pub record FitsChunk (text : List ℕ) : Type 0 where
@@ -52,28 +52,28 @@ pub record FitsChunk (text : List ℕ) : Type 0 where
   pub utf8 : IsUtf8 text
 
 -- a chunk with this text comes behind the others, for each terminal that listens
-abbrev pub Adds : List ℕ → Waiting → Waiting → Type 0
-Adds text old new = (taken : List Taken) (listens : ℕ → Bool) (waits : ℕ → List Chunk) (c : Chunk) → Holds old taken listens waits → c.text ≡ text
-    → Holds new (taken ++ record { chunk = c; given = listens } ∷ []) listens (λ j. if listens j then waits j ++ c ∷ [] else waits j)
+abbrev pub AddsText : List ℕ → Waiting → Waiting → Type 0
+AddsText text old new = (taken : List Taken) (listens : ℕ → Bool) (waits : ℕ → List Chunk) (c : Chunk) → SlotHolds old taken listens waits → c.text ≡ text
+    → SlotHolds new (taken ++ record { chunk = c; given = listens } ∷ []) listens (λ j. if listens j then waits j ++ c ∷ [] else waits j)
 
 -- the source i
 pub record SourceStands (s : Setup) (i : ℕ) (w : Waiting) (table : Table) : Type 0 where
   pub terminals : length w.parts ≡ s.legs
-  pub holds : Holds w (table.taken i) (is_given table.seats i) (λ j. (table.terminals j).waits i)
+  pub holds : SlotHolds w (table.taken i) (is_given table.seats i) (λ j. (table.terminals j).waits i)
 
 -- it is so exactly where the span has room for a chunk with this text
 abbrev pub TellsRoom : List ℕ → Waiting → Type 0 → Type 0
 TellsRoom text w P = (s : Setup) (i : ℕ) (table : Table) (c : Chunk) → SourceStands s i w table → c.text ≡ text → P ↔ (is_fit (span_with s i c table) ≡ true)
 
 -- each source; of the table nothing else counts, and of the setup nothing but how many legs there are
-pub record StandsFor (s : Setup) (slots : List Waiting) (table : Table) : Type 0 where
+pub record SlotsStandFor (s : Setup) (slots : List Waiting) (table : Table) : Type 0 where
   pub legs : length slots ≡ s.legs
   pub sources : (i : ℕ) (w : Waiting) → slice_get slots i ≡ Some w → SourceStands s i w table
 
 -- of each table for which the slots stand
-abbrev pub Tells : List Waiting → (Setup → Table → Type 0) → Type 0
-Tells slots P = (s : Setup) (table : Table) → StandsFor s slots table → P s table
+abbrev pub SlotsTell : List Waiting → (Setup → Table → Type 0) → Type 0
+SlotsTell slots P = (s : Setup) (table : Table) → SlotsStandFor s slots table → P s table
 
 -- from each table for which they stood they come to another one
-abbrev pub Leads : List Waiting → List Waiting → (Table → Table) → Type 0
-Leads old new f = (s : Setup) (table : Table) → StandsFor s old table → StandsFor s new (f table)
+abbrev pub LeadsSlots : List Waiting → List Waiting → (Table → Table) → Type 0
+LeadsSlots old new f = (s : Setup) (table : Table) → SlotsStandFor s old table → SlotsStandFor s new (f table)

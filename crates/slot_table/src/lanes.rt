@@ -8,19 +8,19 @@ ghost use Rattle.slot_table.specs.LaneInsides.{waiting_in, IsLane};
 ghost use Rattle.rtt_base.specs.declared.limits.TheConstants.{MOST_TEXT_OCTETS};
 
 use crate::parts::{Part, count_from, first_parts, oldest};
-use crate::rings::{Place, Ring};
+use crate::rings::{RingPosition, Ring};
 use rtt_base::{Full, NoMemory, Text};
 use std::alloc::Global;
 use std::marker::Model;
 
 /// The chunks of one source, and the part of them that waits for each terminal.
 #[derive(Drop)]
-pub struct Lane {
+pub struct SourceQueue {
     ring: Ring,
     parts: Vec<Part>,
 }
 
-impl Model for Lane {
+impl Model for SourceQueue {
     ghost Value = { Waiting };
 
     ghost view = { waiting_in };
@@ -28,18 +28,18 @@ impl Model for Lane {
     ghost invariant = { IsLane };
 }
 
-impl Lane {
+impl SourceQueue {
     ghost use Rattle.slot_table.specs.Words.{all_listen};
-    ghost use Rattle.slot_table.specs.Standing.{Adds, FitsChunk, Holds, LaneTells, TellsRoom};
+    ghost use Rattle.slot_table.specs.Standing.{AddsText, FitsChunk, SlotHolds, LaneTells, TellsRoom};
 
     /// The lane of the source `own`, which is heard by each of so many terminals but its own.
-    pub fn new(alloc: Global, terminals: usize, own: usize) -> Result<Lane, NoMemory>
+    pub fn new(alloc: Global, terminals: usize, own: usize) -> Result<SourceQueue, NoMemory>
         ensures terminals { IfOk result (λ w. length w.parts ≡ terminals) }
-        ensures holds { IfOk result (λ w. Holds w [] (is_given all_listen.seats own) (λ j. [])) }
+        ensures holds { IfOk result (λ w. SlotHolds w [] (is_given all_listen.seats own) (λ j. [])) }
     {
         let ring = Ring::new(alloc)?;
         let parts = first_parts(alloc, terminals, own)?;
-        Ok(Lane { ring, parts })
+        Ok(SourceQueue { ring, parts })
     }
 
     /// Whether the terminal hears what comes from now on. Where it is to, what waits for it is let go.
@@ -47,7 +47,7 @@ impl Lane {
         requires { terminal < length self.old.parts }
         ensures terminals { length self.new.parts ≡ length self.old.parts }
         ensures holds { LaneTells self.old (λ taken listens waits.
-            Holds self.new taken (set_at listens terminal on) (if on then set_at waits terminal [] else waits)) }
+            SlotHolds self.new taken (set_at listens terminal on) (if on then set_at waits terminal [] else waits)) }
     {
         let heard = self.parts[terminal].heard(on, self.ring.end());
         self.parts[terminal] = heard;
@@ -82,7 +82,7 @@ impl Lane {
         ensures fits { length text.new ≤ length text.old + room }
         ensures utf8 { IsUtf8 text.old → IsUtf8 text.new }
         ensures holds { LaneTells self.old (λ taken listens waits.
-            Holds self.new taken listens (set_at waits terminal (behind room (waits terminal)))) }
+            SlotHolds self.new taken listens (set_at waits terminal (behind room (waits terminal)))) }
     {
         let all = self.ring.end();
         let part = self.parts[terminal];
@@ -97,10 +97,10 @@ impl Lane {
         requires { FitsChunk text.now }
         ensures terminals { length self.new.parts ≡ length self.old.parts }
         ensures room { TellsRoom text.now self.old (IsOk result) }
-        ensures ok { OnOk result (Adds text.now self.old self.new) }
+        ensures ok { OnOk result (AddsText text.now self.old self.new) }
         ensures err { OnErr result (self.new ≡ self.old) }
     {
-        if self.ring.has_room(Place::START, text.len()) {
+        if self.ring.has_room(RingPosition::START, text.len()) {
             self.ring.push(text);
             return Ok(());
         }
@@ -113,7 +113,7 @@ impl Lane {
         requires { FitsChunk text.now }
         ensures terminals { length self.new.parts ≡ length self.old.parts }
         ensures room { TellsRoom text.now self.old (IsOk result) }
-        ensures ok { OnOk result (Adds text.now self.old self.new) }
+        ensures ok { OnOk result (AddsText text.now self.old self.new) }
         ensures err { OnErr result (self.new ≡ self.old) }
     {
         let front = oldest(&self.parts, self.ring.end());

@@ -2,22 +2,22 @@
 ghost use Rattle.std.specs.Prelude.{◌≡◌, ℕ, length, map, slice_get, Some, IfOk};
 ghost use Rattle.slot_table.specs.Lanes.{IsOldest, first_part, part_after};
 
-use crate::rings::Place;
+use crate::rings::RingPosition;
 use rtt_base::NoMemory;
 use std::alloc::Global;
 
 /// The chunks from `from` on: up to `to`, or all that come while the terminal listens.
 #[derive(Clone, Copy, Debug)]
 pub struct Part {
-    pub from: Place,
-    pub to: Option<Place>,
+    pub from: RingPosition,
+    pub to: Option<RingPosition>,
 }
 
 impl Part {
     ghost use Rattle.slot_table.specs.Lanes.{part_end, part_heard, part_after};
 
     /// Where it ends, where `end` is the end of all chunks.
-    pub fn end(self, end: Place) -> Place
+    pub fn end(self, end: RingPosition) -> RingPosition
         ensures { result ≡ part_end end self }
     {
         match self.to {
@@ -27,7 +27,7 @@ impl Part {
     }
 
     /// The part of a terminal that listens from now on, or no more, where `end` is the end of all chunks.
-    pub fn heard(self, on: bool, end: Place) -> Part
+    pub fn heard(self, on: bool, end: RingPosition) -> Part
         ensures { result ≡ part_heard on end self }
     {
         if on {
@@ -44,7 +44,7 @@ impl Part {
     }
 
     /// The part counted from a place, before which nothing is kept any more.
-    pub fn after(self, front: Place) -> Part
+    pub fn after(self, front: RingPosition) -> Part
         ensures { result ≡ part_after front self }
     {
         Part {
@@ -65,12 +65,12 @@ pub fn first_parts(alloc: Global, terminals: usize, own: usize) -> Result<Vec<Pa
     let mut parts = Vec::with_capacity(alloc, terminals)?;
     for terminal in 0..terminals {
         let to = if terminal == own {
-            Some(Place::START)
+            Some(RingPosition::START)
         } else {
             None
         };
         let part = Part {
-            from: Place::START,
+            from: RingPosition::START,
             to,
         };
         parts.push(part)?;
@@ -79,7 +79,7 @@ pub fn first_parts(alloc: Global, terminals: usize, own: usize) -> Result<Vec<Pa
 }
 
 /// The place before the oldest chunk that waits in one of the parts, or the end of all chunks.
-pub fn oldest(parts: &[Part], end: Place) -> Place
+pub fn oldest(parts: &[Part], end: RingPosition) -> RingPosition
     ensures { IsOldest end parts.now result }
 {
     let mut oldest = end;
@@ -93,7 +93,7 @@ pub fn oldest(parts: &[Part], end: Place) -> Place
 }
 
 /// Counts each part from the place.
-pub fn count_from(parts: &mut [Part], front: Place)
+pub fn count_from(parts: &mut [Part], front: RingPosition)
     ensures { parts.new ≡ map (part_after front) parts.old }
 {
     for part in parts.iter_mut() {

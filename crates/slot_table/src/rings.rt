@@ -10,25 +10,25 @@ use std::marker::Model;
 
 /// A place between two chunks of a ring: how many chunks and how many octets stand before it.
 #[derive(Clone, Copy, Debug)]
-pub struct Place {
+pub struct RingPosition {
     pub chunks: usize,
     pub octets: usize,
 }
 
-impl Place {
+impl RingPosition {
     ghost use Rattle.slot_table.specs.Lanes.{place_after};
 
     /// The place before all chunks.
-    pub const START: Place = Place {
+    pub const START: RingPosition = RingPosition {
         chunks: 0,
         octets: 0,
     };
 
     /// The place counted from another one, or from the start where it stands before that.
-    pub fn after(self, front: Place) -> Place
+    pub fn after(self, front: RingPosition) -> RingPosition
         ensures { result ≡ place_after front self }
     {
-        Place {
+        RingPosition {
             chunks: self.chunks.saturating_sub(front.chunks),
             octets: self.octets.saturating_sub(front.octets),
         }
@@ -67,18 +67,18 @@ impl Ring {
     }
 
     /// The place behind the last chunk.
-    pub fn end(&self) -> Place
+    pub fn end(&self) -> RingPosition
         ensures place { result ≡ end_of self.now }
         ensures within { (result.chunks ≤ MOST_SPAN_CHUNKS) × (result.octets ≤ MOST_SPAN_OCTETS) }
     {
-        Place {
+        RingPosition {
             chunks: self.lengths.len(),
             octets: self.octets.len(),
         }
     }
 
     /// Whether there is room for one more chunk of so many octets, were the chunks before `front` given up.
-    pub fn has_room(&self, front: Place, octets: usize) -> bool
+    pub fn has_room(&self, front: RingPosition, octets: usize) -> bool
         requires { octets ≤ MOST_TEXT_OCTETS }
         ensures { result ≡ (nat_le (length self.now.octets - front.octets + octets) MOST_SPAN_OCTETS && nat_lt (length self.now.lengths - front.chunks) MOST_SPAN_CHUNKS) }
     {
@@ -98,7 +98,7 @@ impl Ring {
     }
 
     /// Gives up the chunks before the place.
-    pub fn give_up(&mut self, front: Place)
+    pub fn give_up(&mut self, front: RingPosition)
         requires { IsPlace self.old front }
         ensures { self.new ≡ given_up front self.old }
     {
@@ -120,7 +120,7 @@ impl Ring {
 
     /// The place behind the longest list of whole chunks from `from` on that has at most `room` octets and goes no further
     /// than the chunk with the index `end`.
-    pub fn place_behind(&self, from: Place, end: usize, room: usize) -> Place
+    pub fn place_behind(&self, from: RingPosition, end: usize, room: usize) -> RingPosition
         requires from { from.octets + room < 65536 }
         requires end { end ≤ length self.now.lengths }
         ensures chunks { result.chunks ≡ from.chunks + count_fitting room (chunks_between self.now from.chunks end) }

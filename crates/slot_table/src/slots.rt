@@ -8,7 +8,7 @@ ghost use Rattle.slot_table.specs.Lanes.{Waiting};
 ghost use Rattle.slot_table.specs.SlotInsides.{IsSlots};
 ghost use Rattle.rtt_base.specs.declared.limits.TheConstants.{MOST_TEXT_OCTETS};
 
-use crate::lanes::Lane;
+use crate::lanes::SourceQueue;
 use rtt_base::{Chunk, Full, NoMemory, Text};
 use std::alloc::Global;
 use std::marker::Model;
@@ -16,7 +16,7 @@ use std::marker::Model;
 /// The chunks that wait. Each leg is a source and a terminal. It takes all memory when it is made.
 #[derive(Drop)]
 pub struct Slots {
-    lanes: Vec<Lane>,
+    lanes: Vec<SourceQueue>,
 }
 
 impl Model for Slots {
@@ -36,16 +36,16 @@ fn hears(terminal: usize, source: usize, on: bool) -> bool
 
 impl Slots {
     ghost use Rattle.slot_table.specs.Words.{all_listen, listening, fetched, NoneWaits};
-    ghost use Rattle.slot_table.specs.Standing.{StandsFor, Tells, Leads};
+    ghost use Rattle.slot_table.specs.Standing.{SlotsStandFor, SlotsTell, LeadsSlots};
 
     /// Nothing waits, and every terminal listens.
     pub fn new(alloc: Global, legs: usize) -> Result<Slots, NoMemory>
         ensures legs { IfOk result (λ slots. length slots ≡ legs) }
-        ensures stands { IfOk result (λ slots. (s : Setup) → s.legs ≡ legs → StandsFor s slots all_listen) }
+        ensures stands { IfOk result (λ slots. (s : Setup) → s.legs ≡ legs → SlotsStandFor s slots all_listen) }
     {
         let mut lanes = Vec::with_capacity(alloc, legs)?;
         for source in 0..legs {
-            let lane = Lane::new(alloc, legs, source)?;
+            let lane = SourceQueue::new(alloc, legs, source)?;
             lanes.push(lane)?;
         }
         Ok(Slots { lanes })
@@ -55,8 +55,8 @@ impl Slots {
     pub fn listen(&mut self, terminal: usize, on: bool)
         requires { terminal < length self.old }
         ensures legs { length self.new ≡ length self.old }
-        ensures stands { Tells self.old (λ s table. (on ≡ true → NoneWaits s terminal table)
-            → StandsFor s self.new (listening terminal on table)) }
+        ensures stands { SlotsTell self.old (λ s table. (on ≡ true → NoneWaits s terminal table)
+            → SlotsStandFor s self.new (listening terminal on table)) }
     {
         for source in 0..self.lanes.len() {
             let on = hears(terminal, source, on);
@@ -71,9 +71,9 @@ impl Slots {
         requires source { chunk.now.source < length self.old }
         requires utf8 { IsUtf8 chunk.now.text }
         ensures legs { length self.new ≡ length self.old }
-        ensures room { Tells self.old (λ s table.
+        ensures room { SlotsTell self.old (λ s table.
             IsOk result ↔ (is_fit (span_with s chunk.now.source (chunk_of chunk.now) table) ≡ true)) }
-        ensures ok { OnOk result (Leads self.old self.new (given chunk.now.source (chunk_of chunk.now))) }
+        ensures ok { OnOk result (LeadsSlots self.old self.new (given chunk.now.source (chunk_of chunk.now))) }
         ensures err { OnErr result (self.new ≡ self.old) }
     {
         let lane = &mut self.lanes[chunk.source as usize];
@@ -83,7 +83,7 @@ impl Slots {
     /// The octets of the source that wait at the terminal.
     pub fn waiting(&self, terminal: usize, source: usize) -> usize
         requires { (terminal < length self.now) × (source < length self.now) }
-        ensures { Tells self.now (λ s table. result ≡ octets ((table.terminals terminal).waits source)) }
+        ensures { SlotsTell self.now (λ s table. result ≡ octets ((table.terminals terminal).waits source)) }
     {
         let lane = &self.lanes[source];
         lane.waiting(terminal)
@@ -92,7 +92,7 @@ impl Slots {
     /// Whether a chunk of the source waits at the terminal.
     pub fn has_waiting(&self, terminal: usize, source: usize) -> bool
         requires { (terminal < length self.now) × (source < length self.now) }
-        ensures { Tells self.now (λ s table. result ≡ has_chunk ((table.terminals terminal).waits source)) }
+        ensures { SlotsTell self.now (λ s table. result ≡ has_chunk ((table.terminals terminal).waits source)) }
     {
         let lane = &self.lanes[source];
         lane.has_waiting(terminal)
@@ -104,11 +104,11 @@ impl Slots {
         requires within { (terminal < length self.old) × (source < length self.old) }
         requires fits { length text.old + room ≤ MOST_TEXT_OCTETS }
         ensures legs { length self.new ≡ length self.old }
-        ensures text { Tells self.old (λ s table.
+        ensures text { SlotsTell self.old (λ s table.
             text.new ≡ text.old ++ joined (front room ((table.terminals terminal).waits source))) }
         ensures fits { length text.new ≤ length text.old + room }
         ensures utf8 { IsUtf8 text.old → IsUtf8 text.new }
-        ensures stands { Leads self.old self.new (fetched terminal source room) }
+        ensures stands { LeadsSlots self.old self.new (fetched terminal source room) }
     {
         let lane = &mut self.lanes[source];
         lane.take(terminal, room, text);

@@ -11,38 +11,38 @@ use Rattle.rtt_base.specs.declared.text_packets.TextPacket.{TextPacket}
 use Rattle.stream_spec.specs.Hearing.{text_list}
 use Rattle.stream_spec.specs.Lists.{In}
 use Rattle.stream_spec.proofs.Lists.{in_append}
-use Rattle.source_receiver.specs.declared.receivers.Seen.{Seen}
-use Rattle.source_receiver.specs.declared.receivers.Listed.{Listed}
+use Rattle.source_receiver.specs.declared.receivers.LastPacket.{LastPacket}
+use Rattle.source_receiver.specs.declared.receivers.ListedSource.{ListedSource}
 use Rattle.source_receiver.specs.declared.receivers.Receiver.{Receiver}
 use Rattle.source_receiver.specs.Stands.{Stands, IsSeen}
 use Rattle.source_receiver.specs.Steps.{new_since, older_since, texts_since}
 use Rattle.red_blocks.proofs.Viewing.{redundant_is, primary_is}
 use Rattle.std.proofs.lemmas.List.{append-nil}
 
-older_append : (seen : Option Seen) (stamp : ℕ) (xs ys : List TextBlock) → older_since seen stamp (xs ++ ys) ≡ older_since seen stamp xs ++ older_since seen stamp ys
-older_append seen stamp [] ys = refl
-older_append seen stamp (x ∷ xs) ys = ap (λ ts. new_since seen stamp x ++ ts) (older_append seen stamp xs ys) ∙ sym (append_assoc (new_since seen stamp x) (older_since seen stamp xs) (older_since seen stamp ys))
+older_append : (seen : Option LastPacket) (timestamp : ℕ) (xs ys : List TextBlock) → older_since seen timestamp (xs ++ ys) ≡ older_since seen timestamp xs ++ older_since seen timestamp ys
+older_append seen timestamp [] ys = refl
+older_append seen timestamp (x ∷ xs) ys = ap (λ ts. new_since seen timestamp x ++ ts) (older_append seen timestamp xs ys) ∙ sym (append_assoc (new_since seen timestamp x) (older_since seen timestamp xs) (older_since seen timestamp ys))
 
 -- the texts of one block more
-pub older_more : (seen : Option Seen) (stamp : ℕ) (xs : List TextBlock) (i : ℕ) (d : TextBlock) → i < length xs
-    → older_since seen stamp (take (i + 1) xs) ≡ older_since seen stamp (take i xs) ++ new_since seen stamp (get_or xs i d)
-older_more seen stamp xs i d l =
-    rw (add-one) (ap (older_since seen stamp) (take-suc xs i d l) ∙ (older_append seen stamp (take i xs) (get_or xs i d ∷ []) ∙ ap (λ ts. older_since seen stamp (take i xs) ++ ts) (append-nil (new_since seen stamp (get_or xs i d)))))
+pub older_more : (seen : Option LastPacket) (timestamp : ℕ) (xs : List TextBlock) (i : ℕ) (d : TextBlock) → i < length xs
+    → older_since seen timestamp (take (i + 1) xs) ≡ older_since seen timestamp (take i xs) ++ new_since seen timestamp (get_or xs i d)
+older_more seen timestamp xs i d l =
+    rw (add-one) (ap (older_since seen timestamp) (take-suc xs i d l) ∙ (older_append seen timestamp (take i xs) (get_or xs i d ∷ []) ∙ ap (λ ts. older_since seen timestamp (take i xs) ++ ts) (append-nil (new_since seen timestamp (get_or xs i d)))))
 
 -- a seat more
-pub seat_more : (items more : List Listed) (sources : List ℕ) (i : ℕ) (x : Listed) → more ≡ items ++ x ∷ [] → x.source ≡ get_or sources i 0 → x.seen ≡ None → i < length sources
-    → (map (λ y. y.source) items ≡ take i sources) × ((y : Listed) → In y items → y.seen ≡ None)
-    → (map (λ y. y.source) more ≡ take (i + 1) sources) × ((y : Listed) → In y more → y.seen ≡ None)
+pub seat_more : (items more : List ListedSource) (sources : List ℕ) (i : ℕ) (x : ListedSource) → more ≡ items ++ x ∷ [] → x.source ≡ get_or sources i 0 → x.seen ≡ None → i < length sources
+    → (map (λ y. y.source) items ≡ take i sources) × ((y : ListedSource) → In y items → y.seen ≡ None)
+    → (map (λ y. y.source) more ≡ take (i + 1) sources) × ((y : ListedSource) → In y more → y.seen ≡ None)
 seat_more items more sources i x m s n l before = (
-  ap (map (λ (y : Listed). y.source)) m ∙ (map_append items ∙ (ap (λ ys. ys ++ x.source ∷ []) before.0 ∙ (ap (λ k. take i sources ++ k ∷ []) s ∙ (sym (take-suc sources i 0 l) ∙ ap (λ k. take k sources) (sym add-one'))))),
-  (λ y j. elim (in_append y items (x ∷ []) (subst (λ (ys : List Listed). In y ys) m j)) [
+  ap (map (λ (y : ListedSource). y.source)) m ∙ (map_append items ∙ (ap (λ ys. ys ++ x.source ∷ []) before.0 ∙ (ap (λ k. take i sources ++ k ∷ []) s ∙ (sym (take-suc sources i 0 l) ∙ ap (λ k. take k sources) (sym add-one'))))),
+  (λ y j. elim (in_append y items (x ∷ []) (subst (λ (ys : List ListedSource). In y ys) m j)) [
     | inl k ↦ before.1 y k
-    | inr (inl q) ↦ ap (λ (z : Listed). z.seen) q ∙ n
+    | inr (inl q) ↦ ap (λ (z : ListedSource). z.seen) q ∙ n
     | inr (inr k) ↦ absurd k
   ]),
 )
   where
-    map_append : (ys : List Listed) → map (λ (y : Listed). y.source) (ys ++ x ∷ []) ≡ map (λ (y : Listed). y.source) ys ++ x.source ∷ []
+    map_append : (ys : List ListedSource) → map (λ (y : ListedSource). y.source) (ys ++ x ∷ []) ≡ map (λ (y : ListedSource). y.source) ys ++ x.source ∷ []
     map_append [] = refl
     map_append (y ∷ ys) = ap (λ zs. y.source ∷ zs) (map_append ys)
 
@@ -50,7 +50,7 @@ seat_more items more sources i x m s n l before = (
     add-one' = omega arith
 
 -- a receiver that took nothing
-pub stands_for_none : (r : Receiver) (sources : List ℕ) → map (λ l. l.source) r.listed.items ≡ sources → ((x : Listed) → In x r.listed.items → x.seen ≡ None) → length sources ≤ 64 → AllPairs (λ a b. a ≢ b) sources
+pub stands_for_none : (r : Receiver) (sources : List ℕ) → map (λ l. l.source) r.listed.items ≡ sources → ((x : ListedSource) → In x r.listed.items → x.seen ≡ None) → length sources ≤ 64 → AllPairs (λ a b. a ≢ b) sources
     → r.latest ≡ None → r.missing ≡ 0 → Stands r sources []
 stands_for_none r sources s n few differ l m = record {
   listed = s;
@@ -68,13 +68,13 @@ take_all (suc n) [] l = refl
 take_all (suc n) (x ∷ xs) l = ap (λ ys. x ∷ ys) (take_all n xs (omega arith))
 
 -- all seats are made
-pub all_seats : (items : List Listed) (sources : List ℕ) (n : ℕ) → map (λ y. y.source) items ≡ take n sources → length sources ≤ n → map (λ y. y.source) items ≡ sources
+pub all_seats : (items : List ListedSource) (sources : List ℕ) (n : ℕ) → map (λ y. y.source) items ≡ take n sources → length sources ≤ n → map (λ y. y.source) items ≡ sources
 all_seats items sources n e l = e ∙ take_all n sources l
 
-pub texts_are : (seen : Option Seen) (p : TextPacket) (rest : List TextBlock) (b : TextBlock) → p.blocks ≡ rest ++ b ∷ [] → older_since seen p.stamp rest ++ text_list b.text ≡ texts_since seen p
+pub texts_are : (seen : Option LastPacket) (p : TextPacket) (rest : List TextBlock) (b : TextBlock) → p.blocks ≡ rest ++ b ∷ [] → older_since seen p.timestamp rest ++ text_list b.text ≡ texts_since seen p
 texts_are seen p rest b e =
-    ap (λ bs. older_since seen p.stamp bs ++ text_list b.text) (sym (ap redundant e ∙ redundant_is rest b))
-    ∙ ap (λ t. older_since seen p.stamp (redundant p.blocks) ++ text_list t) (sym (ap primary_text e ∙ primary_is rest b))
+    ap (λ bs. older_since seen p.timestamp bs ++ text_list b.text) (sym (ap redundant e ∙ redundant_is rest b))
+    ∙ ap (λ t. older_since seen p.timestamp (redundant p.blocks) ++ text_list t) (sym (ap primary_text e ∙ primary_is rest b))
 
 -- ---- octets that are appended
 
@@ -84,13 +84,13 @@ on_ok_then (Ok x) f p = f p
 on_ok_then (Err x) f p = tt
 
 -- the octets of one block more
-pub octets_more : (seen : Option Seen) (stamp : ℕ) (xs : List TextBlock) (i : ℕ) (b : TextBlock) (initial out more : List ℕ) → b ≡ get_or xs i b → i < length xs
-    → out ≡ initial ++ concat (older_since seen stamp (take i xs)) → more ≡ out ++ concat (new_since seen stamp b) → more ≡ initial ++ concat (older_since seen stamp (take (i + 1) xs))
-octets_more seen stamp xs i b initial out more is within before e =
-    e ∙ (ap (λ (t : List ℕ). t ++ concat (new_since seen stamp b)) before
-    ∙ (append_assoc initial (concat (older_since seen stamp (take i xs))) (concat (new_since seen stamp b))
-    ∙ ap (λ (t : List ℕ). initial ++ t) (sym (concat-append (older_since seen stamp (take i xs)) (new_since seen stamp b))
-    ∙ ap concat (ap (λ (x : TextBlock). older_since seen stamp (take i xs) ++ new_since seen stamp x) is ∙ sym (older_more seen stamp xs i b within)))))
+pub octets_more : (seen : Option LastPacket) (timestamp : ℕ) (xs : List TextBlock) (i : ℕ) (b : TextBlock) (initial out more : List ℕ) → b ≡ get_or xs i b → i < length xs
+    → out ≡ initial ++ concat (older_since seen timestamp (take i xs)) → more ≡ out ++ concat (new_since seen timestamp b) → more ≡ initial ++ concat (older_since seen timestamp (take (i + 1) xs))
+octets_more seen timestamp xs i b initial out more is within before e =
+    e ∙ (ap (λ (t : List ℕ). t ++ concat (new_since seen timestamp b)) before
+    ∙ (append_assoc initial (concat (older_since seen timestamp (take i xs))) (concat (new_since seen timestamp b))
+    ∙ ap (λ (t : List ℕ). initial ++ t) (sym (concat-append (older_since seen timestamp (take i xs)) (new_since seen timestamp b))
+    ∙ ap concat (ap (λ (x : TextBlock). older_since seen timestamp (take i xs) ++ new_since seen timestamp x) is ∙ sym (older_more seen timestamp xs i b within)))))
 
 pub concat_text : (t : List ℕ) → concat (text_list t) ≡ t
 concat_text [] = refl

@@ -7,7 +7,7 @@ use Rattle.std.proofs.lemmas.Bool.{cases_lt, cases_eq, true≢false, eq-eqb, eqb
 use Rattle.std.proofs.lemmas.List.Sums.{position_or_len_is, fails_before_first, passes_at_first}
 use Rattle.rtt_base.specs.declared.blocks.TextBlock.{TextBlock}
 use Rattle.rtt_base.specs.declared.text_packets.TextPacket.{TextPacket}
-use Rattle.rtt_base.specs.Stamps.{is_after}
+use Rattle.rtt_base.specs.Timestamps.{is_after}
 use Rattle.std.proofs.lemmas.List.{length-map}
 use Rattle.wire_spec.specs.Packets.{redundant, primary_text, back}
 use Rattle.stream_spec.specs.Lists.{In}
@@ -15,8 +15,8 @@ use Rattle.stream_spec.specs.Numbering.{Numbered, has_number, RisingNumbers}
 use Rattle.stream_spec.specs.Hearing.{missing, missing_between, missing_before, is_new, older_texts, text_list, marker, oldest_offset, first_number_of, before_it, adds_marker, adds_texts, heard_by}
 use Rattle.stream_spec.proofs.Lists.{in_append, in_right}
 use Rattle.stream_spec.proofs.Taking.{heard_by_more, missing_after, last_is, none_is, last_stays, last_now}
-use Rattle.source_receiver.specs.declared.receivers.Seen.{Seen}
-use Rattle.source_receiver.specs.declared.receivers.Listed.{Listed}
+use Rattle.source_receiver.specs.declared.receivers.LastPacket.{LastPacket}
+use Rattle.source_receiver.specs.declared.receivers.ListedSource.{ListedSource}
 use Rattle.source_receiver.specs.declared.receivers.Receiver.{Receiver}
 use Rattle.source_receiver.specs.Stands.{Stands, IsCount, IsSeen, first_from, used_packet}
 use Rattle.std.specs.Prelude.{◌&&◌}
@@ -25,7 +25,7 @@ use Rattle.std.proofs.lemmas.List.Elements.{at_read}
 use Rattle.std.proofs.lemmas.List.Folds.{concat-append}
 use Rattle.stream_spec.specs.Hearing.{is_packet_of}
 use Rattle.source_receiver.specs.declared.source_texts.SourceText.{SourceText}
-use Rattle.source_receiver.specs.Each.{one_if, marks_by, marks_from, AreHeard, IsHeardOf}
+use Rattle.source_receiver.specs.Each.{one_if, markers_by, markers_from, AreHeard, IsHeardOf}
 use Rattle.source_receiver.specs.Steps as steps
 use Rattle.source_receiver.specs.Steps.{missing_up_to, missing_then, is_new_since, is_marked_since, older_since, texts_since, told_since}
 
@@ -70,7 +70,7 @@ rising_next [] b r f = ((λ y i. absurd i), tt)
 rising_next (u ∷ us) b r f = (λ y i. elim (in_append y us (b ∷ []) i) [ inl j ↦ r.0 y j | inr (inl q) ↦ omega (arith, f u (inl refl), ap (λ (z : Numbered). z.number) q) | inr (inr j) ↦ absurd j ], rising_next us b r.1 (λ v i. f v (inr i)))
 
 -- ---- what is kept of a source
-seen_other : (us : List Numbered) (b : Numbered) (s : ℕ) (seen : Option Seen) → (b.packet.source ≡ s → ⊥) → IsSeen us s seen → IsSeen (us ++ b ∷ []) s seen
+seen_other : (us : List Numbered) (b : Numbered) (s : ℕ) (seen : Option LastPacket) → (b.packet.source ≡ s → ⊥) → IsSeen us s seen → IsSeen (us ++ b ∷ []) s seen
 seen_other us b s None other k = λ u i q. elim (in_append u us (b ∷ []) i) [ inl j ↦ k u j q | inr (inl e) ↦ other (sym (ap (λ (z : Numbered). z.packet.source) e) ∙ q) | inr (inr j) ↦ absurd j ]
 seen_other us b s (Some x) other k = (k.0, last_stays s us k.0 b other k.1, k.2, k.3)
 
@@ -79,24 +79,24 @@ count_sum : (us : List Numbered) (b : Numbered) (missing : ℕ) → IsCount (us 
 count_sum [] b missing k = let n : b.number ≡ k.0 = cc k.1 in omega (arith, k.2, n)
 count_sum (u ∷ us) b missing k = let n : b.number ≡ k.0 = cc k.1 in omega (arith, k.2, n, length-append us (b ∷ []))
 
-seen_own : (us : List Numbered) (b : Numbered) (s missing stamp : ℕ) → b.packet.source ≡ s → stamp ≡ b.packet.stamp → IsCount (us ++ b ∷ []) (Some b.number) missing
-    → IsSeen (us ++ b ∷ []) s (Some (record { stamp = stamp; missing = missing }))
-seen_own us b s missing stamp q e k = (b, last_now s us b q, e, count_sum us b missing k)
+seen_own : (us : List Numbered) (b : Numbered) (s missing timestamp : ℕ) → b.packet.source ≡ s → timestamp ≡ b.packet.timestamp → IsCount (us ++ b ∷ []) (Some b.number) missing
+    → IsSeen (us ++ b ∷ []) s (Some (record { timestamp = timestamp; missing = missing }))
+seen_own us b s missing timestamp q e k = (b, last_now s us b q, e, count_sum us b missing k)
 
 -- ---- what b adds
 -- `seen` tells the same of the source as the packet before b
-new_same : (us : List Numbered) (b : Numbered) (seen : Option Seen) (stamp : ℕ) → IsSeen us b.packet.source seen → is_new_since seen stamp ≡ is_new (before_it us b) stamp
-new_same us b None stamp k = ap (λ (o : Option Numbered). is_new o stamp) (sym (none_is b.packet.source us k))
-new_same us b (Some x) stamp k = ap (is_after stamp) k.2 ∙ ap (λ (o : Option Numbered). is_new o stamp) (sym (last_is b.packet.source us k.0 k.1))
+new_same : (us : List Numbered) (b : Numbered) (seen : Option LastPacket) (timestamp : ℕ) → IsSeen us b.packet.source seen → is_new_since seen timestamp ≡ is_new (before_it us b) timestamp
+new_same us b None timestamp k = ap (λ (o : Option Numbered). is_new o timestamp) (sym (none_is b.packet.source us k))
+new_same us b (Some x) timestamp k = ap (is_after timestamp) k.2 ∙ ap (λ (o : Option Numbered). is_new o timestamp) (sym (last_is b.packet.source us k.0 k.1))
 
-older_same : (us : List Numbered) (b : Numbered) (seen : Option Seen) (stamp : ℕ) (bs : List TextBlock) → IsSeen us b.packet.source seen → older_since seen stamp bs ≡ older_texts (before_it us b) stamp bs
-older_same us b seen stamp [] k = refl
-older_same us b seen stamp (c ∷ cs) k = rw (new_same us b seen (back stamp c.offset) k, older_same us b seen stamp cs k) refl
+older_same : (us : List Numbered) (b : Numbered) (seen : Option LastPacket) (timestamp : ℕ) (bs : List TextBlock) → IsSeen us b.packet.source seen → older_since seen timestamp bs ≡ older_texts (before_it us b) timestamp bs
+older_same us b seen timestamp [] k = refl
+older_same us b seen timestamp (c ∷ cs) k = rw (new_same us b seen (back timestamp c.offset) k, older_same us b seen timestamp cs k) refl
 
-texts_same : (us : List Numbered) (time number : ℕ) (p : TextPacket) (seen : Option Seen) → IsSeen us p.source seen → texts_since seen p ≡ adds_texts us (used_packet time number p)
-texts_same us time number p seen k = ap (λ ts. ts ++ text_list (primary_text p.blocks)) (older_same us (used_packet time number p) seen p.stamp (redundant p.blocks) k)
+texts_same : (us : List Numbered) (time number : ℕ) (p : TextPacket) (seen : Option LastPacket) → IsSeen us p.source seen → texts_since seen p ≡ adds_texts us (used_packet time number p)
+texts_same us time number p seen k = ap (λ ts. ts ++ text_list (primary_text p.blocks)) (older_same us (used_packet time number p) seen p.timestamp (redundant p.blocks) k)
 
-missing_same : (us : List Numbered) (b : Numbered) (seen : Option Seen) (missing : ℕ) → RisingNumbers us → ((u : Numbered) → In u us → u.number < b.number) → IsCount (us ++ b ∷ []) (Some b.number) missing
+missing_same : (us : List Numbered) (b : Numbered) (seen : Option LastPacket) (missing : ℕ) → RisingNumbers us → ((u : Numbered) → In u us → u.number < b.number) → IsCount (us ++ b ∷ []) (Some b.number) missing
     → IsSeen us b.packet.source seen → missing - missing_then seen ≡ missing_before (has_number us) (first_number_of us b) (before_it us b) b
 missing_same us b None m r f c k = none us r f c ∙ ap (λ (o : Option Numbered). missing_before (has_number us) (first_number_of us b) o b) (sym (none_is b.packet.source us k))
   where
@@ -127,19 +127,19 @@ missing_same us b (Some x) m r f c k =
         let own = k.3 in
         omega (arith, a, same, len, first, sum, own)
 
-marks_same : (us : List Numbered) (time number : ℕ) (p : TextPacket) (seen : Option Seen) (m : ℕ) → RisingNumbers us → ((u : Numbered) → In u us → u.number < number)
-    → IsCount (us ++ used_packet time number p ∷ []) (Some number) m → IsSeen us p.source seen → is_marked_since seen m p.stamp (redundant p.blocks) ≡ adds_marker us (used_packet time number p)
-marks_same us time number p seen m r f c k =
+markers_same : (us : List Numbered) (time number : ℕ) (p : TextPacket) (seen : Option LastPacket) (m : ℕ) → RisingNumbers us → ((u : Numbered) → In u us → u.number < number)
+    → IsCount (us ++ used_packet time number p ∷ []) (Some number) m → IsSeen us p.source seen → is_marked_since seen m p.timestamp (redundant p.blocks) ≡ adds_marker us (used_packet time number p)
+markers_same us time number p seen m r f c k =
     let b : Numbered = used_packet time number p in
-    rw (missing_same us (used_packet time number p) seen m r f c k, new_same us (used_packet time number p) seen (back p.stamp (oldest_offset (redundant p.blocks))) k) refl
+    rw (missing_same us (used_packet time number p) seen m r f c k, new_same us (used_packet time number p) seen (back p.timestamp (oldest_offset (redundant p.blocks))) k) refl
 
 -- ---- places
-prefix_map : (s : ℕ) (items : List Listed) → prefix_len (λ l. not (l.source == s)) items ≡ prefix_len (λ n. not (n == s)) (map (λ l. l.source) items)
+prefix_map : (s : ℕ) (items : List ListedSource) → prefix_len (λ l. not (l.source == s)) items ≡ prefix_len (λ n. not (n == s)) (map (λ l. l.source) items)
 prefix_map s [] = refl
 prefix_map s (l ∷ items) = ap (λ n. cond (not (l.source == s)) (1 + n) 0) (prefix_map s items)
 
-pub place_map : (s : ℕ) (items : List Listed) → position (λ l. l.source == s) items ≡ position (λ n. n == s) (map (λ l. l.source) items)
-place_map s items = rw (prefix_map s items, length-map items (λ (l : Listed). l.source)) refl
+pub place_map : (s : ℕ) (items : List ListedSource) → position (λ l. l.source == s) items ≡ position (λ n. n == s) (map (λ l. l.source) items)
+place_map s items = rw (prefix_map s items, length-map items (λ (l : ListedSource). l.source)) refl
 
 -- the place of a source
 pub record IsPlace (s : ℕ) (xs : List ℕ) (k : ℕ) : Type 0 where
@@ -172,36 +172,36 @@ place_at s xs k d l q =
     rw (p, lt-ltb k (length xs) l) refl
 
 -- ---- seats
-in_at : (items : List Listed) (k : ℕ) (l : Listed) → k < length items → l ≡ get_or items k l → In l items
+in_at : (items : List ListedSource) (k : ℕ) (l : ListedSource) → k < length items → l ≡ get_or items k l → In l items
 in_at [] k l m e = absurd (omega arith)
 in_at (x ∷ items) zero l m e = inl e
 in_at (x ∷ items) (suc k) l m e = inr (in_at items k l (omega arith) e)
 
-source_at : (items : List Listed) (k : ℕ) (l : Listed) → k < length items → l ≡ get_or items k l → get_or (map (λ (x : Listed). x.source) items) k 0 ≡ l.source
+source_at : (items : List ListedSource) (k : ℕ) (l : ListedSource) → k < length items → l ≡ get_or items k l → get_or (map (λ (x : ListedSource). x.source) items) k 0 ≡ l.source
 source_at [] k l m e = absurd (omega arith)
-source_at (x ∷ items) zero l m e = ap (λ (y : Listed). y.source) (sym e)
+source_at (x ∷ items) zero l m e = ap (λ (y : ListedSource). y.source) (sym e)
 source_at (x ∷ items) (suc k) l m e = source_at items k l (omega arith) e
 
-place_in : (items : List Listed) (l : Listed) → In l items → (k : ℕ) × (k < length items) × (get_or (map (λ (x : Listed). x.source) items) k 0 ≡ l.source)
+place_in : (items : List ListedSource) (l : ListedSource) → In l items → (k : ℕ) × (k < length items) × (get_or (map (λ (x : ListedSource). x.source) items) k 0 ≡ l.source)
 place_in [] l i = absurd i
-place_in (x ∷ items) l (inl e) = (0, omega arith, ap (λ (y : Listed). y.source) (sym e))
+place_in (x ∷ items) l (inl e) = (0, omega arith, ap (λ (y : ListedSource). y.source) (sym e))
 place_in (x ∷ items) l (inr i) = let r = place_in items l i in (suc r.0, omega (arith, r.1), r.2)
 
 -- what stands in a list after a write at k
-in_set : (items : List Listed) (k : ℕ) (x l : Listed) → In l (set items k x)
-    → (l ≡ x) ⊎ (In l items × ((j : ℕ) × (j < length items) × (j ≢ k) × (get_or (map (λ (y : Listed). y.source) items) j 0 ≡ l.source)))
+in_set : (items : List ListedSource) (k : ℕ) (x l : ListedSource) → In l (set items k x)
+    → (l ≡ x) ⊎ (In l items × ((j : ℕ) × (j < length items) × (j ≢ k) × (get_or (map (λ (y : ListedSource). y.source) items) j 0 ≡ l.source)))
 in_set [] k x l i = absurd i
 in_set (y ∷ items) zero x l (inl e) = inl e
 in_set (y ∷ items) zero x l (inr i) = let r = place_in items l i in inr (inr i, (suc r.0, omega (arith, r.1), (λ e. omega (arith, e)), r.2))
-in_set (y ∷ items) (suc k) x l (inl e) = inr (inl e, (0, omega arith, (λ q. omega (arith, q)), ap (λ (z : Listed). z.source) (sym e)))
+in_set (y ∷ items) (suc k) x l (inl e) = inr (inl e, (0, omega arith, (λ q. omega (arith, q)), ap (λ (z : ListedSource). z.source) (sym e)))
 in_set (y ∷ items) (suc k) x l (inr i) = elim (in_set items k x l i) [
   | inl e ↦ inl e
   | inr r ↦ inr (inr r.0, (suc r.1.0, omega (arith, r.1.1), (λ e. r.1.2 (omega (arith, e))), r.1.3))
 ]
 
-sources_set : (items : List Listed) (k : ℕ) (x l : Listed) → l ≡ get_or items k l → x.source ≡ l.source → map (λ (y : Listed). y.source) (set items k x) ≡ map (λ (y : Listed). y.source) items
+sources_set : (items : List ListedSource) (k : ℕ) (x l : ListedSource) → l ≡ get_or items k l → x.source ≡ l.source → map (λ (y : ListedSource). y.source) (set items k x) ≡ map (λ (y : ListedSource). y.source) items
 sources_set [] k x l e s = refl
-sources_set (y ∷ items) zero x l e s = ap (λ n. n ∷ map (λ (z : Listed). z.source) items) (s ∙ ap (λ (z : Listed). z.source) e)
+sources_set (y ∷ items) zero x l e s = ap (λ n. n ∷ map (λ (z : ListedSource). z.source) items) (s ∙ ap (λ (z : ListedSource). z.source) e)
 sources_set (y ∷ items) (suc k) x l e s = ap (λ ns. y.source ∷ ns) (sources_set items k x l e s)
 
 -- ---- texts of one place
@@ -211,14 +211,14 @@ when_at k None texts = []
 when_at k (Some place) texts = if place == k then texts else []
 
 -- ---- markers
-abbrev pub mark_at : ℕ → Option ℕ → Bool → ℕ
-mark_at i None m = 0
-mark_at i (Some place) m = one_if ((place == i) && m)
+abbrev pub marker_at : ℕ → Option ℕ → Bool → ℕ
+marker_at i None m = 0
+marker_at i (Some place) m = one_if ((place == i) && m)
 
-pub marks_more : (before us : List Numbered) (u : Numbered) (s : ℕ) → marks_from before (us ++ u ∷ []) s ≡ marks_from before us s + one_if (is_packet_of s u && adds_marker (before ++ us) u)
-marks_more before [] u s = rw (append-nil before) (omega arith)
-marks_more before (v ∷ us) u s =
-    let more = marks_more (before ++ v ∷ []) us u s in
+pub markers_more : (before us : List Numbered) (u : Numbered) (s : ℕ) → markers_from before (us ++ u ∷ []) s ≡ markers_from before us s + one_if (is_packet_of s u && adds_marker (before ++ us) u)
+markers_more before [] u s = rw (append-nil before) (omega arith)
+markers_more before (v ∷ us) u s =
+    let more = markers_more (before ++ v ∷ []) us u s in
     let same : one_if (is_packet_of s u && adds_marker ((before ++ v ∷ []) ++ us) u) ≡ one_if (is_packet_of s u && adds_marker (before ++ v ∷ us) u) =
     ap (λ (l : List Numbered). one_if (is_packet_of s u && adds_marker l u)) (append_assoc before (v ∷ []) us) in
     omega (arith, more, same)
@@ -246,7 +246,7 @@ module _ (r next : Receiver) (sources : List ℕ) (us : List Numbered) (time num
 
   pub stands_unlisted : position (λ n. n == p.source) sources ≡ None → Stands next sources (us ++ used_packet time number p ∷ [])
   stands_unlisted none = record {
-    listed = ap (λ v. map (λ (l : Listed). l.source) v.items) k.listed ∙ s.listed;
+    listed = ap (λ v. map (λ (l : ListedSource). l.source) v.items) k.listed ∙ s.listed;
     few = s.few;
     differ = s.differ;
     rising = rising;
@@ -255,15 +255,15 @@ module _ (r next : Receiver) (sources : List ℕ) (us : List Numbered) (time num
         let j : In l r.listed.items = subst (λ v. In l v.items) k.listed i in
         let at = place_in r.listed.items l j in
         let same : get_or sources at.0 0 ≡ l.source = sym (ap (λ xs. get_or xs at.0 0) s.listed) ∙ at.2 in
-        let n : length sources ≡ length r.listed.items = sym (ap length s.listed) ∙ length-map r.listed.items (λ (l : Listed). l.source) in
+        let n : length sources ≡ length r.listed.items = sym (ap length s.listed) ∙ length-map r.listed.items (λ (l : ListedSource). l.source) in
         seen_other us (used_packet time number p) l.source l.seen (λ q. place_none p.source sources at.0 none (omega (arith, at.1, n)) (same ∙ sym q)) (s.seen l j);
   }
 
   pub no_place : position (λ x. x.source == p.source) next.listed.items ≡ None → position (λ n. n == p.source) sources ≡ None
-  no_place e = ap (position (λ n. n == p.source)) (sym s.listed) ∙ (sym (place_map p.source r.listed.items) ∙ (ap (λ v. position (λ (x : Listed). x.source == p.source) v.items) (sym k.listed) ∙ e))
+  no_place e = ap (position (λ n. n == p.source)) (sym s.listed) ∙ (sym (place_map p.source r.listed.items) ∙ (ap (λ v. position (λ (x : ListedSource). x.source == p.source) v.items) (sym k.listed) ∙ e))
 
   -- what is kept at the place of the packet's source
-  pub record IsSeat (place : ℕ) (l : Listed) : Type 0 where
+  pub record IsSeat (place : ℕ) (l : ListedSource) : Type 0 where
     pub position_is : position (λ n. n == p.source) sources ≡ Some place
     pub within : place < length r.listed.items
     pub small : place < 64
@@ -271,12 +271,12 @@ module _ (r next : Receiver) (sources : List ℕ) (us : List Numbered) (time num
     pub at : l ≡ get_or r.listed.items place l
     pub own : l.source ≡ p.source
 
-  pub seat : (place : ℕ) (l : Listed) → position (λ x. x.source == p.source) next.listed.items ≡ Some place → l ≡ get_or next.listed.items place l → IsSeat place l
+  pub seat : (place : ℕ) (l : ListedSource) → position (λ x. x.source == p.source) next.listed.items ≡ Some place → l ≡ get_or next.listed.items place l → IsSeat place l
   seat place l e at =
       let q : position (λ n. n == p.source) sources ≡ Some place =
-      ap (position (λ n. n == p.source)) (sym s.listed) ∙ (sym (place_map p.source r.listed.items) ∙ (ap (λ v. position (λ (x : Listed). x.source == p.source) v.items) (sym k.listed) ∙ e)) in
+      ap (position (λ n. n == p.source)) (sym s.listed) ∙ (sym (place_map p.source r.listed.items) ∙ (ap (λ v. position (λ (x : ListedSource). x.source == p.source) v.items) (sym k.listed) ∙ e)) in
       let w = place_some p.source sources place q in
-      let n : length sources ≡ length r.listed.items = sym (ap length s.listed) ∙ length-map r.listed.items (λ (l : Listed). l.source) in
+      let n : length sources ≡ length r.listed.items = sym (ap length s.listed) ∙ length-map r.listed.items (λ (l : ListedSource). l.source) in
       let here : l ≡ get_or r.listed.items place l = at ∙ ap (λ v. get_or v.items place l) k.listed in
       let inside : place < length r.listed.items = omega (arith, w.within, n) in
       record {
@@ -288,22 +288,22 @@ module _ (r next : Receiver) (sources : List ℕ) (us : List Numbered) (time num
         own = sym (source_at r.listed.items place l inside here) ∙ (ap (λ xs. get_or xs place 0) s.listed ∙ w.is);
       }
 
-  pub seen_there : (place : ℕ) (l : Listed) → IsSeat place l → IsSeen us p.source l.seen
+  pub seen_there : (place : ℕ) (l : ListedSource) → IsSeat place l → IsSeen us p.source l.seen
   seen_there place l t = subst (λ (n : ℕ). IsSeen us n l.seen) t.own (s.seen l t.is_in)
 
-  pub stands_listed : (place : ℕ) (l x : Listed) (last : Receiver) → IsSeat place l → last.listed.items ≡ set next.listed.items place x → x.source ≡ l.source
-      → x.seen ≡ Some (record { stamp = p.stamp; missing = next.missing }) → last.latest ≡ next.latest → last.missing ≡ next.missing → Stands last sources (us ++ used_packet time number p ∷ [])
+  pub stands_listed : (place : ℕ) (l x : ListedSource) (last : Receiver) → IsSeat place l → last.listed.items ≡ set next.listed.items place x → x.source ≡ l.source
+      → x.seen ≡ Some (record { timestamp = p.timestamp; missing = next.missing }) → last.latest ≡ next.latest → last.missing ≡ next.missing → Stands last sources (us ++ used_packet time number p ∷ [])
   stands_listed place l x last t e q n a m = record {
-    listed = ap (map (λ (y : Listed). y.source)) items ∙ (sources_set r.listed.items place x l t.at q ∙ s.listed);
+    listed = ap (map (λ (y : ListedSource). y.source)) items ∙ (sources_set r.listed.items place x l t.at q ∙ s.listed);
     few = s.few;
     differ = s.differ;
     rising = rising;
     count = subst (λ o. IsCount (us ++ used_packet time number p ∷ []) o last.missing) (sym (a ∙ k.latest)) (subst (IsCount (us ++ used_packet time number p ∷ []) (Some number)) (sym m) count);
-    seen = λ y i. elim (in_set r.listed.items place x y (subst (λ (ys : List Listed). In y ys) items i)) [
-      | inl w ↦ subst (λ (z : Listed). IsSeen (us ++ used_packet time number p ∷ []) z.source z.seen) (sym w)
-          (subst (IsSeen (us ++ used_packet time number p ∷ []) x.source) (sym n) (seen_own us (used_packet time number p) x.source next.missing p.stamp (sym (q ∙ t.own)) refl count))
+    seen = λ y i. elim (in_set r.listed.items place x y (subst (λ (ys : List ListedSource). In y ys) items i)) [
+      | inl w ↦ subst (λ (z : ListedSource). IsSeen (us ++ used_packet time number p ∷ []) z.source z.seen) (sym w)
+          (subst (IsSeen (us ++ used_packet time number p ∷ []) x.source) (sym n) (seen_own us (used_packet time number p) x.source next.missing p.timestamp (sym (q ∙ t.own)) refl count))
       | inr w ↦
-          let n2 : length sources ≡ length r.listed.items = sym (ap length s.listed) ∙ length-map r.listed.items (λ (l : Listed). l.source) in
+          let n2 : length sources ≡ length r.listed.items = sym (ap length s.listed) ∙ length-map r.listed.items (λ (l : ListedSource). l.source) in
           let there = place_some p.source sources place t.position_is in
           let here : get_or sources w.1.0 0 ≡ y.source = sym (ap (λ xs. get_or xs w.1.0 0) s.listed) ∙ w.1.3 in
           seen_other us (used_packet time number p) y.source y.seen (λ z. apart w.1.0 place (omega (arith, w.1.1, n2)) there.within w.1.2 (here ∙ (sym z ∙ sym there.is))) (s.seen y w.0)
@@ -316,10 +316,10 @@ module _ (r next : Receiver) (sources : List ℕ) (us : List Numbered) (time num
       apart : (i j : ℕ) → i < length sources → j < length sources → i ≢ j → get_or sources i 0 ≡ get_or sources j 0 → ⊥
       apart i j li lj ne z = elim (cases_lt i j) [ inl lt ↦ s.differ i j 0 lt lj z | inr ge ↦ s.differ j i 0 (omega (arith, ne)) li (sym z) ]
 
-  pub marks : (place : ℕ) (l : Listed) → IsSeat place l → is_marked_since l.seen next.missing p.stamp (redundant p.blocks) ≡ adds_marker us (used_packet time number p)
-  marks place l t = marks_same us time number p l.seen next.missing s.rising above count (seen_there place l t)
+  pub markers : (place : ℕ) (l : ListedSource) → IsSeat place l → is_marked_since l.seen next.missing p.timestamp (redundant p.blocks) ≡ adds_marker us (used_packet time number p)
+  markers place l t = markers_same us time number p l.seen next.missing s.rising above count (seen_there place l t)
 
-  pub texts_there : (place : ℕ) (l : Listed) → IsSeat place l → texts_since l.seen p ≡ adds_texts us (used_packet time number p)
+  pub texts_there : (place : ℕ) (l : ListedSource) → IsSeat place l → texts_since l.seen p ≡ adds_texts us (used_packet time number p)
   texts_there place l t = texts_same us time number p l.seen (seen_there place l t)
 
   -- what was given is what the packet adds
@@ -345,19 +345,19 @@ module _ (r next : Receiver) (sources : List ℕ) (us : List Numbered) (time num
   -- what was heard of a source, and what the packet adds to it
   pub each_one : (old new : SourceText) (i : ℕ) (place : Option ℕ) (m : Bool) (texts : List (List ℕ)) → i < length sources → place ≡ position (λ n. n == p.source) sources
       → ((j : ℕ) → place ≡ Some j → (m ≡ adds_marker us (used_packet time number p)) × (texts ≡ adds_texts us (used_packet time number p)))
-      → IsHeardOf (get_or sources i 0) us old → new.text ≡ old.text ++ concat (when_at i place ((if m then marker ∷ [] else []) ++ texts)) → new.marks ≡ old.marks + mark_at i place m
+      → IsHeardOf (get_or sources i 0) us old → new.text ≡ old.text ++ concat (when_at i place ((if m then marker ∷ [] else []) ++ texts)) → new.markers ≡ old.markers + marker_at i place m
       → IsHeardOf (get_or sources i 0) (us ++ used_packet time number p ∷ []) new
   each_one old new i place m texts l e g h t n = record {
     text = t ∙ (ap (λ (o : List ℕ). o ++ concat (when_at i place ((if m then marker ∷ [] else []) ++ texts))) h.text
         ∙ (sym (concat-append (heard_by us (get_or sources i 0)) (when_at i place ((if m then marker ∷ [] else []) ++ texts))) ∙ ap concat (sym (heard_at i place m texts l e g))));
-    marks = n ∙ (ap (λ (k : ℕ). k + mark_at i place m) h.marks ∙ (ap (λ (k : ℕ). marks_by us (get_or sources i 0) + k) once ∙ sym (marks_more [] us (used_packet time number p) (get_or sources i 0))));
+    markers = n ∙ (ap (λ (k : ℕ). k + marker_at i place m) h.markers ∙ (ap (λ (k : ℕ). markers_by us (get_or sources i 0) + k) once ∙ sym (markers_more [] us (used_packet time number p) (get_or sources i 0))));
   }
     where
-      none_there : (p.source ≡ get_or sources i 0 → ⊥) → (o : Option ℕ) → o ≡ position (λ n. n == p.source) sources → mark_at i o m ≡ 0
+      none_there : (p.source ≡ get_or sources i 0 → ⊥) → (o : Option ℕ) → o ≡ position (λ n. n == p.source) sources → marker_at i o m ≡ 0
       none_there ne None q = refl
       none_there ne (Some j) q = rw (ne_eqb j i (λ w. ne (sym (place_some p.source sources j (sym q)).is ∙ ap (λ n. get_or sources n 0) w))) refl
 
-      once : mark_at i place m ≡ one_if (is_packet_of (get_or sources i 0) (used_packet time number p) && adds_marker us (used_packet time number p))
+      once : marker_at i place m ≡ one_if (is_packet_of (get_or sources i 0) (used_packet time number p) && adds_marker us (used_packet time number p))
       once = elim (cases_eq p.source (get_or sources i 0)) [
         | inl q ↦
             let here : place ≡ Some i = e ∙ place_at p.source sources i s.differ l (sym q) in
@@ -372,19 +372,19 @@ module _ (r next : Receiver) (sources : List ℕ) (us : List Numbered) (time num
       each_one t t i None false [] l (sym none) (λ j q. cc q) (are i d l) (sym (append-nil t.text)) (omega arith)
 
   -- of a packet of a listed source, whose text is told more
-  pub each_listed : (texts : List SourceText) (place : ℕ) (l : Listed) (x told : SourceText) → IsSeat place l → length texts ≡ length r.listed.items → x ≡ get_or texts place x → AreHeard sources us texts
-      → told.text ≡ x.text ++ concat (told_since l.seen next.missing p) → told.marks ≡ x.marks + one_if (is_marked_since l.seen next.missing p.stamp (redundant p.blocks))
+  pub each_listed : (texts : List SourceText) (place : ℕ) (l : ListedSource) (x told : SourceText) → IsSeat place l → length texts ≡ length r.listed.items → x ≡ get_or texts place x → AreHeard sources us texts
+      → told.text ≡ x.text ++ concat (told_since l.seen next.missing p) → told.markers ≡ x.markers + one_if (is_marked_since l.seen next.missing p.timestamp (redundant p.blocks))
       → AreHeard sources (us ++ used_packet time number p ∷ []) (set texts place told)
-  each_listed texts place l x told t n at are text mark i d below = elim (cases_eq place i) [ inl q ↦ here q | inr ne ↦ there ne ]
+  each_listed texts place l x told t n at are text marker_is i d below = elim (cases_eq place i) [ inl q ↦ here q | inr ne ↦ there ne ]
     where
       m : Bool
-      m = is_marked_since l.seen next.missing p.stamp (redundant p.blocks)
+      m = is_marked_since l.seen next.missing p.timestamp (redundant p.blocks)
 
       within : place < length texts
       within = omega (arith, t.within, n)
 
       tells : (j : ℕ) → Some place ≡ Some j → (m ≡ adds_marker us (used_packet time number p)) × (texts_since l.seen p ≡ adds_texts us (used_packet time number p))
-      tells j q = (marks place l t, texts_there place l t)
+      tells j q = (markers place l t, texts_there place l t)
 
       old_is : get_or texts place d ≡ x
       old_is = at_read texts (λ (y : SourceText). y ≡ x) place x within at refl d
@@ -395,7 +395,7 @@ module _ (r next : Receiver) (sources : List ℕ) (us : List Numbered) (time num
           let is : told ≡ get_or (set texts place told) i d = sym (get_or-set_same texts place told d within) ∙ ap (λ (k : ℕ). get_or (set texts place told) k d) q in
           subst (λ (y : SourceText). IsHeardOf (get_or sources i 0) (us ++ used_packet time number p ∷ []) y) is
           (each_one x told i (Some place) m (texts_since l.seen p) below (sym t.position_is) tells (subst (λ (y : SourceText). IsHeardOf (get_or sources i 0) us y) was (are i d below))
-          (rw (eq-eqb place i q) text) (rw (eq-eqb place i q) mark))
+          (rw (eq-eqb place i q) text) (rw (eq-eqb place i q) marker_is))
 
       there : (place ≡ i → ⊥) → IsHeardOf (get_or sources i 0) (us ++ used_packet time number p ∷ []) (get_or (set texts place told) i d)
       there ne =

@@ -7,8 +7,8 @@ use Rattle.wire_spec.specs.Packets.{back}
 use Rattle.red_blocks.specs.declared.views.TextView.{TextView}
 use Rattle.red_blocks.specs.Views.{older_in, packet_in}
 use Rattle.source_receiver.specs.declared.receivers.Receiver.{Receiver}
-use Rattle.source_receiver.specs.declared.receivers.Listed.{Listed}
-use Rattle.source_receiver.specs.declared.receivers.Seen.{Seen}
+use Rattle.source_receiver.specs.declared.receivers.ListedSource.{ListedSource}
+use Rattle.source_receiver.specs.declared.receivers.LastPacket.{LastPacket}
 use Rattle.source_receiver.specs.declared.source_texts.SourceText.{SourceText}
 use Rattle.source_receiver.specs.Stands.{Stands}
 use Rattle.source_receiver.specs.Steps.{is_new_since, is_marked_since, older_since, missing_up_to}
@@ -37,29 +37,29 @@ HearsPrimary old number v =
 -- ---- how it is found
 
 -- whether the redundant block of this header gives a text: it is new, and has one
-abbrev pub gives_since : Option Seen → ℕ → RedHeader → Bool
-gives_since seen stamp h = is_new_since seen (back stamp h.offset) && nat_lt 0 h.size
+abbrev pub gives_since : Option LastPacket → ℕ → RedHeader → Bool
+gives_since seen timestamp h = is_new_since seen (back timestamp h.offset) && nat_lt 0 h.size
 
-abbrev pub any_gives_since : Option Seen → ℕ → List RedHeader → Bool
-any_gives_since seen stamp [] = false
-any_gives_since seen stamp (h ∷ hs) = gives_since seen stamp h || any_gives_since seen stamp hs
+abbrev pub any_gives_since : Option LastPacket → ℕ → List RedHeader → Bool
+any_gives_since seen timestamp [] = false
+any_gives_since seen timestamp (h ∷ hs) = gives_since seen timestamp h || any_gives_since seen timestamp hs
 
 -- no marker stands before the packet, and no text that it repeats is new
-pub record IsPlain (seen : Option Seen) (missing : ℕ) (v : TextView) : Type 0 where
-  pub unmarked : is_marked_since seen missing v.stamp (older_in v) ≡ false
-  pub repeated : older_since seen v.stamp (older_in v) ≡ []
+pub record IsPlain (seen : Option LastPacket) (missing : ℕ) (v : TextView) : Type 0 where
+  pub unmarked : is_marked_since seen missing v.timestamp (older_in v) ≡ false
+  pub repeated : older_since seen v.timestamp (older_in v) ≡ []
 
 -- the packet's source has this place, and the packet is plain there
 pub record IsPlainAt (r : Receiver) (number : ℕ) (v : TextView) (place : ℕ) : Type 0 where
-  pub own : Listed
+  pub own : ListedSource
   pub is_place : position (λ l. l.source == v.source) r.listed.items ≡ Some place
   pub within : place < length r.listed.items
   pub is_own : own ≡ slice_index_or r.listed.items place own
   pub plain : missing_up_to r number ≤ 18446744073709551615 → IsPlain own.seen (missing_up_to r number) v
 
 -- the number is counted, and the packet is kept as the last one of the source at this place
-pub record IsKept (old new : Receiver) (number stamp place : ℕ) : Type 0 where
+pub record IsKept (old new : Receiver) (number timestamp place : ℕ) : Type 0 where
   pub latest : new.latest ≡ Some number
   pub missing : missing_up_to old number ≤ 18446744073709551615 → new.missing ≡ missing_up_to old number
-  pub listed : (own : Listed) → own ≡ slice_index_or old.listed.items place own
-      → new.listed.items ≡ slice_set old.listed.items place (record { source = own.source; seen = Some (record { stamp = stamp; missing = new.missing }) })
+  pub listed : (own : ListedSource) → own ≡ slice_index_or old.listed.items place own
+      → new.listed.items ≡ slice_set old.listed.items place (record { source = own.source; seen = Some (record { timestamp = timestamp; missing = new.missing }) })

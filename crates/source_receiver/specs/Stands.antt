@@ -6,8 +6,8 @@ use Rattle.stream_spec.specs.Lists.{In}
 use Rattle.stream_spec.specs.Numbering.{Numbered, RisingNumbers}
 use Rattle.stream_spec.specs.Hearing.{IsLastOf}
 use Rattle.source_receiver.specs.declared.receivers.Receiver.{Receiver}
-use Rattle.source_receiver.specs.declared.receivers.Listed.{Listed}
-use Rattle.source_receiver.specs.declared.receivers.Seen.{Seen}
+use Rattle.source_receiver.specs.declared.receivers.ListedSource.{ListedSource}
+use Rattle.source_receiver.specs.declared.receivers.LastPacket.{LastPacket}
 use Rattle.rtt_base.specs.declared.limits.TheConstants.{MOST_SOURCES}
 
 -- a packet that was used under this number; when it came makes no difference to what is heard
@@ -34,9 +34,9 @@ first_from n [] = n
 first_from n (u ∷ us) = u.number
 
 -- what is kept of a source is right after these
-abbrev pub IsSeen : List Numbered → ℕ → Option Seen → Type 0
+abbrev pub IsSeen : List Numbered → ℕ → Option LastPacket → Type 0
 IsSeen us s None = (u : Numbered) → In u us → u.packet.source ≢ s
-IsSeen us s (Some seen) = (a : Numbered) × (l : IsLastOf s us a) × (seen.stamp ≡ a.packet.stamp) × (seen.missing + suc (length l.front) + first_from a.number l.front ≡ suc a.number)
+IsSeen us s (Some seen) = (a : Numbered) × (l : IsLastOf s us a) × (seen.timestamp ≡ a.packet.timestamp) × (seen.missing + suc (length l.front) + first_from a.number l.front ≡ suc a.number)
 
 pub record Stands (r : Receiver) (sources : List ℕ) (us : List Numbered) : Type 0 where
   pub listed : map (λ l. l.source) r.listed.items ≡ sources
@@ -44,4 +44,4 @@ pub record Stands (r : Receiver) (sources : List ℕ) (us : List Numbered) : Typ
   pub differ : AllPairs (λ a b. a ≢ b) sources
   pub rising : RisingNumbers us
   pub count : IsCount us r.latest r.missing
-  pub seen : (l : Listed) → In l r.listed.items → IsSeen us l.source l.seen
+  pub seen : (l : ListedSource) → In l r.listed.items → IsSeen us l.source l.seen

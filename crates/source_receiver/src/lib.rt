@@ -5,7 +5,7 @@ mod pieces;
 mod receivers;
 mod source_texts;
 
-pub use pieces::Piece;
+pub use pieces::TextCursor;
 pub use receivers::Receiver;
 pub use source_texts::SourceText;
 

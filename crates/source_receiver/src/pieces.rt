@@ -6,14 +6,14 @@ ghost use Rattle.wire_spec.specs.Packets.{has_text, back};
 ghost use Rattle.source_receiver.specs.Steps.{is_new_since, blocks_since};
 ghost use Rattle.source_receiver.specs.Pieces.{left_of, is_heard};
 
-use crate::receivers::{MARKER, Seen, is_new};
+use crate::receivers::{MARKER, LastPacket, is_new};
 use rtt_base::{Text, TextBlock, TextPacket};
 
 /// What is still to be heard of a packet that a receiver took. The texts stay in the packet.
 #[derive(Clone, Copy, Debug)]
-pub struct Piece {
+pub struct TextCursor {
     /// What was seen of the source before the packet.
-    pub(crate) seen: Option<Seen>,
+    pub(crate) seen: Option<LastPacket>,
     /// Whether a marker comes first.
     pub(crate) marker: bool,
     /// How many blocks, the last ones, are still to be looked at.
@@ -30,24 +30,25 @@ fn write_over(place: &mut Text, text: &[u8])
 }
 
 /// Whether a block gives a text: it has one, and is the primary one or new.
-fn gives(seen: Option<Seen>, stamp: u32, block: &TextBlock, primary: bool) -> bool
-    ensures { result ≡ (has_text block.now.text && (primary || is_new_since seen (back stamp block.now.offset))) }
+fn gives(seen: Option<LastPacket>, timestamp: u32, block: &TextBlock, primary: bool) -> bool
+    ensures { result ≡ (has_text block.now.text && (primary || is_new_since seen (back timestamp block.now.offset))) }
 {
-    !block.text.is_empty() && (primary || is_new(seen, stamp.wrapping_sub(u32::from(block.offset))))
+    !block.text.is_empty() && (primary || is_new(seen, timestamp.wrapping_sub(u32::from(block.offset))))
 }
 
 /// The first block from `start` on that gives a text, or the number of blocks.
-fn next_block(seen: Option<Seen>, stamp: u32, blocks: &[TextBlock], start: usize) -> usize
+fn next_block(seen: Option<LastPacket>, timestamp: u32, blocks: &[TextBlock], start: usize) -> usize
     requires few { length blocks.now ≤ 9 }
     requires within { start ≤ length blocks.now }
     ensures within { result ≤ length blocks.now }
-    ensures same { blocks_since seen stamp (drop start blocks.now) ≡ blocks_since seen stamp (drop result blocks.now) }
-    ensures gives { (d : TextBlock) → result < length blocks.now → blocks_since seen stamp (drop result blocks.now)
-        ≡ (slice_index_or blocks.now result d).text ∷ blocks_since seen stamp (drop (result + 1) blocks.now) }
+    ensures same { blocks_since seen timestamp (drop start blocks.now)
+        ≡ blocks_since seen timestamp (drop result blocks.now) }
+    ensures gives { (d : TextBlock) → result < length blocks.now → blocks_since seen timestamp (drop result blocks.now)
+        ≡ (slice_index_or blocks.now result d).text ∷ blocks_since seen timestamp (drop (result + 1) blocks.now) }
 {
     let mut index = start;
     while index < blocks.len() {
-        if gives(seen, stamp, &blocks[index], index + 1 == blocks.len()) {
+        if gives(seen, timestamp, &blocks[index], index + 1 == blocks.len()) {
             return index;
         }
         index += 1;
@@ -55,12 +56,12 @@ fn next_block(seen: Option<Seen>, stamp: u32, blocks: &[TextBlock], start: usize
     index
 }
 
-impl Piece {
+impl TextCursor {
     /// Nothing to hear, of whatever packet.
-    pub fn none() -> Piece
+    pub fn none() -> TextCursor
         ensures { is_heard result ≡ Bool.true }
     {
-        Piece {
+        TextCursor {
             seen: None,
             marker: false,
             rest: 0,
@@ -82,7 +83,7 @@ impl Piece {
         }
         let blocks = packet.blocks.as_slice();
         let start = blocks.len().saturating_sub(self.rest);
-        let index = next_block(self.seen, packet.stamp, blocks, start);
+        let index = next_block(self.seen, packet.timestamp, blocks, start);
         if index == blocks.len() {
             self.rest = 0;
             return false;

@@ -13,7 +13,7 @@ ghost use Rattle.source_receiver.specs.Plain.{TakesView, HearsView, HearsPrimary
 ghost use Rattle.red_blocks.specs.Views.{headers_in, IsView};
 ghost use Rattle.rtt_base.specs.declared.limits.TheConstants.{MOST_SOURCES};
 
-use crate::{Piece, SourceText};
+use crate::{TextCursor, SourceText};
 use red_blocks::TextView;
 use rtt_base::{Bytes, NoMemory, Text, TextBlock, TextPacket, after};
 use std::alloc::Global;
@@ -24,36 +24,36 @@ pub(crate) const MARKER: [u8; 3] = [0xEF, 0xBF, 0xBD];
 
 /// What is kept of the last packet of a source.
 #[derive(Clone, Copy, Debug)]
-pub(crate) struct Seen {
-    stamp: u32,
+pub(crate) struct LastPacket {
+    timestamp: u32,
     /// How many numbers were missing up to it.
     missing: u64,
 }
 
 /// A source that is listened to.
 #[derive(Debug, Drop)]
-struct Listed {
+struct ListedSource {
     source: u32,
-    seen: Option<Seen>,
+    seen: Option<LastPacket>,
 }
 
 /// Hears the listed sources of one stream. It takes the used packets in rising number, and keeps a timestamp and a
 /// count per source, and no packet.
 #[derive(Debug, Drop)]
 pub struct Receiver {
-    listed: Vec<Listed>,
+    listed: Vec<ListedSource>,
     /// The number of the last packet.
     latest: Option<u64>,
     /// How many numbers between the first packet and the last have no packet.
     missing: u64,
 }
 
-/// Whether a block with this stamp is new after what was seen.
-pub(crate) fn is_new(seen: Option<Seen>, stamp: u32) -> bool
-    ensures { result ≡ is_new_since seen stamp }
+/// Whether a block with this timestamp is new after what was seen.
+pub(crate) fn is_new(seen: Option<LastPacket>, timestamp: u32) -> bool
+    ensures { result ≡ is_new_since seen timestamp }
 {
     match seen {
-        Some(seen) => after(stamp, seen.stamp),
+        Some(seen) => after(timestamp, seen.timestamp),
         None => true,
     }
 }
@@ -66,7 +66,7 @@ fn offset_of(older: &[TextBlock]) -> u16
 }
 
 /// How many numbers were missing up to the last packet of the source.
-fn missing_before(seen: Option<Seen>) -> u64
+fn missing_before(seen: Option<LastPacket>) -> u64
     ensures { result ≡ missing_then seen }
 {
     match seen {
@@ -76,28 +76,28 @@ fn missing_before(seen: Option<Seen>) -> u64
 }
 
 /// Whether more numbers are missing than the packet repeats, and its oldest block is new.
-fn is_marked(seen: Option<Seen>, missing: u64, stamp: u32, older: &[TextBlock]) -> bool
-    ensures { result ≡ is_marked_since seen missing stamp older.now }
+fn is_marked(seen: Option<LastPacket>, missing: u64, timestamp: u32, older: &[TextBlock]) -> bool
+    ensures { result ≡ is_marked_since seen missing timestamp older.now }
 {
     let before = seen.map_or(0, |seen| seen.missing);
     missing.saturating_sub(before) > older.len() as u64
-        && is_new(seen, stamp.wrapping_sub(u32::from(offset_of(older))))
+        && is_new(seen, timestamp.wrapping_sub(u32::from(offset_of(older))))
 }
 
 /// The place of the source among these.
-fn place_of(listed: &[Listed], source: u32) -> Option<usize>
+fn place_of(listed: &[ListedSource], source: u32) -> Option<usize>
     ensures { result ≡ position (λ l. l.source == source) listed.now }
 {
     listed.iter().position(|l| l.source == source)
 }
 
 /// Whether a marker stands before what the packet gives.
-fn marks(seen: Option<Seen>, missing: u64, packet: &TextPacket) -> bool
-    ensures { result ≡ is_marked_since seen missing packet.now.stamp (redundant packet.now.blocks) }
+fn puts_marker(seen: Option<LastPacket>, missing: u64, packet: &TextPacket) -> bool
+    ensures { result ≡ is_marked_since seen missing packet.now.timestamp (redundant packet.now.blocks) }
 {
     match packet.blocks.as_slice().split_last() {
-        Some((_, older)) => is_marked(seen, missing, packet.stamp, older),
-        None => is_marked(seen, missing, packet.stamp, &[]),
+        Some((_, older)) => is_marked(seen, missing, packet.timestamp, older),
+        None => is_marked(seen, missing, packet.timestamp, &[]),
     }
 }
 
@@ -111,14 +111,14 @@ fn append_repeated(text: &Text, out: &mut Bytes) -> Result<(), NoMemory>
 
 /// Appends the text of a redundant block, where it is new.
 fn append_new(
-    seen: Option<Seen>,
-    stamp: u32,
+    seen: Option<LastPacket>,
+    timestamp: u32,
     block: &TextBlock,
     out: &mut Bytes,
 ) -> Result<(), NoMemory>
-    ensures { OnOk result (out.new ≡ out.old ++ concat (new_since seen stamp block.now)) }
+    ensures { OnOk result (out.new ≡ out.old ++ concat (new_since seen timestamp block.now)) }
 {
-    if is_new(seen, stamp.wrapping_sub(u32::from(block.offset))) {
+    if is_new(seen, timestamp.wrapping_sub(u32::from(block.offset))) {
         append_repeated(&block.text, out)?;
     }
     Ok(())
@@ -126,15 +126,15 @@ fn append_new(
 
 /// Appends the new texts of redundant blocks.
 fn append_older(
-    seen: Option<Seen>,
-    stamp: u32,
+    seen: Option<LastPacket>,
+    timestamp: u32,
     older: &[TextBlock],
     out: &mut Bytes,
 ) -> Result<(), NoMemory>
-    ensures { OnOk result (out.new ≡ out.old ++ concat (older_since seen stamp older.now)) }
+    ensures { OnOk result (out.new ≡ out.old ++ concat (older_since seen timestamp older.now)) }
 {
     for block in older {
-        append_new(seen, stamp, block, out)?;
+        append_new(seen, timestamp, block, out)?;
     }
     Ok(())
 }
@@ -142,19 +142,19 @@ fn append_older(
 /// Appends a marker, and counts it.
 #[inline(never)]
 fn append_marker(heard: &mut SourceText) -> Result<(), NoMemory>
-    requires { heard.old.marks + 1 < 2 ^ 64 }
+    requires { heard.old.markers + 1 < 2 ^ 64 }
     ensures text { OnOk result (heard.new.text ≡ heard.old.text ++ marker) }
-    ensures marks { OnOk result (heard.new.marks ≡ heard.old.marks + 1) }
+    ensures markers { OnOk result (heard.new.markers ≡ heard.old.markers + 1) }
 {
-    heard.marks += 1;
+    heard.markers += 1;
     heard.text.append(&MARKER)
 }
 
 /// Puts a marker, where one stands before the texts.
 fn put_marker(marked: bool, heard: &mut SourceText) -> Result<(), NoMemory>
-    requires { heard.old.marks + 1 < 2 ^ 64 }
+    requires { heard.old.markers + 1 < 2 ^ 64 }
     ensures text { OnOk result (heard.new.text ≡ heard.old.text ++ concat (if marked then marker ∷ [] else [])) }
-    ensures marks { OnOk result (heard.new.marks ≡ heard.old.marks + one_if marked) }
+    ensures markers { OnOk result (heard.new.markers ≡ heard.old.markers + one_if marked) }
 {
     if marked {
         append_marker(heard)?;
@@ -164,42 +164,42 @@ fn put_marker(marked: bool, heard: &mut SourceText) -> Result<(), NoMemory>
 
 /// Adds what the packet gives after what was seen of its source.
 fn tell_more(
-    seen: Option<Seen>,
+    seen: Option<LastPacket>,
     missing: u64,
     packet: &TextPacket,
     heard: &mut SourceText,
 ) -> Result<(), NoMemory>
-    requires { heard.old.marks + 1 < 2 ^ 64 }
+    requires { heard.old.markers + 1 < 2 ^ 64 }
     ensures text { OnOk result (heard.new.text ≡ heard.old.text ++ concat (told_since seen missing packet.now)) }
-    ensures marks { OnOk result (heard.new.marks ≡ heard.old.marks + one_if (is_marked_since seen missing packet.now.stamp (redundant packet.now.blocks))) }
+    ensures markers { OnOk result (heard.new.markers ≡ heard.old.markers + one_if (is_marked_since seen missing packet.now.timestamp (redundant packet.now.blocks))) }
 {
     match packet.blocks.as_slice().split_last() {
         Some((primary, older)) => {
-            put_marker(is_marked(seen, missing, packet.stamp, older), heard)?;
-            append_older(seen, packet.stamp, older, &mut heard.text)?;
+            put_marker(is_marked(seen, missing, packet.timestamp, older), heard)?;
+            append_older(seen, packet.timestamp, older, &mut heard.text)?;
             heard.text.append(primary.text.as_slice())
         }
-        None => put_marker(is_marked(seen, missing, packet.stamp, &[]), heard),
+        None => put_marker(is_marked(seen, missing, packet.timestamp, &[]), heard),
     }
 }
 
 /// Whether the redundant block of this header gives a text: it is new, and has one.
-fn gives_text(seen: Option<Seen>, stamp: u32, header: RedHeader) -> bool
-    ensures { result ≡ gives_since seen stamp header }
+fn gives_text(seen: Option<LastPacket>, timestamp: u32, header: RedHeader) -> bool
+    ensures { result ≡ gives_since seen timestamp header }
 {
-    is_new(seen, stamp.wrapping_sub(u32::from(header.offset))) && header.size > 0
+    is_new(seen, timestamp.wrapping_sub(u32::from(header.offset))) && header.size > 0
 }
 
 /// Whether a text that the packet repeats is new.
 #[inline(always)]
-fn repeats_new(seen: Option<Seen>, view: &TextView<'_>) -> bool
+fn repeats_new(seen: Option<LastPacket>, view: &TextView<'_>) -> bool
     requires { IsView view.now }
-    ensures { result ≡ any_gives_since seen view.now.stamp (headers_in view.now) }
+    ensures { result ≡ any_gives_since seen view.now.timestamp (headers_in view.now) }
 {
     let mut place = 0;
     while place < view.count {
         let header = view.header(place);
-        if gives_text(seen, view.stamp, header) {
+        if gives_text(seen, view.timestamp, header) {
             return true;
         }
         place += 1;
@@ -210,7 +210,7 @@ fn repeats_new(seen: Option<Seen>, view: &TextView<'_>) -> bool
 /// Whether nothing but the primary text is heard of the packet: no more numbers are missing than it repeats, and no
 /// text that it repeats is new.
 #[inline(always)]
-fn is_plain(seen: Option<Seen>, missing: u64, view: &TextView<'_>) -> bool
+fn is_plain(seen: Option<LastPacket>, missing: u64, view: &TextView<'_>) -> bool
     requires { IsView view.now }
     ensures { IsTrue result → IsPlain seen missing view.now }
 {
@@ -233,7 +233,7 @@ impl Receiver {
     {
         let mut listed = Vec::with_capacity(alloc, sources.len())?;
         for source in sources {
-            listed.push(Listed {
+            listed.push(ListedSource {
                 source: *source,
                 seen: None,
             })?;
@@ -252,7 +252,7 @@ impl Receiver {
         ensures latest { latest_number self.new ≡ None }
         ensures count { sources_count self.new ≡ 1 }
     {
-        self.listed[0] = Listed { source, seen: None };
+        self.listed[0] = ListedSource { source, seen: None };
         self.latest = None;
         self.missing = 0;
     }
@@ -280,14 +280,14 @@ impl Receiver {
     }
 
     /// Counts a packet, and keeps it as the last one of the source at this place.
-    fn keep(&mut self, place: usize, number: u64, stamp: u32)
+    fn keep(&mut self, place: usize, number: u64, timestamp: u32)
         requires rises { ForSome self.old.latest (λ latest. latest < number) }
         requires within { place < length self.old.listed.items }
-        ensures { IsKept self.old self.new number stamp place }
+        ensures { IsKept self.old self.new number timestamp place }
     {
         self.count(number);
         let missing = self.missing;
-        self.listed[place].seen = Some(Seen { stamp, missing });
+        self.listed[place].seen = Some(LastPacket { timestamp, missing });
     }
 
     /// The place of the packet's source, if it is listed and nothing but its primary text is heard of the packet.
@@ -316,7 +316,7 @@ impl Receiver {
     ) -> Result<(), NoMemory>
         requires rises { ForSome (latest_number self.old) (λ latest. latest < number) }
         requires each { length heard.old ≡ sources_count self.old }
-        requires few { All (λ t. t.marks + 1 < 2 ^ 64) heard.old }
+        requires few { All (λ t. t.markers + 1 < 2 ^ 64) heard.old }
         ensures latest { OnOk result (latest_number self.new ≡ Some number) }
         ensures count { sources_count self.new ≡ sources_count self.old }
         ensures stands { OnOk result ((sources : List ℕ) (us : List Numbered) (time : ℕ) → Stands self.old sources us
@@ -330,14 +330,14 @@ impl Receiver {
         };
         let told = &mut heard[place];
         tell_more(self.listed[place].seen, self.missing, packet, told)?;
-        let (stamp, missing) = (packet.stamp, self.missing);
-        let kept = Some(Seen { stamp, missing });
+        let (timestamp, missing) = (packet.timestamp, self.missing);
+        let kept = Some(LastPacket { timestamp, missing });
         self.listed[place].seen = kept;
         Ok(())
     }
 
     /// Takes a used packet, as `take_each` does, and tells what is to be heard of it. It is for a receiver of one source.
-    pub fn take_piece(&mut self, number: u64, packet: &TextPacket) -> Piece
+    pub fn take_piece(&mut self, number: u64, packet: &TextPacket) -> TextCursor
         requires { ForSome (latest_number self.old) (λ latest. latest < number) }
         ensures latest { latest_number self.new ≡ Some number }
         ensures stands { (sources : List ℕ) (us : List Numbered) (time : ℕ) → Stands self.old sources us
@@ -348,15 +348,15 @@ impl Receiver {
     {
         self.count(number);
         let Some(place) = place_of(self.listed.as_slice(), packet.source) else {
-            return Piece::none();
+            return TextCursor::none();
         };
         let seen = self.listed[place].seen;
-        let marker = marks(seen, self.missing, packet);
-        let (stamp, missing) = (packet.stamp, self.missing);
-        let kept = Some(Seen { stamp, missing });
+        let marker = puts_marker(seen, self.missing, packet);
+        let (timestamp, missing) = (packet.timestamp, self.missing);
+        let kept = Some(LastPacket { timestamp, missing });
         self.listed[place].seen = kept;
         let rest = packet.blocks.len();
-        Piece { seen, marker, rest }
+        TextCursor { seen, marker, rest }
     }
 
     /// Takes a used packet where it lies, as `take_each` does, if nothing but its primary text is heard of it: its
@@ -383,7 +383,7 @@ impl Receiver {
             return Ok(false);
         };
         heard[place].text.append(view.primary)?;
-        self.keep(place, number, view.stamp);
+        self.keep(place, number, view.timestamp);
         Ok(true)
     }
 
@@ -402,7 +402,7 @@ impl Receiver {
         let Some(only) = self.plain_place(number, view) else {
             return false;
         };
-        self.keep(only, number, view.stamp);
+        self.keep(only, number, view.timestamp);
         true
     }
 }

@@ -10,18 +10,18 @@ pub struct SourceText {
     /// Its texts, one after another, with the markers between them.
     pub text: Bytes,
     /// How many markers were put: a U+FFFD that was typed is none.
-    pub marks: u64,
+    pub markers: u64,
 }
 
 impl SourceText {
     /// Nothing was heard.
     pub fn new(alloc: Global) -> SourceText
         ensures text { result.text ≡ [] }
-        ensures marks { result.marks ≡ 0 }
+        ensures markers { result.markers ≡ 0 }
     {
         SourceText {
             text: Bytes::new(alloc),
-            marks: 0,
+            markers: 0,
         }
     }
 }

@@ -5,7 +5,7 @@ ghost use Rattle.source_receiver.specs.Each.{sources_count};
 
 use crate::{Receiver, SourceText};
 use red_blocks::view_text;
-use rtt_base::{Blocks, NoMemory, Pts, Text, TextBlock, TextPacket};
+use rtt_base::{Blocks, NoMemory, PayloadTypes, Text, TextBlock, TextPacket};
 use std::alloc::Global;
 use std::process::Abort;
 use std::test::Fail;
@@ -21,7 +21,7 @@ fn text(octets: &[u8]) -> Text {
 }
 
 /// A packet with these redundant blocks, oldest first, as offsets and texts, and this primary text.
-fn packet(source: u32, stamp: u32, older: &[(u16, &[u8])], primary: &[u8]) -> TextPacket
+fn packet(source: u32, timestamp: u32, older: &[(u16, &[u8])], primary: &[u8]) -> TextPacket
     ensures { 0 < length result.blocks }
 {
     let mut blocks = Blocks::new();
@@ -41,9 +41,9 @@ fn packet(source: u32, stamp: u32, older: &[(u16, &[u8])], primary: &[u8]) -> Te
         text: text(primary),
     });
     TextPacket {
-        mark: false,
+        marker_bit: false,
         seq: 0,
-        stamp,
+        timestamp,
         ssrc: 9000,
         source,
         blocks,
@@ -57,7 +57,7 @@ fn gives(
     number: u64,
     packet: &TextPacket,
     text: &[u8],
-    marks: u64,
+    markers: u64,
 ) -> Result<bool, NoMemory>
     requires rises { ForSome (latest_number receiver.old) (λ latest. latest < number) }
     requires one { sources_count receiver.old ≡ 1 }
@@ -66,7 +66,7 @@ fn gives(
 {
     let mut heard = [SourceText::new(alloc)];
     receiver.take_each(number, packet, &mut heard)?;
-    Ok(heard[0].text.as_slice() == text && heard[0].marks == marks)
+    Ok(heard[0].text.as_slice() == text && heard[0].markers == markers)
 }
 
 /// Whether this packet gives these texts of two sources, with no marker.
@@ -86,7 +86,7 @@ fn gives_both(
     let mut heard = [SourceText::new(alloc), SourceText::new(alloc)];
     receiver.take_each(number, packet, &mut heard)?;
     let texts = heard[0].text.as_slice() == first && heard[1].text.as_slice() == second;
-    Ok(texts && heard[0].marks == 0 && heard[1].marks == 0)
+    Ok(texts && heard[0].markers == 0 && heard[1].markers == 0)
 }
 
 /// A receiver of Ann's text that took her first packet.
@@ -147,7 +147,7 @@ fn a_source_that_is_not_listed_counts_and_is_not_heard(rt: HostRuntime) -> Resul
     Ok(())
 }
 
-const PTS: Pts = Pts { t140: 98, red: 100 };
+const PAYLOAD_TYPES: PayloadTypes = PayloadTypes { t140: 98, red: 100 };
 
 /// Whether this packet is taken where it lies, and gives this text of the only source, with no marker.
 fn gives_plain(
@@ -162,15 +162,15 @@ fn gives_plain(
     ensures latest { IfOk result (λ taken. IsTrue taken → latest_number receiver.new ≡ Some number) }
     ensures count { sources_count receiver.new ≡ sources_count receiver.old }
 {
-    let Some(view) = view_text(octets, None, PTS) else {
+    let Some(view) = view_text(octets, None, PAYLOAD_TYPES) else {
         return Ok(false);
     };
     let mut heard = [SourceText::new(alloc)];
     let taken = receiver.take_plain(number, &view, &mut heard)?;
-    Ok(taken && heard[0].text.as_slice() == text && heard[0].marks == 0)
+    Ok(taken && heard[0].text.as_slice() == text && heard[0].markers == 0)
 }
 
-/// Packets of SSRC 1001 with stamps 0, 300 and 900, the last of which repeats what the packet between them had.
+/// Packets of SSRC 1001 with timestamps 0, 300 and 900, the last of which repeats what the packet between them had.
 const FIRST: [u8; 18] = *b"\x80\x64\0\0\0\0\0\0\0\0\x03\xE9\xE2\xFF\xFC\0\x62A";
 
 const SECOND: [u8; 19] = *b"\x80\x64\0\x01\0\0\x01\x2C\0\0\x03\xE9\xE2\x04\xB0\x01\x62AB";

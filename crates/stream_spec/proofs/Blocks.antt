@@ -5,7 +5,7 @@ use Rattle.std.proofs.lemmas.Bool.{cases_lt, cases_order, eq-eqb, eqb-true, leb-
 use Rattle.wire_spec.specs.Packets.{has_text}
 use Rattle.stream_spec.specs.Lists.{In}
 use Rattle.stream_spec.specs.History.{Entry, Placed, History, placed, low, window, Lawful}
-use Rattle.stream_spec.specs.Kept.{Item, Mark, Block, blocks_of, items_of, has_mark, kept_over, kept, is_above, is_entry_of, Rising, ArePlaces, IsCarrier, IsCarried, blocks_in, has_place, least_place}
+use Rattle.stream_spec.specs.Kept.{Item, Marker, Block, blocks_of, items_of, has_marker, kept_over, kept, is_above, is_entry_of, Rising, ArePlaces, IsCarrier, IsCarried, blocks_in, has_place, least_place}
 use Rattle.stream_spec.proofs.Lists.{in_left, in_right, in_append, in_filter, filter_in, in_when, when_in}
 use Rattle.stream_spec.proofs.Places.{place_from, index_rises, place_rises, same_index}
 use Rattle.stream_spec.specs.History.{placed_after}
@@ -60,14 +60,14 @@ blocks_of_in prev (y ∷ ys) k (inr i) a t = in_right (Block k) (if is_above pre
 -- a block that an entry gives
 pub in_items_of : (h : History) (present : ℕ → Bool) (least : ℕ) (prev : Option Placed) (b k : Placed) → In b (placed h) → In (Block k) (items_of h present least prev b)
     → In k (placed h) × IsCarrier k b × (is_above prev k ≡ true) × (has_text k.text ≡ true)
-in_items_of h present least prev b k m i = elim (in_append (Block k) (if has_mark present least prev b then Mark ∷ [] else []) (blocks_of prev (carried h b)) i) [
-  | inl j ↦ let r = in_when (has_mark present least prev b) (Block k) Mark j in cc r.1
+in_items_of h present least prev b k m i = elim (in_append (Block k) (if has_marker present least prev b then Marker ∷ [] else []) (blocks_of prev (carried h b)) i) [
+  | inl j ↦ let r = in_when (has_marker present least prev b) (Block k) Marker j in cc r.1
   | inr j ↦ let r = in_blocks_of prev (carried h b) k j in let c = in_carried h b k m r.0 in (c.0, c.1, r.1, r.2)
 ]
 
 pub items_of_in : (h : History) (present : ℕ → Bool) (least : ℕ) (prev : Option Placed) (b k : Placed) → In b (placed h) → In k (placed h) → IsCarrier k b → is_above prev k ≡ true → has_text k.text ≡ true
     → In (Block k) (items_of h present least prev b)
-items_of_in h present least prev b k m i c a t = in_right (Block k) (if has_mark present least prev b then Mark ∷ [] else []) (blocks_of prev (carried h b)) (blocks_of_in prev (carried h b) k (carried_in h b k m i c) a t)
+items_of_in h present least prev b k m i c a t = in_right (Block k) (if has_marker present least prev b then Marker ∷ [] else []) (blocks_of prev (carried h b)) (blocks_of_in prev (carried h b) k (carried_in h b k m i c) a t)
 
 -- what is known of prev, on a walk over bs
 abbrev pub Follows : History → ℕ → Option Placed → List Placed → Type 0
@@ -144,12 +144,12 @@ rising_carried h b m = rising_append (window h b) (b ∷ []) (rising_filter (λ 
 
 pub blocks_in_append : (xs ys : List Item) → blocks_in (xs ++ ys) ≡ blocks_in xs ++ blocks_in ys
 blocks_in_append [] ys = refl
-blocks_in_append (Mark ∷ xs) ys = blocks_in_append xs ys
+blocks_in_append (Marker ∷ xs) ys = blocks_in_append xs ys
 blocks_in_append (Block x ∷ xs) ys = ap (λ zs. x ∷ zs) (blocks_in_append xs ys)
 
 pub in_blocks_in : (k : Placed) (items : List Item) → In k (blocks_in items) → In (Block k) items
 in_blocks_in k [] i = absurd i
-in_blocks_in k (Mark ∷ xs) i = inr (in_blocks_in k xs i)
+in_blocks_in k (Marker ∷ xs) i = inr (in_blocks_in k xs i)
 in_blocks_in k (Block x ∷ xs) (inl p) = inl (ap Block p)
 in_blocks_in k (Block x ∷ xs) (inr i) = inr (in_blocks_in k xs i)
 
@@ -162,13 +162,13 @@ blocks_in_blocks_of prev (y ∷ ys) = go (is_above prev y && has_text y.text) (b
     go true e = ap (λ zs. y ∷ zs) e
     go false e = e
 
-no_blocks : (b : Bool) (xs : List Item) → blocks_in (cond b (Mark ∷ []) [] ++ xs) ≡ blocks_in xs
+no_blocks : (b : Bool) (xs : List Item) → blocks_in (cond b (Marker ∷ []) [] ++ xs) ≡ blocks_in xs
 no_blocks true xs = refl
 no_blocks false xs = refl
 
 rising_items : (h : History) (present : ℕ → Bool) (least : ℕ) (prev : Option Placed) (b : Placed) → In b (placed h) → Rising (blocks_in (items_of h present least prev b))
 rising_items h present least prev b m =
-    rw (no_blocks (has_mark present least prev b) (blocks_of prev (carried h b)), blocks_in_blocks_of prev (carried h b))
+    rw (no_blocks (has_marker present least prev b) (blocks_of prev (carried h b)), blocks_in_blocks_of prev (carried h b))
     (rising_filter (λ (y : Placed). is_above prev y && has_text y.text) (carried h b) (rising_carried h b m))
 
 pub kept_rises : (h : History) (present : ℕ → Bool) (least s : ℕ) (prev : Option Placed) (bs : List Placed) → Walk h s prev bs → Rising (blocks_in (kept_over h present least prev bs))

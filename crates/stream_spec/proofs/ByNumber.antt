@@ -67,49 +67,49 @@ by_more place (u ∷ us) b s above =
 
 -- ---- all used packets
 module _ (wait : ℕ) (past : List Numbered) where
-  abbrev pub stamps : List Numbered → List Numbered
-  stamps us = map (stamped wait past) us
+  abbrev pub timestamps : List Numbered → List Numbered
+  timestamps us = map (stamped wait past) us
 
-  abbrev pub stamp_prev : Option Numbered → Option Numbered
-  stamp_prev None = None
-  stamp_prev (Some u) = Some (stamped wait past u)
+  abbrev pub timestamp_prev : Option Numbered → Option Numbered
+  timestamp_prev None = None
+  timestamp_prev (Some u) = Some (stamped wait past u)
 
-  older_stamped : (a : Numbered) (stamp : ℕ) (bs : List TextBlock) → older_texts (Some (stamped wait past a)) stamp bs ≡ older_texts (Some a) stamp bs
-  older_stamped a stamp [] = refl
-  older_stamped a stamp (b ∷ bs) = ap (λ ts. (if is_new (Some a) (back stamp b.offset) then text_list b.text else []) ++ ts) (older_stamped a stamp bs)
+  older_stamped : (a : Numbered) (timestamp : ℕ) (bs : List TextBlock) → older_texts (Some (stamped wait past a)) timestamp bs ≡ older_texts (Some a) timestamp bs
+  older_stamped a timestamp [] = refl
+  older_stamped a timestamp (b ∷ bs) = ap (λ ts. (if is_new (Some a) (back timestamp b.offset) then text_list b.text else []) ++ ts) (older_stamped a timestamp bs)
 
-  piece_stamped : (f : ℕ → Bool) (first : ℕ) (prev : Option Numbered) (u : Numbered) → piece f first (stamp_prev prev) (stamped wait past u) ≡ piece f first prev u
+  piece_stamped : (f : ℕ → Bool) (first : ℕ) (prev : Option Numbered) (u : Numbered) → piece f first (timestamp_prev prev) (stamped wait past u) ≡ piece f first prev u
   piece_stamped f first None u = none u.packet.older
     where
       none : (bs : List TextBlock) → piece f first None (stamped wait past u) ≡ piece f first None u
       none bs = refl
   piece_stamped f first (Some a) u =
-      ap (λ ts. (if is_marked f first (Some a) u then marker ∷ [] else []) ++ (ts ++ text_list u.packet.primary)) (older_stamped a u.packet.stamp u.packet.older)
+      ap (λ ts. (if is_marked f first (Some a) u then marker ∷ [] else []) ++ (ts ++ text_list u.packet.primary)) (older_stamped a u.packet.timestamp u.packet.older)
 
-  over_stamped : (place : ℕ) (f : ℕ → Bool) (first : ℕ) (prev : Option Numbered) (us : List Numbered) → chunks_over at_time place f first (stamp_prev prev) (stamps us) ≡ chunks_over (ready_of wait past) place f first prev us
+  over_stamped : (place : ℕ) (f : ℕ → Bool) (first : ℕ) (prev : Option Numbered) (us : List Numbered) → chunks_over at_time place f first (timestamp_prev prev) (timestamps us) ≡ chunks_over (ready_of wait past) place f first prev us
   over_stamped place f first prev [] = refl
   over_stamped place f first prev (u ∷ us) = rw (piece_stamped f first prev u) (ap (λ cs. map (chunk place (ready_of wait past u)) (piece f first prev u) ++ cs) (over_stamped place f first (Some u) us))
 
-  pub filter_stamped : (s : ℕ) (us : List Numbered) → filter (is_packet_of s) (stamps us) ≡ stamps (filter (is_packet_of s) us)
+  pub filter_stamped : (s : ℕ) (us : List Numbered) → filter (is_packet_of s) (timestamps us) ≡ timestamps (filter (is_packet_of s) us)
   filter_stamped s [] = refl
   filter_stamped s (u ∷ us) = go (is_packet_of s u) (filter_stamped s us)
     where
-      go : (b : Bool) → filter (is_packet_of s) (stamps us) ≡ stamps (filter (is_packet_of s) us)
-          → cond b (stamped wait past u ∷ filter (is_packet_of s) (stamps us)) (filter (is_packet_of s) (stamps us)) ≡ stamps (cond b (u ∷ filter (is_packet_of s) us) (filter (is_packet_of s) us))
+      go : (b : Bool) → filter (is_packet_of s) (timestamps us) ≡ timestamps (filter (is_packet_of s) us)
+          → cond b (stamped wait past u ∷ filter (is_packet_of s) (timestamps us)) (filter (is_packet_of s) (timestamps us)) ≡ timestamps (cond b (u ∷ filter (is_packet_of s) us) (filter (is_packet_of s) us))
       go true e = ap (λ l. stamped wait past u ∷ l) e
       go false e = e
 
-  pub has_stamped : (us : List Numbered) (k : ℕ) → has_number (stamps us) k ≡ has_number us k
+  pub has_stamped : (us : List Numbered) (k : ℕ) → has_number (timestamps us) k ≡ has_number us k
   has_stamped [] k = refl
   has_stamped (u ∷ us) k = ap (λ b. (u.number == k) || b) (has_stamped us k)
 
-  from_stamped : (place first s : ℕ) (us : List Numbered) → chunks_over (ready_of wait past) place (has_number us) first None (filter (is_packet_of s) us) ≡ chunks_from place first s (stamps us)
+  from_stamped : (place first s : ℕ) (us : List Numbered) → chunks_over (ready_of wait past) place (has_number us) first None (filter (is_packet_of s) us) ≡ chunks_from place first s (timestamps us)
   from_stamped place first s us =
       sym (over_stamped place (has_number us) first None (filter (is_packet_of s) us))
       ∙ (ap (chunks_over at_time place (has_number us) first None) (sym (filter_stamped s us))
-      ∙ ap (λ f. chunks_over at_time place f first None (filter (is_packet_of s) (stamps us))) (λ ι k. sym (has_stamped us k) ι))
+      ∙ ap (λ f. chunks_over at_time place f first None (filter (is_packet_of s) (timestamps us))) (λ ι k. sym (has_stamped us k) ι))
 
-  by_stamped : (place first s : ℕ) (us : List Numbered) → Headed first us → chunks_over (ready_of wait past) place (has_number us) first None (filter (is_packet_of s) us) ≡ chunks_by place (stamps us) s
+  by_stamped : (place first s : ℕ) (us : List Numbered) → Headed first us → chunks_over (ready_of wait past) place (has_number us) first None (filter (is_packet_of s) us) ≡ chunks_by place (timestamps us) s
   by_stamped place first s [] h = absurd h
   by_stamped place first s (u ∷ us) h = ap (λ m. chunks_over (ready_of wait past) place (has_number (u ∷ us)) m None (filter (is_packet_of s) (u ∷ us))) (sym h) ∙ from_stamped place u.number s (u ∷ us)
 

@@ -36,7 +36,7 @@ the_last_one : (c : Stream) (past : List Sent) (e : Sent) → Behind c (e ∷ pa
 the_last_one c past e =
     let same : (e.source == e.source) ≡ true = grind (arith, nat_tests) in
     let zs : sent_of e.source (e ∷ past) ≡ e ∷ sent_of e.source past = rw same refl in
-    let n = sent_count c.gens e.source past in
+    let n = sent_count c.generations e.source past in
     let k : length (sent_of e.source (e ∷ past)) - suc (the_last c past e).index ≡ 0 = omega (arith, ap (λ (ys : List Sent). length ys) zs, n) in
     record {
       one = e;
@@ -47,20 +47,20 @@ the_last_one c past e =
 
 pub behind : (c : Stream) (past : List Sent) (x : Placed) → In x (placed (sent_history c past)) → Behind c past x
 behind c [] x i = absurd i
-behind c (e ∷ past) x i = elim (split (sent_history c past) (entry_after c.gens past e) x i) [
+behind c (e ∷ past) x i = elim (split (sent_history c past) (entry_after c.generations past e) x i) [
   | inl j ↦ one_further c past e x (behind c past x j)
   | inr q ↦ subst (Behind c (e ∷ past)) (sym q) (the_last_one c past e)
 ]
 
 -- where no source has text left to be repeated
-pub sent_closed : (c : Stream) (past : List Sent) → ((z : Sent) → In z past → has_text_in c.gens (sent_of z.source past) ≡ false) → Closed c.gens (sent_history c past)
+pub sent_closed : (c : Stream) (past : List Sent) → ((z : Sent) → In z past → has_text_in c.generations (sent_of z.source past) ≡ false) → Closed c.generations (sent_history c past)
 sent_closed c past none = λ x i h.
     let r = behind c past x i in
     let w = was_sent c past x i in
-    let quiet : has_text_in c.gens (sent_of x.source past) ≡ false = ap (λ s. has_text_in c.gens (sent_of s past)) w.source ∙ none w.sent_one w.is_in in
-    let n = sent_count c.gens x.source past in
-    elim (cases_lt (length (sent_of x.source past) - suc x.index) c.gens) [
-      | inl lt ↦ absurd (false≢true (sym quiet ∙ text_in c.gens (sent_of x.source past) r.one (nth_in (length (sent_of x.source past) - suc x.index) c.gens (sent_of x.source past) r.one r.is lt) (ap has_text (sym r.text) ∙ h)))
+    let quiet : has_text_in c.generations (sent_of x.source past) ≡ false = ap (λ s. has_text_in c.generations (sent_of s past)) w.source ∙ none w.sent_one w.is_in in
+    let n = sent_count c.generations x.source past in
+    elim (cases_lt (length (sent_of x.source past) - suc x.index) c.generations) [
+      | inl lt ↦ absurd (false≢true (sym quiet ∙ text_in c.generations (sent_of x.source past) r.one (nth_in (length (sent_of x.source past) - suc x.index) c.generations (sent_of x.source past) r.one r.is lt) (ap has_text (sym r.text) ∙ h)))
       | inr ge ↦ omega (arith, n, r.within)
     ]
 
@@ -72,8 +72,8 @@ pub record IsLast (c : Stream) (past : List Sent) (e : Sent) (x : Placed) : Type
 
 pub last_is : (c : Stream) (past : List Sent) (e : Sent) → IsLast c past e (the_last c past e)
 last_is c past e = record {
-  is_in = subst (λ (xs : List Placed). In (the_last c past e) xs) (sym (placed_grown (sent_history c past) (entry_after c.gens past e))) (in_right (the_last c past e) (placed (sent_history c past)) (the_last c past e ∷ []) (inl refl));
-  place = length_sent c.gens past;
+  is_in = subst (λ (xs : List Placed). In (the_last c past e) xs) (sym (placed_grown (sent_history c past) (entry_after c.generations past e))) (in_right (the_last c past e) (placed (sent_history c past)) (the_last c past e ∷ []) (inl refl));
+  place = length_sent c.generations past;
   packet = last_packet c past e;
 }
 

@@ -41,7 +41,7 @@ at t p = record { time = t; packet = p }
 
 -- a packet of the stream 1001
 abbrev pub red : Bool → ℕ → ℕ → List TextBlock → List ℕ → Packet
-red mark seq stamp older primary = record { mark = mark; seq = seq; stamp = stamp; ssrc = 1001; source = 1001; older = older; primary = primary }
+red marker_bit seq timestamp older primary = record { marker_bit = marker_bit; seq = seq; timestamp = timestamp; ssrc = 1001; source = 1001; older = older; primary = primary }
 
 -- A, B, C, D typed at 0, 300, 600, 900, the first sequence number being n
 abbrev p0 : ℕ → Packet
@@ -86,7 +86,7 @@ turned = refl
 
 -- ---- packets without redundant blocks
 abbrev plain : ℕ → ℕ → List ℕ → Packet
-plain seq stamp text = red false seq stamp [] text
+plain seq timestamp text = red false seq timestamp [] text
 
 -- the number between two that came is given up 1000 after the later one
 abbrev late_by : ℕ → List Arrival
@@ -150,7 +150,7 @@ ready_after_sixty_five = refl
 
 -- ---- what is sent
 abbrev c : Stream
-c = record { ssrc = 1001; first = 0; base = 0; gens = 2 }
+c = record { ssrc = 1001; first = 0; base = 0; generations = 2 }
 
 abbrev sent : ℕ → List ℕ → Sent
 sent m t = record { source = 1001; media = m; text = t }
@@ -165,14 +165,14 @@ last_packet : packet_after c (sent 1200 [] ∷ sent 900 D ∷ sent 600 C ∷ sen
 last_packet = refl
 
 -- A, B and then nothing, in packets that repeat none, one or three
-abbrev with_gens : ℕ → Stream
-with_gens g = record { ssrc = 1001; first = 0; base = 0; gens = g }
+abbrev with_generations : ℕ → Stream
+with_generations g = record { ssrc = 1001; first = 0; base = 0; generations = g }
 
 abbrev three_sent : List Sent
 three_sent = sent 600 [] ∷ sent 300 B ∷ sent 0 A ∷ []
 
 abbrev packets_of : ℕ → List Packet
-packets_of g = map (own_packet (sent_history (with_gens g) three_sent)) (placed (sent_history (with_gens g) three_sent))
+packets_of g = map (own_packet (sent_history (with_generations g) three_sent)) (placed (sent_history (with_generations g) three_sent))
 
 no_generation : packets_of 0 ≡ red true 0 0 [] A ∷ red false 1 300 [] B ∷ red false 2 600 [] [] ∷ []
 no_generation = refl
@@ -194,7 +194,7 @@ kept_three_lost = refl
 
 -- ---- three sources in turn, each with A, B, C, D typed at 0, 300, 600, 900, in 18 packets 100 apart
 abbrev mixer : Stream
-mixer = record { ssrc = 9000; first = 100; base = 5000; gens = 2 }
+mixer = record { ssrc = 9000; first = 100; base = 5000; generations = 2 }
 
 abbrev by : ℕ → ℕ → List ℕ → Sent
 by s m t = record { source = s; media = m; text = t }
@@ -225,7 +225,7 @@ round_of_three_b = refl
 round_of_three_c : without (3 ∷ 4 ∷ 5 ∷ []) 1003 ≡ all_four
 round_of_three_c = refl
 
--- these marks are needless: no text is missing
+-- these markers are needless: no text is missing
 six_lost_a : without (3 ∷ 4 ∷ 5 ∷ 6 ∷ 7 ∷ 8 ∷ []) 1001 ≡ A ∷ marker ∷ B ∷ C ∷ D ∷ []
 six_lost_a = refl
 
@@ -272,10 +272,10 @@ is_later e x = nat_lt x.media e.media && nat_lt e.media (x.media + 2 ^ 31)
 abbrev is_close : Sent → Sent → Bool
 is_close e x = not (has_text x.text) || nat_le e.media (x.media + 16383)
 
-may : (s : Stream) (past : List Sent) (e : Sent) → every (is_later e) past ≡ true → every (is_close e) (take s.gens (sent_of e.source past)) ≡ true → (length e.text ≤ 1023) × IsUtf8 e.text → MaySend s past e
+may : (s : Stream) (past : List Sent) (e : Sent) → every (is_later e) past ≡ true → every (is_close e) (take s.generations (sent_of e.source past)) ≡ true → (length e.text ≤ 1023) × IsUtf8 e.text → MaySend s past e
 may s past e l n t = record {
   later = λ x i. let a = and_parts (nat_lt x.media e.media) (nat_lt e.media (x.media + 2 ^ 31)) (every_in (is_later e) past l x i) in (ltb-true x.media e.media a.0, ltb-true e.media (x.media + 2 ^ 31) a.1);
-  near = λ x i h. elim (or_cases (not (has_text x.text)) (nat_le e.media (x.media + 16383)) (every_in (is_close e) (take s.gens (sent_of e.source past)) n x i)) [
+  near = λ x i h. elim (or_cases (not (has_text x.text)) (nat_le e.media (x.media + 16383)) (every_in (is_close e) (take s.generations (sent_of e.source past)) n x i)) [
     | inl f ↦ absurd (true≢false (sym h ∙ not-true (has_text x.text) f))
     | inr g ↦ leb-true e.media (x.media + 16383) g
   ];
@@ -316,10 +316,10 @@ six_lawful = sent_lawful c six (lit≤ tt) six_sendable
 
 -- the entries at the places 0, 4 and 5
 abbrev zeroth : Placed
-zeroth = record { place = 0; index = 0; source = 1001; media = 0; text = A; gens = 2; reach = 16383 }
+zeroth = record { place = 0; index = 0; source = 1001; media = 0; text = A; generations = 2; reach = 16383 }
 
 abbrev fourth : Placed
-fourth = record { place = 4; index = 4; source = 1001; media = 1200; text = []; gens = 2; reach = 600 }
+fourth = record { place = 4; index = 4; source = 1001; media = 1200; text = []; generations = 2; reach = 600 }
 
 three_come : Come (sent_history c six) (at 1200 (p4 4) ∷ at 0 (p0 0) ∷ [])
 three_come = own_come 2 (sent_history c six) six_lawful (sent_own c six) ((1200, fourth) ∷ (0, zeroth) ∷ []) (inr (inr (inr (inr (inl refl)))), ((lit≤ tt, lit≤ tt), (inl refl, (tt, tt))))
@@ -337,7 +337,7 @@ abbrev repeated_once : History
 repeated_once = sent_history c (sent 600 [] ∷ sent 300 B ∷ sent 0 A ∷ [])
 
 not_closed : Closed 2 repeated_once → ⊥
-not_closed f = absurd (below (f (record { place = 1; index = 1; source = 1001; media = 300; text = B; gens = 2; reach = 16383 }) (inr (inl refl)) refl))
+not_closed f = absurd (below (f (record { place = 1; index = 1; source = 1001; media = 300; text = B; generations = 2; reach = 16383 }) (inr (inl refl)) refl))
   where
     below : 3 < 3 → ⊥
     below l = omega arith

@@ -3,7 +3,7 @@ use Rattle.std.proofs.Common.{◌≡◌, ℕ, zero, suc, ◌+◌, ◌-◌, ◌<�
 use Rattle.std.specs.Prelude.{min, IsUtf8}
 use Rattle.std.specs.List.{AllByRecursion}
 use Rattle.std.proofs.lemmas.Str.{IsUtf8-nil}
-use Rattle.rtt_base.specs.declared.text_packets.Pts.{Pts}
+use Rattle.rtt_base.specs.declared.text_packets.PayloadTypes.{PayloadTypes}
 use Rattle.wire_spec.specs.Packets.{has_text}
 use Rattle.wire_spec.specs.Red.{IsRedundant}
 use Rattle.wire_spec.specs.SentPackets.{packet_written, FitsPacket}
@@ -39,25 +39,25 @@ older_count : (g media : ℕ) (zs : List Sent) → length (repeats g media zs) �
 older_count zero media zs = refl
 older_count (suc g) media zs = let r = older_count g media zs in omega (arith, r)
 
-near_each : (c : Stream) (past : List Sent) (e : Sent) → Sendable c (e ∷ past) → (z : Sent) → In z (take c.gens (sent_of e.source past)) → IsNearText e.media z
-near_each c past e s z i = (text_sent c past z s.1 (in_sent_of e.source past z (take_in c.gens (sent_of e.source past) z i)).0, s.0.near z i)
+near_each : (c : Stream) (past : List Sent) (e : Sent) → Sendable c (e ∷ past) → (z : Sent) → In z (take c.generations (sent_of e.source past)) → IsNearText e.media z
+near_each c past e s z i = (text_sent c past z s.1 (in_sent_of e.source past z (take_in c.generations (sent_of e.source past) z i)).0, s.0.near z i)
 
-pub packet_fits : (pts : Pts) (c : Stream) (past : List Sent) (e : Sent) → pts.t140 < 2 ^ 7 → pts.red < 2 ^ 7 → pts.t140 ≢ pts.red → c.gens ≤ 3 → c.ssrc < 2 ^ 32 → e.source < 2 ^ 32 → Sendable c (e ∷ past)
-    → FitsPacket pts (packet_after c past e)
-packet_fits pts c past e t r d l ssrc source s = record {
+pub packet_fits : (payload_types : PayloadTypes) (c : Stream) (past : List Sent) (e : Sent) → payload_types.t140 < 2 ^ 7 → payload_types.red < 2 ^ 7 → payload_types.t140 ≢ payload_types.red → c.generations ≤ 3 → c.ssrc < 2 ^ 32 → e.source < 2 ^ 32 → Sendable c (e ∷ past)
+    → FitsPacket payload_types (packet_after c past e)
+packet_fits payload_types c past e t r d l ssrc source s = record {
   seq = omega arith;
-  stamp = omega arith;
+  timestamp = omega arith;
   ssrc = ssrc;
   source = source;
-  few = omega (arith, older_count c.gens e.media (sent_of e.source past));
-  older = older_fits c.gens c.gens e.media (sent_of e.source past) (omega arith) (near_each c past e s);
+  few = omega (arith, older_count c.generations e.media (sent_of e.source past));
+  older = older_fits c.generations c.generations e.media (sent_of e.source past) (omega arith) (near_each c past e s);
   primary = (omega (arith, s.0.text.0), s.0.text.1);
   t140 = t;
   red = r;
   differ = d;
 }
 
-pub few_octets : (pts : Pts) (c : Stream) (past : List Sent) (e : Sent) → c.gens ≤ 3 → Sendable c (e ∷ past) → length (packet_written pts (packet_after c past e)) ≤ MOST_PACKET_OCTETS
-few_octets pts c past e l s =
-    let older = older_fits c.gens c.gens e.media (sent_of e.source past) (omega arith) (near_each c past e s) in
-    packet_size pts (packet_after c past e) (redundant_short (repeats c.gens e.media (sent_of e.source past)) older) (omega (arith, l, older_count c.gens e.media (sent_of e.source past))) s.0.text.0
+pub few_octets : (payload_types : PayloadTypes) (c : Stream) (past : List Sent) (e : Sent) → c.generations ≤ 3 → Sendable c (e ∷ past) → length (packet_written payload_types (packet_after c past e)) ≤ MOST_PACKET_OCTETS
+few_octets payload_types c past e l s =
+    let older = older_fits c.generations c.generations e.media (sent_of e.source past) (omega arith) (near_each c past e s) in
+    packet_size payload_types (packet_after c past e) (redundant_short (repeats c.generations e.media (sent_of e.source past)) older) (omega (arith, l, older_count c.generations e.media (sent_of e.source past))) s.0.text.0

@@ -10,7 +10,7 @@ use Rattle.stream_spec.specs.Fronts.{packets_ready_by}
 
 -- the packet with this number, at its time
 abbrev at : ℕ → ℕ → Arrival
-at time seq = record { time = time; packet = record { mark = Bool.false; seq = seq; stamp = seq; ssrc = 1001; source = 1001; older = []; primary = 65 ∷ [] } }
+at time seq = record { time = time; packet = record { marker_bit = Bool.false; seq = seq; timestamp = seq; ssrc = 1001; source = 1001; older = []; primary = 65 ∷ [] } }
 
 abbrev earlier : List Arrival
 earlier = at 1000 2 ∷ at 0 0 ∷ []

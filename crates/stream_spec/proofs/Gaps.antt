@@ -6,7 +6,7 @@ use Rattle.wire_spec.specs.Packets.{has_text}
 use Rattle.stream_spec.specs.Hearing.{missing, missing_between}
 use Rattle.stream_spec.specs.Lists.{In}
 use Rattle.stream_spec.specs.History.{Entry, Placed, History, placed, placed_after, entry_count, placed_at, low, Lawful, ReachFits}
-use Rattle.stream_spec.specs.Kept.{Item, Mark, Block, blocks_of, items_of, has_mark, lost_before, is_linked_after, kept_over, kept, is_above, is_entry_of, Rising, ArePlaces, IsCarrier, blocks_in, has_place, least_place, NoGap, is_text_of, Parts}
+use Rattle.stream_spec.specs.Kept.{Item, Marker, Block, blocks_of, items_of, has_marker, lost_before, is_linked_after, kept_over, kept, is_above, is_entry_of, Rising, ArePlaces, IsCarrier, blocks_in, has_place, least_place, NoGap, is_text_of, Parts}
 use Rattle.stream_spec.proofs.Lists.{in_append, in_filter, filter_in, in_when}
 use Rattle.stream_spec.proofs.Places.{index_rises, place_rises, same_index, same_place_after}
 use Rattle.stream_spec.proofs.Blocks.{Walk, next, walk_of, above_first, kept_tells, in_items_of, in_window, in_blocks_of, in_carried, carried, l2_rises, l2_only, l2_each, rising_filter, rising_placed_after, in_blocks_in}
@@ -75,7 +75,7 @@ gap_count h present lo (suc d) k y i j s e l f =
       | inr (inr gt) ↦ absurd (omega arith)
     ]
 
--- ---- without a gap there is no mark
+-- ---- without a gap there is no marker
 pub has_place_at : (i : List Placed) (k : ℕ) → has_place i k ≡ true → (x : Placed) × In x i × (x.place ≡ k)
 has_place_at [] k h = absurd (true≢false (sym h))
 has_place_at (y ∷ i) k h = elim (or_cases (y.place == k) (has_place i k) h) [
@@ -83,22 +83,22 @@ has_place_at (y ∷ i) k h = elim (or_cases (y.place == k) (has_place i k) h) [
   | inr t ↦ let r = has_place_at i k t in (r.0, inr r.1, r.2)
 ]
 
-pub mark_tells : (h : History) (present : ℕ → Bool) (least : ℕ) (prev : Option Placed) (bs : List Placed) → In Mark (kept_over h present least prev bs)
-    → (a : Option Placed) × (b : Placed) × In b bs × ((a ≡ prev) ⊎ ((x : Placed) × In x bs × (a ≡ Some x))) × (has_mark present least a b ≡ true)
-mark_tells h present least prev [] i = absurd i
-mark_tells h present least prev (b ∷ bs) i = elim (in_append Mark (items_of h present least prev b) (kept_over h present least (Some b) bs) i) [
-  | inl j ↦ elim (in_append Mark (if has_mark present least prev b then Mark ∷ [] else []) (blocks_of prev (carried h b)) j) [
-    | inl m ↦ (prev, b, inl refl, inl refl, (in_when (has_mark present least prev b) Mark Mark m).0)
-    | inr m ↦ absurd (no_mark prev (carried h b) m)
+pub marker_tells : (h : History) (present : ℕ → Bool) (least : ℕ) (prev : Option Placed) (bs : List Placed) → In Marker (kept_over h present least prev bs)
+    → (a : Option Placed) × (b : Placed) × In b bs × ((a ≡ prev) ⊎ ((x : Placed) × In x bs × (a ≡ Some x))) × (has_marker present least a b ≡ true)
+marker_tells h present least prev [] i = absurd i
+marker_tells h present least prev (b ∷ bs) i = elim (in_append Marker (items_of h present least prev b) (kept_over h present least (Some b) bs) i) [
+  | inl j ↦ elim (in_append Marker (if has_marker present least prev b then Marker ∷ [] else []) (blocks_of prev (carried h b)) j) [
+    | inl m ↦ (prev, b, inl refl, inl refl, (in_when (has_marker present least prev b) Marker Marker m).0)
+    | inr m ↦ absurd (no_marker prev (carried h b) m)
   ]
-  | inr j ↦ let r = mark_tells h present least (Some b) bs j in (r.0, r.1, inr r.2, inr (from r.0 r.3), r.4)
+  | inr j ↦ let r = marker_tells h present least (Some b) bs j in (r.0, r.1, inr r.2, inr (from r.0 r.3), r.4)
 ]
   where
-    no_mark : (prev : Option Placed) (ys : List Placed) → In Mark (blocks_of prev ys) → ⊥
-    no_mark prev [] m = m
-    no_mark prev (y ∷ ys) m = elim (in_append Mark (if is_above prev y && has_text y.text then Block y ∷ [] else []) (blocks_of prev ys) m) [
-      | inl q ↦ let r = in_when (is_above prev y && has_text y.text) Mark (Block y) q in cc r.1
-      | inr q ↦ no_mark prev ys q
+    no_marker : (prev : Option Placed) (ys : List Placed) → In Marker (blocks_of prev ys) → ⊥
+    no_marker prev [] m = m
+    no_marker prev (y ∷ ys) m = elim (in_append Marker (if is_above prev y && has_text y.text then Block y ∷ [] else []) (blocks_of prev ys) m) [
+      | inl q ↦ let r = in_when (is_above prev y && has_text y.text) Marker (Block y) q in cc r.1
+      | inr q ↦ no_marker prev ys q
     ]
 
     from : (a : Option Placed) → (a ≡ Some b) ⊎ ((x : Placed) × In x bs × (a ≡ Some x)) → (x : Placed) × In x (b ∷ bs) × (a ≡ Some x)
@@ -112,24 +112,24 @@ least_in (x ∷ i) b m = (x, inl refl, refl)
 between_none : (i : List Placed) (x b : Placed) → NoGap i → In x i → In b i → missing_between (has_place i) x.place b.place ≡ 0
 between_none i x b g m n = none_missing (has_place i) (x.place + 1) (b.place - (x.place + 1)) (λ k p q. g x b k m n (omega arith) (omega arith))
 
-no_mark_at : (i : List Placed) (a : Option Placed) (b : Placed) → NoGap i → In b i → ((a ≡ None) ⊎ ((x : Placed) × In x i × (a ≡ Some x))) → has_mark (has_place i) (least_place i) a b ≡ true → ⊥
-no_mark_at i None b g m q t =
+no_marker_at : (i : List Placed) (a : Option Placed) (b : Placed) → NoGap i → In b i → ((a ≡ None) ⊎ ((x : Placed) × In x i × (a ≡ Some x))) → has_marker (has_place i) (least_place i) a b ≡ true → ⊥
+no_marker_at i None b g m q t =
     let x = least_in i b m in
     let z = between_none i x.0 b g x.1 m in
     let z' : missing_between (has_place i) (least_place i) b.place ≡ 0 = subst (λ (n : ℕ). missing_between (has_place i) n b.place ≡ 0) x.2 z in
-    let l = ltb-true b.gens (missing_between (has_place i) (least_place i) b.place) (and_parts (nat_lt b.gens (lost_before (has_place i) (least_place i) None b)) true t).0 in
+    let l = ltb-true b.generations (missing_between (has_place i) (least_place i) b.place) (and_parts (nat_lt b.generations (lost_before (has_place i) (least_place i) None b)) true t).0 in
     omega arith
-no_mark_at i (Some a) b g m (inl e) t = cc e
-no_mark_at i (Some a) b g m (inr q) t =
+no_marker_at i (Some a) b g m (inl e) t = cc e
+no_marker_at i (Some a) b g m (inr q) t =
     let same : a ≡ q.0 = cc q.2 in
     let z = between_none i a b g (subst (λ (x : Placed). In x i) (sym same) q.1) m in
-    let l = ltb-true b.gens (missing_between (has_place i) a.place b.place) (and_parts (nat_lt b.gens (lost_before (has_place i) (least_place i) (Some a) b)) (is_linked_after (Some a) b) t).0 in
+    let l = ltb-true b.generations (missing_between (has_place i) a.place b.place) (and_parts (nat_lt b.generations (lost_before (has_place i) (least_place i) (Some a) b)) (is_linked_after (Some a) b) t).0 in
     omega arith
 
-pub l4_no_mark : (h : History) (i : List Placed) (s : ℕ) → NoGap i → In Mark (kept h i s) → ⊥
-l4_no_mark h i s g m =
-    let r = mark_tells h (has_place i) (least_place i) None (filter (is_entry_of s) i) m in
-    no_mark_at i r.0 r.1 g (in_filter (is_entry_of s) r.1 i r.2).0 (from r.0 r.3) r.4
+pub l4_no_marker : (h : History) (i : List Placed) (s : ℕ) → NoGap i → In Marker (kept h i s) → ⊥
+l4_no_marker h i s g m =
+    let r = marker_tells h (has_place i) (least_place i) None (filter (is_entry_of s) i) m in
+    no_marker_at i r.0 r.1 g (in_filter (is_entry_of s) r.1 i r.2).0 (from r.0 r.3) r.4
   where
     from : (a : Option Placed) → (a ≡ None) ⊎ ((x : Placed) × In x (filter (is_entry_of s) i) × (a ≡ Some x)) → (a ≡ None) ⊎ ((x : Placed) × In x i × (a ≡ Some x))
     from a (inl e) = inl e
@@ -156,8 +156,8 @@ rising_same (x ∷ xs) (y ∷ ys) r q f g =
 
 pub in_blocks : (k : Placed) (items : List Item) → In (Block k) items → In k (blocks_in items)
 in_blocks k [] i = absurd i
-in_blocks k (Mark ∷ xs) (inl p) = cc p
-in_blocks k (Mark ∷ xs) (inr i) = in_blocks k xs i
+in_blocks k (Marker ∷ xs) (inl p) = cc p
+in_blocks k (Marker ∷ xs) (inr i) = in_blocks k xs i
 in_blocks k (Block x ∷ xs) (inl p) = inl (cc p)
 in_blocks k (Block x ∷ xs) (inr i) = inr (in_blocks k xs i)
 
@@ -171,7 +171,7 @@ l4_all h s law =
     let a = and_parts (is_entry_of s x) (has_text x.text) r.1 in
     in_blocks x (kept h (placed h) s) (l2_each h law (placed h) s x x all r.0 (eqb-true x.source s a.0) a.1 r.0 (record { source = refl; reaches = omega arith; behind = omega arith })))
 
--- ---- a mark stands where a block is absent
+-- ---- a marker stands where a block is absent
 -- what the walk over the entries of s in i knows of i
 pub record Rest (i : List Placed) (s : ℕ) (prev : Option Placed) (bs : List Placed) : Type 0 where
   pub all : (x : Placed) → In x i → x.source ≡ s → is_above prev x ≡ true → In x bs
@@ -208,13 +208,13 @@ start_le h least s (Some p) k bs w m own a l = let f = w.follows in let u = plac
 
 -- b is the first of the walk, and its window lies above k
 marked : (h : History) (law : Lawful h) (i : List Placed) (least s : ℕ) (prev : Option Placed) (b k : Placed) (bs : List Placed) → ArePlaces h i → Walk h s prev (b ∷ bs) → Rest i s prev (b ∷ bs) → ReachFits h b
-    → In k (placed h) → k.source ≡ s → is_above prev k ≡ true → least < k.place → k.index < low b → has_mark (has_place i) least prev b ≡ true
+    → In k (placed h) → k.source ≡ s → is_above prev k ≡ true → least < k.place → k.index < low b → has_marker (has_place i) least prev b ≡ true
 marked h law i least s prev b k bs set w rest fit m own a l lo =
     let bm = w.within b (inl refl) in
     let bown = w.own b (inl refl) in
     let count = gap_count h (has_place i) (start least prev) (b.index - k.index) k b m bm (bown ∙ sym own) (omega arith) (start_le h least s prev k (b ∷ bs) w m own a l) absent in
-    and_from (nat_lt b.gens (lost_before (has_place i) least prev b)) (is_linked_after prev b)
-    (lt-ltb b.gens (lost_before (has_place i) least prev b) (rw (lost_is (has_place i) least prev b) (omega (arith, count, lo))))
+    and_from (nat_lt b.generations (lost_before (has_place i) least prev b)) (is_linked_after prev b)
+    (lt-ltb b.generations (lost_before (has_place i) least prev b) (rw (lost_is (has_place i) least prev b) (omega (arith, count, lo))))
     (linked h law s prev b k bs w fit a lo)
   where
     above : (prev : Option Placed) (z : Placed) → is_above prev k ≡ true → k.index ≤ z.index → is_above prev z ≡ true
@@ -242,7 +242,7 @@ gap_marked h law i least s prev (b ∷ bs) k c set w rest fits m own a l none j 
       let r = gap_marked h law i least s (Some b) bs k c set (next h s prev b bs w) (record { all = λ x xi so ab. later x (rest.all x xi so (up x ab)) ab; each = λ x xi. rest.each x (inr xi) }) fits m own (lt-ltb b.index k.index lt) l (λ x xi. none x (inr xi)) (there j lt) u in (
         items_of h (has_place i) least prev b ++ r.0,
         r.1,
-        ap (λ zs. items_of h (has_place i) least prev b ++ zs) r.2 ∙ sym (append_assoc (items_of h (has_place i) least prev b) r.0 (Mark ∷ r.1)),
+        ap (λ zs. items_of h (has_place i) least prev b ++ zs) r.2 ∙ sym (append_assoc (items_of h (has_place i) least prev b) r.0 (Marker ∷ r.1)),
         (λ x xi. elim (in_append (Block x) (items_of h (has_place i) least prev b) r.0 xi) [
           | inl q ↦ let v = in_items_of h (has_place i) least prev b x bm q in let bh = v.1.behind in omega arith
           | inr q ↦ r.3 x q

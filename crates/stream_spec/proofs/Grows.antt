@@ -16,7 +16,7 @@ abbrev pub grown : History → Entry → History
 grown h e = record h { entries = h.entries ++ e ∷ [] }
 
 abbrev pub last : History → Entry → Placed
-last h e = record { place = length h.entries; index = entry_count e.source h.entries; source = e.source; media = e.media; text = e.text; gens = e.gens; reach = e.reach }
+last h e = record { place = length h.entries; index = entry_count e.source h.entries; source = e.source; media = e.media; text = e.text; generations = e.generations; reach = e.reach }
 
 abbrev pub onto : List Entry → List Entry → List Entry
 onto before [] = before
@@ -66,9 +66,9 @@ before_grown h e m x i = rw (placed_grown h e) (filter_snoc (λ (y : Placed). (y
     ]
 
 pub window_grown : (h : History) (e : Entry) (x : Placed) → In x (placed h) → window (grown h e) x ≡ window h x
-window_grown h e x i = before_grown h e x.gens x i
+window_grown h e x i = before_grown h e x.generations x i
 
--- ---- the window of the last entry: the last `gens` entries of its source
+-- ---- the window of the last entry: the last `generations` entries of its source
 abbrev pub own : History → ℕ → List Placed
 own h s = filter (is_entry_of s) (placed h)
 
@@ -148,12 +148,12 @@ before_last h e m =
             rw (lt-ltb y.index (entry_count e.source h.entries) (omega arith)) (both (nat_le (entry_count e.source h.entries - m) y.index))
 
 -- the entries that the last one repeats
-pub window_last : (h : History) (e : Entry) → window (grown h e) (last h e) ≡ drop (entry_count e.source h.entries - e.gens) (own h e.source)
-window_last h e = before_last h e e.gens
+pub window_last : (h : History) (e : Entry) → window (grown h e) (last h e) ≡ drop (entry_count e.source h.entries - e.generations) (own h e.source)
+window_last h e = before_last h e e.generations
 
 -- ---- a lawful history stays lawful
 pub octets_grown : (h : History) (e : Entry) (x : Placed) → In x (placed h) → octets (grown h e) x ≡ octets h x
-octets_grown h e x i = ap (λ xs. (if x.source == h.ssrc then 12 else 16) + (4 * x.gens + 1) + length (concat (texts_of xs) ++ x.text)) (window_grown h e x i)
+octets_grown h e x i = ap (λ xs. (if x.source == h.ssrc then 12 else 16) + (4 * x.generations + 1) + length (concat (texts_of xs) ++ x.text)) (window_grown h e x i)
 
 pub reach_grown : (h : History) (e : Entry) (x : Placed) → In x (placed h) → ReachFits h x → ReachFits (grown h e) x
 reach_grown h e x i fits l = elim (fits l) [ inl z ↦ inl z | inr y ↦ inr (y.0, subst (λ (xs : List Placed). In y.0 xs) (sym (window_grown h e x i)) y.1, y.2) ]
@@ -167,7 +167,7 @@ pub record Follows (h : History) (e : Entry) : Type 0 where
   pub later : (x : Placed) → In x (placed h) → (x.media ≤ e.media) × (e.media < x.media + 2 ^ 31)
   pub own_later : (x : Placed) → In x (placed h) → x.source ≡ e.source → (x.media < e.media) × (low x ≤ low (last h e))
   pub near : (x : Placed) → In x (placed h) → x.source ≡ e.source → low (last h e) ≤ x.index → has_text x.text ≡ true → e.media ≤ x.media + 16383
-  pub gens : e.gens ≤ 8
+  pub generations : e.generations ≤ 8
   pub reach : e.reach < 2 ^ 14
   pub reach_fits : ReachFits (grown h e) (last h e)
   pub text : (length e.text ≤ MOST_TEXT_OCTETS) × IsUtf8 e.text
@@ -180,7 +180,7 @@ lawful_grown h e law f = record {
   rises = λ x y i j s l. (both x y (split h e x i) (split h e y j) s l).0;
   low_rises = λ x y i j s l. (both x y (split h e x i) (split h e y j) s l).1;
   near = λ x y i j s l r t. near x y (split h e x i) (split h e y j) s l r t;
-  gens = λ x i. elim (split h e x i) [ inl j ↦ law.gens x j | inr q ↦ subst (λ (z : Placed). z.gens ≤ 8) (sym q) f.gens ];
+  generations = λ x i. elim (split h e x i) [ inl j ↦ law.generations x j | inr q ↦ subst (λ (z : Placed). z.generations ≤ 8) (sym q) f.generations ];
   reach = λ x i. elim (split h e x i) [ inl j ↦ law.reach x j | inr q ↦ subst (λ (z : Placed). z.reach < 2 ^ 14) (sym q) f.reach ];
   reach_fits = λ x i. elim (split h e x i) [ inl j ↦ reach_grown h e x j (law.reach_fits x j) | inr q ↦ subst (ReachFits (grown h e)) (sym q) f.reach_fits ];
   text = λ x i. elim (split h e x i) [ inl j ↦ law.text x j | inr q ↦ subst (λ (z : Placed). (length z.text ≤ MOST_TEXT_OCTETS) × IsUtf8 z.text) (sym q) f.text ];
@@ -225,4 +225,4 @@ lawful_grown h e law f = record {
 
 -- the packet of an entry stays when the history grows
 pub packet_stays : (h : History) (e : Entry) (x : Placed) → In x (placed h) → own_packet (grown h e) x ≡ own_packet h x
-packet_stays h e x i = rw (before_grown h e (max 1 x.gens) x i, window_grown h e x i) refl
+packet_stays h e x i = rw (before_grown h e (max 1 x.generations) x i, window_grown h e x i) refl

@@ -33,16 +33,16 @@ list_utf8 text u = go (has_text text) refl
     go true e = (e, u, tt)
     go false e = tt
 
-older_utf8 : (prev : Option Numbered) (stamp : ℕ) (bs : List TextBlock) → AreTextBlocks bs → AreHeardTexts (older_texts prev stamp bs)
-older_utf8 prev stamp [] p = tt
-older_utf8 prev stamp (b ∷ bs) p = all_append _ _ (go (is_new prev (back stamp b.offset))) (older_utf8 prev stamp bs p.1)
+older_utf8 : (prev : Option Numbered) (timestamp : ℕ) (bs : List TextBlock) → AreTextBlocks bs → AreHeardTexts (older_texts prev timestamp bs)
+older_utf8 prev timestamp [] p = tt
+older_utf8 prev timestamp (b ∷ bs) p = all_append _ _ (go (is_new prev (back timestamp b.offset))) (older_utf8 prev timestamp bs p.1)
   where
     go : (t : Bool) → AreHeardTexts (cond t (text_list b.text) [])
     go true = list_utf8 b.text p.0
     go false = tt
 
 pub texts_utf8 : (prev : Option Numbered) (b : Numbered) → IsTextPacket b.packet → AreHeardTexts (new_texts prev b)
-texts_utf8 prev b p = all_append _ _ (older_utf8 prev b.packet.stamp b.packet.older p.older) (list_utf8 b.packet.primary p.primary)
+texts_utf8 prev b p = all_append _ _ (older_utf8 prev b.packet.timestamp b.packet.older p.older) (list_utf8 b.packet.primary p.primary)
 
 piece_utf8 : (present : ℕ → Bool) (first : ℕ) (prev : Option Numbered) (b : Numbered) → IsTextPacket b.packet → AreHeardTexts (piece present first prev b)
 piece_utf8 present first prev b p = all_append _ _ (go (is_marked present first prev b)) (texts_utf8 prev b p)

@@ -1,4 +1,4 @@
-pub mod Stamps
+pub mod Timestamps
 pub mod Lists
 pub mod Places
 pub mod Blocks

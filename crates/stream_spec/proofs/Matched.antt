@@ -11,7 +11,7 @@ use Rattle.stream_spec.specs.History.{History, Placed, placed, IsPacket, Come, e
 use Rattle.stream_spec.specs.Kept.{Rising}
 use Rattle.stream_spec.proofs.Lists.{in_put, rising_with}
 use Rattle.stream_spec.proofs.GivingUp.{in_has}
-use Rattle.stream_spec.proofs.Stamps.{nearest_place}
+use Rattle.stream_spec.proofs.Timestamps.{nearest_place}
 
 -- the number of a packet is its place, moved by a fixed amount
 pub record Matches (h : History) (p d : ℕ) (u : Numbered) (x : Placed) : Type 0 where

@@ -126,19 +126,19 @@ some_in (suc n) ys y (inr i) = some_in n ys y i
 pub own_is_packet : (g : ℕ) (h : History) (x : Placed) → Lawful h → Own g h → In x (placed h) → IsPacket h x (own_packet h x)
 own_is_packet g h x law own i = record {
   seq = refl;
-  stamp = refl;
+  timestamp = refl;
   ssrc = refl;
   source = refl;
   primary = refl;
   count = length-map (slots h x) (block_of x) ∙ slots_length;
   older = pairs_are x (slots h x) (λ y j.
-      let r = in_window h x y (some_in (x.gens - x.index) (window h x) y j) in
+      let r = in_window h x y (some_in (x.generations - x.index) (window h x) y j) in
       let lt = law.rises y x r.0 i r.1 (place_rises h y x r.0 i r.1 r.3) in omega arith);
   oldest = sym (own.reach x i);
 }
   where
-    slots_length : length (slots h x) ≡ x.gens
-    slots_length = omega (arith, length-append (nones (x.gens - x.index)) (map Some (window h x)), length_nones (x.gens - x.index), length-map (window h x) Some, window_length h x i)
+    slots_length : length (slots h x) ≡ x.generations
+    slots_length = omega (arith, length-append (nones (x.generations - x.index)) (map Some (window h x)), length_nones (x.generations - x.index), length-map (window h x) Some, window_length h x i)
 
 -- ---- the entry that a packet names is its own
 same_media : (base a b : ℕ) → a < b + 2 ^ 31 → b < a + 2 ^ 31 → (base + a) % 2 ^ 32 ≡ (base + b) % 2 ^ 32 → a ≡ b

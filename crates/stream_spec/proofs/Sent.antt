@@ -34,7 +34,7 @@ length_mirror ps [] m = ap length m
 length_mirror ps (z ∷ zs) m = let r = length_mirror m.0 zs m.4 in omega (arith, ap length m.2, length-append m.0 (m.1 ∷ []))
 
 abbrev pub the_last : Stream → List Sent → Sent → Placed
-the_last c past e = last (sent_history c past) (entry_after c.gens past e)
+the_last c past e = last (sent_history c past) (entry_after c.generations past e)
 
 -- what was sent of a source mirrors its entries
 pub mirrors : (c : Stream) (s : ℕ) (past : List Sent) → Mirrors (own (sent_history c past) s) (sent_of s past)
@@ -42,7 +42,7 @@ mirrors c s [] = refl
 mirrors c s (e ∷ past) = subst (λ (ps : List Placed). Mirrors ps (sent_of s (e ∷ past))) (sym grows) (go (e.source == s) (mirrors c s past))
   where
     grows : own (sent_history c (e ∷ past)) s ≡ own (sent_history c past) s ++ (if e.source == s then the_last c past e ∷ [] else [])
-    grows = ap (filter (is_entry_of s)) (placed_grown (sent_history c past) (entry_after c.gens past e)) ∙ filter-append (is_entry_of s) (placed (sent_history c past)) (the_last c past e ∷ [])
+    grows = ap (filter (is_entry_of s)) (placed_grown (sent_history c past) (entry_after c.generations past e)) ∙ filter-append (is_entry_of s) (placed (sent_history c past)) (the_last c past e ∷ [])
 
     go : (b : Bool) → Mirrors (own (sent_history c past) s) (sent_of s past) → Mirrors (own (sent_history c past) s ++ cond b (the_last c past e ∷ []) []) (cond b (e ∷ sent_of s past) (sent_of s past))
     go true m = (own (sent_history c past) s, the_last c past e, refl, record { text = refl; media = refl }, m)
@@ -156,30 +156,30 @@ texts_are (suc m) ps (z ∷ zs) q =
     unit false = refl
 
 -- ---- the packet of the last entry
-pub older_is : (c : Stream) (past : List Sent) (e : Sent) → map (block_of (the_last c past e)) (slots (sent_history c (e ∷ past)) (the_last c past e)) ≡ repeats c.gens e.media (sent_of e.source past)
+pub older_is : (c : Stream) (past : List Sent) (e : Sent) → map (block_of (the_last c past e)) (slots (sent_history c (e ∷ past)) (the_last c past e)) ≡ repeats c.generations e.media (sent_of e.source past)
 older_is c past e =
-    let n = sent_count c.gens e.source past in
-    let w = window_last (sent_history c past) (entry_after c.gens past e) in
-    ap (λ ys. map (block_of (the_last c past e)) (nones (c.gens - (the_last c past e).index) ++ map Some ys)) w
-    ∙ (ap (λ k. map (block_of (the_last c past e)) (nones (c.gens - k) ++ map Some (drop (k - c.gens) (own (sent_history c past) e.source)))) n
-    ∙ blocks_are c.gens (the_last c past e) (own (sent_history c past) e.source) (sent_of e.source past) (mirrors c e.source past))
+    let n = sent_count c.generations e.source past in
+    let w = window_last (sent_history c past) (entry_after c.generations past e) in
+    ap (λ ys. map (block_of (the_last c past e)) (nones (c.generations - (the_last c past e).index) ++ map Some ys)) w
+    ∙ (ap (λ k. map (block_of (the_last c past e)) (nones (c.generations - k) ++ map Some (drop (k - c.generations) (own (sent_history c past) e.source)))) n
+    ∙ blocks_are c.generations (the_last c past e) (own (sent_history c past) e.source) (sent_of e.source past) (mirrors c e.source past))
 
 pub last_packet : (c : Stream) (past : List Sent) (e : Sent) → own_packet (sent_history c (e ∷ past)) (the_last c past e) ≡ packet_after c past e
 last_packet c past e =
-    let n = sent_count c.gens e.source past in
-    let m : ℕ = max 1 c.gens in
+    let n = sent_count c.generations e.source past in
+    let m : ℕ = max 1 c.generations in
     let t : list_any (λ y. has_text y.text) (before (sent_history c (e ∷ past)) m (the_last c past e)) ≡ has_text_in m (sent_of e.source past) =
-    ap (list_any (λ (y : Placed). has_text y.text)) (before_last (sent_history c past) (entry_after c.gens past e) m)
+    ap (list_any (λ (y : Placed). has_text y.text)) (before_last (sent_history c past) (entry_after c.generations past e) m)
     ∙ (ap (λ k. list_any (λ (y : Placed). has_text y.text) (drop (k - m) (own (sent_history c past) e.source))) n
     ∙ texts_are m (own (sent_history c past) e.source) (sent_of e.source past) (mirrors c e.source past)) in
-    rw (t, length_sent c.gens past, older_is c past e) refl
+    rw (t, length_sent c.generations past, older_is c past e) refl
 
 -- ---- own
-pub own_grown : (c : Stream) (past : List Sent) (e : Sent) → Own c.gens (sent_history c past) → Own c.gens (sent_history c (e ∷ past))
+pub own_grown : (c : Stream) (past : List Sent) (e : Sent) → Own c.generations (sent_history c past) → Own c.generations (sent_history c (e ∷ past))
 own_grown c past e own = record {
-  gens = λ x i. elim (split h f x i) [ inl j ↦ own.gens x j | inr q ↦ ap (λ (z : Placed). z.gens) q ];
+  generations = λ x i. elim (split h f x i) [ inl j ↦ own.generations x j | inr q ↦ ap (λ (z : Placed). z.generations) q ];
   reach = λ x i. elim (split h f x i) [
-    | inl j ↦ own.reach x j ∙ ap (λ ys. oldest_offset (map (block_of x) (nones (x.gens - x.index) ++ map Some ys))) (sym (window_grown h f x j))
+    | inl j ↦ own.reach x j ∙ ap (λ ys. oldest_offset (map (block_of x) (nones (x.generations - x.index) ++ map Some ys))) (sym (window_grown h f x j))
     | inr q ↦ subst (λ (z : Placed). z.reach ≡ oldest_offset (own_packet (grown h f) z).older) (sym q) (ap oldest_offset (sym (older_is c past e)))
   ];
 }
@@ -188,10 +188,10 @@ own_grown c past e own = record {
     h = sent_history c past
 
     f : Entry
-    f = entry_after c.gens past e
+    f = entry_after c.generations past e
 
-pub sent_own : (c : Stream) (past : List Sent) → Own c.gens (sent_history c past)
-sent_own c [] = record { gens = λ x i. absurd i; reach = λ x i. absurd i }
+pub sent_own : (c : Stream) (past : List Sent) → Own c.generations (sent_history c past)
+sent_own c [] = record { generations = λ x i. absurd i; reach = λ x i. absurd i }
 sent_own c (e ∷ past) = own_grown c past e (sent_own c past)
 
 -- ---- lawful
@@ -204,7 +204,7 @@ pub record WasSent (past : List Sent) (x : Placed) : Type 0 where
 
 pub was_sent : (c : Stream) (past : List Sent) (x : Placed) → In x (placed (sent_history c past)) → WasSent past x
 was_sent c [] x i = absurd i
-was_sent c (e ∷ past) x i = elim (split (sent_history c past) (entry_after c.gens past e) x i) [
+was_sent c (e ∷ past) x i = elim (split (sent_history c past) (entry_after c.generations past e) x i) [
   | inl j ↦ let r = was_sent c past x j in record { sent_one = r.sent_one; is_in = inr r.is_in; same = r.same; source = r.source }
   | inr q ↦ record {
     sent_one = e;
@@ -272,20 +272,20 @@ texts_length (suc n) (y ∷ ys) f l =
     let a = f y (inl refl) in
     omega (arith, length-append y.text (concat (texts_of ys)))
 
-pub may_follow : (c : Stream) (past : List Sent) (e : Sent) → c.gens ≤ 3 → Lawful (sent_history c past) → MaySend c past e → Follows (sent_history c past) (entry_after c.gens past e)
+pub may_follow : (c : Stream) (past : List Sent) (e : Sent) → c.generations ≤ 3 → Lawful (sent_history c past) → MaySend c past e → Follows (sent_history c past) (entry_after c.generations past e)
 may_follow c past e small law m = record {
   later = λ x i. let w = was_sent c past x i in let l = m.later w.sent_one w.is_in in (omega (arith, w.same.media, l.0), omega (arith, w.same.media, l.1));
   own_later = λ x i s. let w = was_sent c past x i in let l = m.later w.sent_one w.is_in in
       let u = under x i s in
-      (omega (arith, w.same.media, l.0), omega (arith, (sent_own c past).gens x i, u));
+      (omega (arith, w.same.media, l.0), omega (arith, (sent_own c past).generations x i, u));
   near = λ x i s l t.
       let u = under x i s in
       let j : In x (window (grown h f) (last h f)) = window_has x i s l u in
       let r = among x j in
       omega (arith, r.2.media, m.near r.0 r.1 (sym (ap has_text r.2.text) ∙ t));
-  gens = omega arith;
-  reach = reach c.gens refl;
-  reach_fits = λ l. fits c.gens refl l;
+  generations = omega arith;
+  reach = reach c.generations refl;
+  reach_fits = λ l. fits c.generations refl l;
   text = m.text;
   sized = sized;
 }
@@ -294,39 +294,39 @@ may_follow c past e small law m = record {
     h = sent_history c past
 
     f : Entry
-    f = entry_after c.gens past e
+    f = entry_after c.generations past e
 
     zs : List Sent
     zs = sent_of e.source past
 
-    under : (x : Placed) → In x (placed (sent_history c past)) → x.source ≡ e.source → x.index < entry_count e.source (entries_sent c.gens past)
+    under : (x : Placed) → In x (placed (sent_history c past)) → x.source ≡ e.source → x.index < entry_count e.source (entries_sent c.generations past)
     under x i s =
-        let u = index_under [] (entries_sent c.gens past) x i in
+        let u = index_under [] (entries_sent c.generations past) x i in
         let empty : entry_count x.source [] ≡ 0 = refl in
-        let same : entry_count x.source (entries_sent c.gens past) ≡ entry_count e.source (entries_sent c.gens past) = ap (λ n. entry_count n (entries_sent c.gens past)) s in
+        let same : entry_count x.source (entries_sent c.generations past) ≡ entry_count e.source (entries_sent c.generations past) = ap (λ n. entry_count n (entries_sent c.generations past)) s in
         omega arith
 
-    window_has : (x : Placed) → In x (placed (sent_history c past)) → x.source ≡ e.source → low (the_last c past e) ≤ x.index → x.index < entry_count e.source (entries_sent c.gens past)
+    window_has : (x : Placed) → In x (placed (sent_history c past)) → x.source ≡ e.source → low (the_last c past e) ≤ x.index → x.index < entry_count e.source (entries_sent c.generations past)
         → In x (window (sent_history c (e ∷ past)) (the_last c past e))
     window_has x i s l u = window_in (sent_history c (e ∷ past)) (the_last c past e) x
-        (subst (λ (xs : List Placed). In x xs) (sym (placed_grown (sent_history c past) (entry_after c.gens past e))) (in_left x (placed (sent_history c past)) (the_last c past e ∷ []) i)) s l u
+        (subst (λ (xs : List Placed). In x xs) (sym (placed_grown (sent_history c past) (entry_after c.generations past e))) (in_left x (placed (sent_history c past)) (the_last c past e ∷ []) i)) s l u
 
     -- what the last entry repeats
-    repeated : window (sent_history c (e ∷ past)) (the_last c past e) ≡ drop (length (sent_of e.source past) - c.gens) (own (sent_history c past) e.source)
-    repeated = window_last (sent_history c past) (entry_after c.gens past e) ∙ ap (λ k. drop (k - c.gens) (own (sent_history c past) e.source)) (sent_count c.gens e.source past)
+    repeated : window (sent_history c (e ∷ past)) (the_last c past e) ≡ drop (length (sent_of e.source past) - c.generations) (own (sent_history c past) e.source)
+    repeated = window_last (sent_history c past) (entry_after c.generations past e) ∙ ap (λ k. drop (k - c.generations) (own (sent_history c past) e.source)) (sent_count c.generations e.source past)
 
-    among : (x : Placed) → In x (window (sent_history c (e ∷ past)) (the_last c past e)) → (z : Sent) × In z (take c.gens (sent_of e.source past)) × Same x z
-    among x i = mirror_in c.gens (own (sent_history c past) e.source) (sent_of e.source past) x (mirrors c e.source past) (subst (λ (xs : List Placed). In x xs) repeated i)
+    among : (x : Placed) → In x (window (sent_history c (e ∷ past)) (the_last c past e)) → (z : Sent) × In z (take c.generations (sent_of e.source past)) × Same x z
+    among x i = mirror_in c.generations (own (sent_history c past) e.source) (sent_of e.source past) x (mirrors c e.source past) (subst (λ (xs : List Placed). In x xs) repeated i)
 
     -- the k-th of those before it
-    one_offset : (k : ℕ) (z : Sent) → nth k (sent_of e.source past) ≡ Some z → k < c.gens
+    one_offset : (k : ℕ) (z : Sent) → nth k (sent_of e.source past) ≡ Some z → k < c.generations
         → ((repeat_of e.media (Some z)).offset < 2 ^ 14) × ((repeat_of e.media (Some z)).offset + z.media ≤ e.media)
     one_offset k z q l =
-        let i = nth_in k c.gens (sent_of e.source past) z q l in
-        let b = m.later z (in_sent_of e.source past z (take_in c.gens (sent_of e.source past) z i)).0 in
+        let i = nth_in k c.generations (sent_of e.source past) z q l in
+        let b = m.later z (in_sent_of e.source past z (take_in c.generations (sent_of e.source past) z i)).0 in
         offset_is e.media z (omega (arith, b.0)) (λ t. m.near z i t)
 
-    reach : (g : ℕ) → c.gens ≡ g → oldest_offset (repeats g e.media (sent_of e.source past)) < 2 ^ 14
+    reach : (g : ℕ) → c.generations ≡ g → oldest_offset (repeats g e.media (sent_of e.source past)) < 2 ^ 14
     reach zero q = omega arith
     reach (suc k) q = go (nth k (sent_of e.source past)) refl
       where
@@ -334,11 +334,11 @@ may_follow c past e small law m = record {
         go None t = omega arith
         go (Some z) t = (one_offset k z t (omega (arith, q))).0
 
-    count : c.gens ≤ (the_last c past e).index → c.gens ≤ length (sent_of e.source past)
-    count l = omega (arith, sent_count c.gens e.source past)
+    count : c.generations ≤ (the_last c past e).index → c.generations ≤ length (sent_of e.source past)
+    count l = omega (arith, sent_count c.generations e.source past)
 
-    fits : (g : ℕ) → c.gens ≡ g → c.gens ≤ (the_last c past e).index
-        → ((c.gens ≡ 0) × ((the_last c past e).reach ≡ 0)) ⊎ ((y : Placed) × In y (window (sent_history c (e ∷ past)) (the_last c past e)) × ((the_last c past e).reach + y.media ≤ e.media))
+    fits : (g : ℕ) → c.generations ≡ g → c.generations ≤ (the_last c past e).index
+        → ((c.generations ≡ 0) × ((the_last c past e).reach ≡ 0)) ⊎ ((y : Placed) × In y (window (sent_history c (e ∷ past)) (the_last c past e)) × ((the_last c past e).reach + y.media ≤ e.media))
     fits zero q l = inl (q, ap (λ g. oldest_offset (repeats g e.media (sent_of e.source past))) q)
     fits (suc k) q l =
         let n = count l in
@@ -351,9 +351,9 @@ may_follow c past e small law m = record {
 
     sized : octets (sent_history c (e ∷ past)) (the_last c past e) ≤ MOST_PACKET_OCTETS
     sized =
-        let n : length (window (sent_history c (e ∷ past)) (the_last c past e)) ≤ c.gens =
-        omega (arith, ap length repeated, length-drop (length (sent_of e.source past) - c.gens) (own (sent_history c past) e.source), length_mirror (own (sent_history c past) e.source) (sent_of e.source past) (mirrors c e.source past)) in
-        let t = texts_length c.gens (window (sent_history c (e ∷ past)) (the_last c past e)) (λ y i. short y (split h f y (in_window (sent_history c (e ∷ past)) (the_last c past e) y i).0)) n in
+        let n : length (window (sent_history c (e ∷ past)) (the_last c past e)) ≤ c.generations =
+        omega (arith, ap length repeated, length-drop (length (sent_of e.source past) - c.generations) (own (sent_history c past) e.source), length_mirror (own (sent_history c past) e.source) (sent_of e.source past) (mirrors c e.source past)) in
+        let t = texts_length c.generations (window (sent_history c (e ∷ past)) (the_last c past e)) (λ y i. short y (split h f y (in_window (sent_history c (e ∷ past)) (the_last c past e) y i).0)) n in
         let p = m.text.0 in
         head (e.source == c.ssrc) (omega (arith, t, length-append (concat (texts_of (window (sent_history c (e ∷ past)) (the_last c past e)))) e.text))
       where
@@ -361,8 +361,8 @@ may_follow c past e small law m = record {
         short y (inl j) = (law.text y j).0
         short y (inr q) = subst (λ (z : Placed). length z.text ≤ MOST_TEXT_OCTETS) (sym q) m.text.0
 
-        head : (b : Bool) → length (concat (texts_of (window (sent_history c (e ∷ past)) (the_last c past e))) ++ e.text) ≤ MOST_PACKET_OCTETS - 16 - (4 * c.gens + 1)
-            → cond b 12 16 + (4 * c.gens + 1) + length (concat (texts_of (window (sent_history c (e ∷ past)) (the_last c past e))) ++ e.text) ≤ MOST_PACKET_OCTETS
+        head : (b : Bool) → length (concat (texts_of (window (sent_history c (e ∷ past)) (the_last c past e))) ++ e.text) ≤ MOST_PACKET_OCTETS - 16 - (4 * c.generations + 1)
+            → cond b 12 16 + (4 * c.generations + 1) + length (concat (texts_of (window (sent_history c (e ∷ past)) (the_last c past e))) ++ e.text) ≤ MOST_PACKET_OCTETS
         head true l = omega (arith, small)
         head false l = omega (arith, small)
 
@@ -374,26 +374,26 @@ none_lawful ssrc first base = record {
   rises = λ x y i j q l. absurd i;
   low_rises = λ x y i j q l. absurd i;
   near = λ x y i j q l r t. absurd i;
-  gens = λ x i. absurd i;
+  generations = λ x i. absurd i;
   reach = λ x i. absurd i;
   reach_fits = λ x i. absurd i;
   text = λ x i. absurd i;
   sized = λ x i. absurd i;
 }
 
-pub sent_lawful : (c : Stream) (past : List Sent) → c.gens ≤ 3 → Sendable c past → Lawful (sent_history c past)
+pub sent_lawful : (c : Stream) (past : List Sent) → c.generations ≤ 3 → Sendable c past → Lawful (sent_history c past)
 sent_lawful c [] small s = none_lawful c.ssrc c.first c.base
 sent_lawful c (e ∷ past) small s =
     let law = sent_lawful c past small s.1 in
-    lawful_grown (sent_history c past) (entry_after c.gens past e) law (may_follow c past e small law s.0)
+    lawful_grown (sent_history c past) (entry_after c.generations past e) law (may_follow c past e small law s.0)
 
 -- the last entry is the one at the last place
 pub last_is_sent : (c : Stream) (past : List Sent) (e : Sent) (x : Placed) → In x (placed (sent_history c (e ∷ past))) → x.place ≡ length past
     → own_packet (sent_history c (e ∷ past)) x ≡ packet_after c past e
 last_is_sent c past e x i q =
     let there : In (the_last c past e) (placed (sent_history c (e ∷ past))) =
-    subst (λ (xs : List Placed). In (the_last c past e) xs) (sym (placed_grown (sent_history c past) (entry_after c.gens past e))) (in_right (the_last c past e) (placed (sent_history c past)) (the_last c past e ∷ []) (inl refl)) in
-    let same : x ≡ the_last c past e = same_place_after [] (entries_sent c.gens (e ∷ past)) x (the_last c past e) i there (omega (arith, length_sent c.gens past)) in
+    subst (λ (xs : List Placed). In (the_last c past e) xs) (sym (placed_grown (sent_history c past) (entry_after c.generations past e))) (in_right (the_last c past e) (placed (sent_history c past)) (the_last c past e ∷ []) (inl refl)) in
+    let same : x ≡ the_last c past e = same_place_after [] (entries_sent c.generations (e ∷ past)) x (the_last c past e) i there (omega (arith, length_sent c.generations past)) in
     ap (own_packet (sent_history c (e ∷ past))) same ∙ last_packet c past e
 
 pub text_in : (n : ℕ) (zs : List Sent) (z : Sent) → In z (take n zs) → has_text z.text ≡ true → has_text_in n zs ≡ true

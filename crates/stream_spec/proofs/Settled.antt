@@ -69,11 +69,11 @@ module _ (wait t : ℕ) (e : Numbered) (past : List Numbered) (first front : ℕ
       ∙ (ap (max u.time) k ∙ ap (λ n. max u.time (latest_end wait past n (suc u.number - n))) (sym (s.first_is 0)))
 
 -- ---- many more
-stamps_same : (wait : ℕ) (p q us : List Numbered) → ((u : Numbered) → In u us → ready_of wait p u ≡ ready_of wait q u) → map (stamped wait p) us ≡ map (stamped wait q) us
-stamps_same wait p q [] f = refl
-stamps_same wait p q (u ∷ us) f =
+timestamps_same : (wait : ℕ) (p q us : List Numbered) → ((u : Numbered) → In u us → ready_of wait p u ≡ ready_of wait q u) → map (stamped wait p) us ≡ map (stamped wait q) us
+timestamps_same wait p q [] f = refl
+timestamps_same wait p q (u ∷ us) f =
     ap (λ (n : ℕ). record { time = n; number = u.number; packet = u.packet } ∷ map (stamped wait p) us) (f u (inl refl))
-    ∙ ap (λ (vs : List Numbered). stamped wait q u ∷ vs) (stamps_same wait p q us (λ v i. f v (inr i)))
+    ∙ ap (λ (vs : List Numbered). stamped wait q u ∷ vs) (timestamps_same wait p q us (λ v i. f v (inr i)))
 
 pub record Stays (wait t : ℕ) (all earlier : List Numbered) (first front : ℕ) (out : List Numbered) : Type 0 where
   pub settled : Settled wait t all first front out
@@ -89,7 +89,7 @@ stays wait t (a ∷ later) earlier first front out f s =
     let l : t ≤ e.time = f a (inl refl) in
     record {
       settled = one_more wait t e past first front out l r.settled;
-      same = stamps_same wait (e ∷ past) past out (ready_same wait t e past first front out l r.settled) ∙ r.same;
+      same = timestamps_same wait (e ∷ past) past out (ready_same wait t e past first front out l r.settled) ∙ r.same;
     }
 
 -- ---- what is ready by t is settled

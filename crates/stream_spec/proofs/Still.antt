@@ -69,7 +69,7 @@ placed_at_still : (es : List Entry) (e : Entry) → placed_at (map still_entry e
 placed_at_still es e =
     let l = length-map es still_entry in
     let c = count_still e.source es in
-    λ i. record { place = l i; index = c i; source = e.source; media = e.media; text = still_text e.text; gens = e.gens; reach = e.reach }
+    λ i. record { place = l i; index = c i; source = e.source; media = e.media; text = still_text e.text; generations = e.generations; reach = e.reach }
 
 placed_still_after : (before es : List Entry) → placed_after (map still_entry before) (map still_entry es) ≡ map still_placed (placed_after before es)
 placed_still_after before [] = refl
@@ -106,12 +106,12 @@ texts_short (x ∷ xs) = omega (arith, length-append (still_text x.text) (concat
 
 octets_still : (h : History) (x : Placed) → octets (still_history h) (still_placed x) ≤ octets h x
 octets_still h x =
-    let w : length (concat (texts_of (window (still_history h) (still_placed x)))) ≡ length (concat (texts_of (map still_placed (window h x)))) = ap (λ ys. length (concat (texts_of ys))) (before_still h x.gens x) in
+    let w : length (concat (texts_of (window (still_history h) (still_placed x)))) ≡ length (concat (texts_of (map still_placed (window h x)))) = ap (λ ys. length (concat (texts_of ys))) (before_still h x.generations x) in
     let a = length-append (concat (texts_of (window (still_history h) (still_placed x)))) (still_text x.text) in
     let b = length-append (concat (texts_of (window h x))) x.text in
     let s = texts_short (window h x) in
     let t = still_short x.text in
-    sum (if x.source == h.ssrc then 12 else 16) (4 * x.gens + 1) _ _ (omega (arith, w, a, b, s, t))
+    sum (if x.source == h.ssrc then 12 else 16) (4 * x.generations + 1) _ _ (omega (arith, w, a, b, s, t))
   where
     sum : (a b m n : ℕ) → m ≤ n → a + b + m ≤ a + b + n
     sum a b m n l = omega (arith, l)
@@ -124,7 +124,7 @@ lawful_still h law = record {
   low_rises = two h (λ x y. x.source ≡ y.source → x.place < y.place → low x ≤ low y) law.low_rises;
   near = two h (λ x y. x.source ≡ y.source → x.index < y.index → low y ≤ x.index → has_text x.text ≡ true → y.media ≤ x.media + 16383)
       (λ x y i j s l w t. law.near x y i j s l w (still_has x.text t));
-  gens = one h (λ x. x.gens ≤ 8) law.gens;
+  generations = one h (λ x. x.generations ≤ 8) law.generations;
   reach = one h (λ x. x.reach < 2 ^ 14) law.reach;
   reach_fits = one h (ReachFits (still_history h)) fits;
   text = one h (λ x. (length x.text ≤ MOST_TEXT_OCTETS) × IsUtf8 x.text)
@@ -135,7 +135,7 @@ lawful_still h law = record {
     fits : (x : Placed) → In x (placed h) → ReachFits (still_history h) (still_placed x)
     fits x i l = elim (law.reach_fits x i l) [
       | inl q ↦ inl q
-      | inr q ↦ inr (still_placed q.0, subst (In (still_placed q.0)) (sym (before_still h x.gens x)) (map_in still_placed q.0 (window h x) q.1), q.2)
+      | inr q ↦ inr (still_placed q.0, subst (In (still_placed q.0)) (sym (before_still h x.generations x)) (map_in still_placed q.0 (window h x) q.1), q.2)
     ]
 
 -- ---- packets
@@ -153,10 +153,10 @@ somes_still (x ∷ xs) = ap (λ ys. Some (still_placed x) ∷ ys) (somes_still x
 
 slots_still : (h : History) (x : Placed) → slots (still_history h) (still_placed x) ≡ map still_slot (slots h x)
 slots_still h x =
-    let w = before_still h x.gens x in
+    let w = before_still h x.generations x in
     let s = somes_still (window h x) in
-    let n = nones_still (x.gens - x.index) in
-    ap (λ ys. nones (x.gens - x.index) ++ map Some ys) w ∙ ((λ i. sym n i ++ s i) ∙ sym (map-append still_slot (nones (x.gens - x.index)) (map Some (window h x))))
+    let n = nones_still (x.generations - x.index) in
+    ap (λ ys. nones (x.generations - x.index) ++ map Some ys) w ∙ ((λ i. sym n i ++ s i) ∙ sym (map-append still_slot (nones (x.generations - x.index)) (map Some (window h x))))
 
 repeats_still : (x : Placed) (bs : List TextBlock) (ys : List (Option Placed)) → AllZip (Repeats x) bs ys → AllZip (Repeats (still_placed x)) (map still_block bs) (map still_slot ys)
 repeats_still x [] [] r = tt
@@ -172,7 +172,7 @@ oldest_still (b ∷ bs) = refl
 packet_still : (h : History) (x : Placed) (p : Packet) → IsPacket h x p → IsPacket (still_history h) (still_placed x) (still_packet p)
 packet_still h x p is = record {
   seq = is.seq;
-  stamp = is.stamp;
+  timestamp = is.timestamp;
   ssrc = is.ssrc;
   source = is.source;
   primary = ap still_text is.primary;
@@ -184,7 +184,7 @@ packet_still h x p is = record {
 -- ---- what comes
 named_still : (base : ℕ) (p : Packet) (xs : List Placed) → named base (still_packet p) (map still_placed xs) ≡ still_placed (named base p xs)
 named_still base p [] = refl
-named_still base p (x ∷ xs) = go ((x.source == p.source) && (((base + x.media) % 2 ^ 32) == p.stamp)) (named_still base p xs)
+named_still base p (x ∷ xs) = go ((x.source == p.source) && (((base + x.media) % 2 ^ 32) == p.timestamp)) (named_still base p xs)
   where
     go : (b : Bool) → named base (still_packet p) (map still_placed xs) ≡ still_placed (named base p xs)
         → cond b (still_placed x) (named base (still_packet p) (map still_placed xs)) ≡ still_placed (cond b x (named base p xs))

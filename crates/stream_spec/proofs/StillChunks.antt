@@ -46,37 +46,37 @@ list_still (x ∷ text) = go (is_blank (x ∷ text)) refl
     go true e = sym (ap (λ b. cond (not b) ((x ∷ text) ∷ []) []) e)
     go false e = sym (ap (λ b. cond (not b) ((x ∷ text) ∷ []) []) e)
 
-new_still : (prev : Option Numbered) (stamp : ℕ) → is_new (prev_still prev) stamp ≡ is_new prev stamp
-new_still None stamp = refl
-new_still (Some a) stamp = refl
+new_still : (prev : Option Numbered) (timestamp : ℕ) → is_new (prev_still prev) timestamp ≡ is_new prev timestamp
+new_still None timestamp = refl
+new_still (Some a) timestamp = refl
 
 when_new : (b : Bool) (text : List ℕ) → cond b (text_list (still_text text)) [] ≡ filter is_lively (cond b (text_list text) [])
 when_new true text = list_still text
 when_new false text = refl
 
-older_still : (prev : Option Numbered) (stamp : ℕ) (bs : List TextBlock) → older_texts (prev_still prev) stamp (map still_block bs) ≡ filter is_lively (older_texts prev stamp bs)
-older_still prev stamp [] = refl
-older_still prev stamp (b ∷ bs) =
-    let n = new_still prev (back stamp b.offset) in
-    let r = older_still prev stamp bs in
-    ap (λ x. cond x (text_list (still_text b.text)) [] ++ older_texts (prev_still prev) stamp (map still_block bs)) n
-    ∙ (ap (λ ts. ts ++ older_texts (prev_still prev) stamp (map still_block bs)) (when_new (is_new prev (back stamp b.offset)) b.text)
-    ∙ (ap (λ ts. filter is_lively (cond (is_new prev (back stamp b.offset)) (text_list b.text) []) ++ ts) r
-    ∙ sym (filter-append is_lively (cond (is_new prev (back stamp b.offset)) (text_list b.text) []) (older_texts prev stamp bs))))
+older_still : (prev : Option Numbered) (timestamp : ℕ) (bs : List TextBlock) → older_texts (prev_still prev) timestamp (map still_block bs) ≡ filter is_lively (older_texts prev timestamp bs)
+older_still prev timestamp [] = refl
+older_still prev timestamp (b ∷ bs) =
+    let n = new_still prev (back timestamp b.offset) in
+    let r = older_still prev timestamp bs in
+    ap (λ x. cond x (text_list (still_text b.text)) [] ++ older_texts (prev_still prev) timestamp (map still_block bs)) n
+    ∙ (ap (λ ts. ts ++ older_texts (prev_still prev) timestamp (map still_block bs)) (when_new (is_new prev (back timestamp b.offset)) b.text)
+    ∙ (ap (λ ts. filter is_lively (cond (is_new prev (back timestamp b.offset)) (text_list b.text) []) ++ ts) r
+    ∙ sym (filter-append is_lively (cond (is_new prev (back timestamp b.offset)) (text_list b.text) []) (older_texts prev timestamp bs))))
 
 texts_still : (prev : Option Numbered) (b : Numbered) → new_texts (prev_still prev) (still_numbered b) ≡ filter is_lively (new_texts prev b)
 texts_still prev b =
-    let o = older_still prev b.packet.stamp b.packet.older in
+    let o = older_still prev b.packet.timestamp b.packet.older in
     let p = list_still b.packet.primary in
-    (λ i. o i ++ p i) ∙ sym (filter-append is_lively (older_texts prev b.packet.stamp b.packet.older) (text_list b.packet.primary))
+    (λ i. o i ++ p i) ∙ sym (filter-append is_lively (older_texts prev b.packet.timestamp b.packet.older) (text_list b.packet.primary))
 
 marked_still : (present : ℕ → Bool) (first : ℕ) (prev : Option Numbered) (b : Numbered) → is_marked present first (prev_still prev) (still_numbered b) ≡ is_marked present first prev b
 marked_still present first prev b =
     let l = length-map b.packet.older still_block in
     let o = oldest_still b.packet.older in
-    (λ i. nat_lt (l i) (missing_before present first (prev_still prev) (still_numbered b)) && is_new (prev_still prev) (back b.packet.stamp (o i))) ∙ same prev
+    (λ i. nat_lt (l i) (missing_before present first (prev_still prev) (still_numbered b)) && is_new (prev_still prev) (back b.packet.timestamp (o i))) ∙ same prev
   where
-    same : (prev : Option Numbered) → (nat_lt (length b.packet.older) (missing_before present first (prev_still prev) (still_numbered b)) && is_new (prev_still prev) (back b.packet.stamp (oldest_offset b.packet.older)))
+    same : (prev : Option Numbered) → (nat_lt (length b.packet.older) (missing_before present first (prev_still prev) (still_numbered b)) && is_new (prev_still prev) (back b.packet.timestamp (oldest_offset b.packet.older)))
         ≡ is_marked present first prev b
     same None = refl
     same (Some a) = refl
@@ -86,12 +86,12 @@ piece_still present first prev b =
     let m = marked_still present first prev b in
     let t = texts_still prev b in
     (λ i. cond (m i) (marker ∷ []) [] ++ t i)
-    ∙ (ap (λ ts. ts ++ filter is_lively (new_texts prev b)) (marks (is_marked present first prev b))
+    ∙ (ap (λ ts. ts ++ filter is_lively (new_texts prev b)) (markers (is_marked present first prev b))
     ∙ sym (filter-append is_lively (cond (is_marked present first prev b) (marker ∷ []) []) (new_texts prev b)))
   where
-    marks : (b : Bool) → cond b (marker ∷ []) [] ≡ filter is_lively (cond b (marker ∷ []) [])
-    marks true = refl
-    marks false = refl
+    markers : (b : Bool) → cond b (marker ∷ []) [] ≡ filter is_lively (cond b (marker ∷ []) [])
+    markers true = refl
+    markers false = refl
 
 -- ---- chunks
 over_still : (ready late : Numbered → ℕ) → ((b : Numbered) → late (still_numbered b) ≡ ready b) → (place : ℕ) (present : ℕ → Bool) (first : ℕ) (prev : Option Numbered) (bs : List Numbered)

@@ -6,7 +6,7 @@ use Rattle.stream_spec.specs.Own.{Sent, Stream}
 use Rattle.stream_spec.specs.Typed.{Event, Text, Ask, entries, sents, packet_at}
 
 abbrev c : Stream
-c = record { ssrc = 1001; first = 0; base = 0; gens = 2 }
+c = record { ssrc = 1001; first = 0; base = 0; generations = 2 }
 
 abbrev block : ℕ → List ℕ → TextBlock
 block o t = record { offset = o; text = t }
@@ -33,10 +33,10 @@ asked = Ask 1200 ∷ Ask 900 ∷ Ask 600 ∷ Ask 300 ∷ typed_b
 two_letters : sents (entries c 300 asked) ≡ sent 900 [] ∷ sent 600 [] ∷ sent 300 B ∷ sent 0 A ∷ []
 two_letters = refl
 
-first_packet : packet_at c 300 typed_a 0 ≡ Some (record { mark = true; seq = 0; stamp = 0; ssrc = 1001; source = 1001; older = block 16383 [] ∷ block 16383 [] ∷ []; primary = A })
+first_packet : packet_at c 300 typed_a 0 ≡ Some (record { marker_bit = true; seq = 0; timestamp = 0; ssrc = 1001; source = 1001; older = block 16383 [] ∷ block 16383 [] ∷ []; primary = A })
 first_packet = refl
 
-last_packet : packet_at c 300 (Ask 600 ∷ Ask 300 ∷ typed_b) 900 ≡ Some (record { mark = false; seq = 3; stamp = 900; ssrc = 1001; source = 1001; older = block 600 B ∷ block 300 [] ∷ []; primary = [] })
+last_packet : packet_at c 300 (Ask 600 ∷ Ask 300 ∷ typed_b) 900 ≡ Some (record { marker_bit = false; seq = 3; timestamp = 900; ssrc = 1001; source = 1001; older = block 600 B ∷ block 300 [] ∷ []; primary = [] })
 last_packet = refl
 
 -- not before the interval has passed, and not once all was repeated
@@ -52,19 +52,19 @@ long_pause = refl
 
 -- with three generations the steps are shorter: the third repeat of B lies 15000 behind it
 abbrev three : Stream
-three = record { ssrc = 1001; first = 0; base = 0; gens = 3 }
+three = record { ssrc = 1001; first = 0; base = 0; generations = 3 }
 
 long_pause_of_three : sents (entries three 300 (Ask 120000 ∷ Ask 90000 ∷ Ask 60000 ∷ Ask 30000 ∷ typed_b)) ≡ sent 20000 [] ∷ sent 15000 [] ∷ sent 10000 [] ∷ sent 5000 B ∷ sent 0 A ∷ []
 long_pause_of_three = refl
 
 -- without generations nothing is repeated, and each packet with a text before it has no M bit
 abbrev none : Stream
-none = record { ssrc = 1001; first = 0; base = 0; gens = 0 }
+none = record { ssrc = 1001; first = 0; base = 0; generations = 0 }
 
 once : sents (entries none 300 asked) ≡ sent 300 B ∷ sent 0 A ∷ []
 once = refl
 
-plain_packet : packet_at none 300 typed_b 300 ≡ Some (record { mark = false; seq = 1; stamp = 300; ssrc = 1001; source = 1001; older = []; primary = B })
+plain_packet : packet_at none 300 typed_b 300 ≡ Some (record { marker_bit = false; seq = 1; timestamp = 300; ssrc = 1001; source = 1001; older = []; primary = B })
 plain_packet = refl
 
 -- a text of 1026 octets, 342 times U+20AC, which has three octets: 341 characters fit

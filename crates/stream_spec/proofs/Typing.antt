@@ -142,7 +142,7 @@ pub record Paced (c : Stream) (last : ℕ) (es : List Turned) : Type 0 where
   pub early : (e : Turned) → In e es → (e.sent.media ≤ e.at) × (e.at ≤ last)
   pub own : sent_of c.ssrc (sents es) ≡ sents es
   pub sendable : Sendable c (sents es)
-  pub pauses : Pauses c.gens es
+  pub pauses : Pauses c.generations es
 
 paced_later : (c : Stream) (m t : ℕ) (es : List Turned) → m ≤ t → Paced c m es → Paced c t es
 paced_later c m t es l p = record { early = λ e j. let r = p.early e j in (r.0, omega (arith, r.1)); own = p.own; sendable = p.sendable; pauses = p.pauses }
@@ -206,15 +206,15 @@ media_between g t f es l = go (has_text_in g (sents (f ∷ es))) (some_step g)
 
 -- the media time at t is later than each before it
 later_media : (c : Stream) (i t m : ℕ) (es : List Turned) → 1 ≤ i → m ≤ t → has_passed i es t ≡ true → Paced c m es
-    → (media_at c.gens es t ≤ t) × ((x : Sent) → In x (sents es) → x.media < media_at c.gens es t)
+    → (media_at c.generations es t ≤ t) × ((x : Sent) → In x (sents es) → x.media < media_at c.generations es t)
 later_media c i t m [] o l d p = (omega arith, λ x j. absurd j)
 later_media c i t m (f ∷ es) o l d p =
     let a = p.early f (inl refl) in
     let passed : f.at + i ≤ t = grind (arith, nat_tests) in
-    let b = media_between c.gens t f es (omega (arith, a.0)) in
+    let b = media_between c.generations t f es (omega (arith, a.0)) in
     (b.1, λ x j. elim j [ inl q ↦ omega (arith, ap (λ (z : Sent). z.media) q, b.0) | inr k ↦ let r = p.sendable.0.later x k in omega (arith, r.0, b.0) ])
 
-paced_more : (c : Stream) (i t m : ℕ) (es : List Turned) (w : List ℕ) → c.gens ≤ 3 → 1 ≤ i → m ≤ t → t < 2 ^ 31 → IsUtf8 w → has_passed i es t ≡ true → Paced c m es
+paced_more : (c : Stream) (i t m : ℕ) (es : List Turned) (w : List ℕ) → c.generations ≤ 3 → 1 ≤ i → m ≤ t → t < 2 ^ 31 → IsUtf8 w → has_passed i es t ≡ true → Paced c m es
     → Paced c t (entry_at c es w t ∷ es)
 paced_more c i t m es w most o l top u d p =
     let n = later_media c i t m es o l d p in
@@ -225,12 +225,12 @@ paced_more c i t m es w most o l top u d p =
       sendable = (
         record {
           later = λ x j. let a = n.1 x j in (a, omega (arith, n.0));
-          near = λ x j h. near_texts c.gens t es most p.pauses x (subst (λ (zs : List Sent). In x (take c.gens zs)) p.own j) h;
+          near = λ x j h. near_texts c.generations t es most p.pauses x (subst (λ (zs : List Sent). In x (take c.generations zs)) p.own j) h;
           text = (f.short, f.front_is);
         },
         p.sendable,
       );
-      pauses = (media_near c.gens t es, p.pauses);
+      pauses = (media_near c.generations t es, p.pauses);
     }
   where
     own : sent_of c.ssrc (sents (entry_at c es w t ∷ es)) ≡ sents (entry_at c es w t ∷ es)
@@ -240,10 +240,10 @@ pub and_second : (a b : Bool) → (a && b) ≡ true → b ≡ true
 and_second true b h = h
 and_second false b h = cc h
 
-pub paced : (c : Stream) (i : ℕ) (past : List Event) → c.gens ≤ 3 → 1 ≤ i → IsScript past → Paced c (last_ask past) (entries c i past)
+pub paced : (c : Stream) (i : ℕ) (past : List Event) → c.generations ≤ 3 → 1 ≤ i → IsScript past → Paced c (last_ask past) (entries c i past)
 paced c i [] most o s = record { early = λ e j. absurd j; own = refl; sendable = tt; pauses = tt }
 paced c i (Text text ∷ past) most o s = paced c i past most o s.1
 paced c i (Ask t ∷ past) most o s =
     asked (Paced c t) (due_at c i past t) (entry_at c (entries c i past) (waiting c i past) t) (entries c i past)
-    (λ d. paced_more c i t (last_ask past) (entries c i past) (waiting c i past) most o s.0 s.1 (waits_utf8 c i past s.2) (and_second (has_text (waiting c i past) || has_text_in c.gens (sents (entries c i past))) (has_passed i (entries c i past) t) d) (paced c i past most o s.2))
+    (λ d. paced_more c i t (last_ask past) (entries c i past) (waiting c i past) most o s.0 s.1 (waits_utf8 c i past s.2) (and_second (has_text (waiting c i past) || has_text_in c.generations (sents (entries c i past))) (has_passed i (entries c i past) t) d) (paced c i past most o s.2))
     (paced_later c (last_ask past) t (entries c i past) s.0 (paced c i past most o s.2))

@@ -13,8 +13,8 @@ use Rattle.stream_spec.specs.Lists.{In}
 use Rattle.stream_spec.proofs.Lists.{HeadedBy, headed_with}
 use Rattle.stream_spec.specs.History.{History, Placed, placed, window, nones, slots, Repeats, IsPacket, Lawful, Come, entry_of, by_place, places}
 use Rattle.stream_spec.specs.Kept as k
-use Rattle.stream_spec.specs.Kept.{Item, Mark, has_place, least_place, is_above, is_linked_after, lost_before, blocks_of, has_mark, items_of, kept_over, kept, is_entry_of, text_of, texts, Rising, ArePlaces}
-use Rattle.stream_spec.proofs.Stamps.{after_back}
+use Rattle.stream_spec.specs.Kept.{Item, Marker, has_place, least_place, is_above, is_linked_after, lost_before, blocks_of, has_marker, items_of, kept_over, kept, is_entry_of, text_of, texts, Rising, ArePlaces}
+use Rattle.stream_spec.proofs.Timestamps.{after_back}
 use Rattle.stream_spec.proofs.Places.{index_rises, place_rises}
 use Rattle.stream_spec.proofs.Blocks.{Walk, next, walk_of, in_window, carried}
 use Rattle.stream_spec.proofs.Matched.{Matches, IsFirst, counted, first_is, matched, places_rise}
@@ -59,14 +59,14 @@ new_at None x offset = true
 new_at (Some y) x offset = nat_lt (y.media + offset) x.media
 
 pub new_is : (h : History) (law : Lawful h) (p d : ℕ) (prev : Option Numbered) (prev' : Option Placed) (b : Packet) (x : Placed) (offset : ℕ) → PrevMatches h p d prev prev' → PrevBefore h prev' x
-    → In x (placed h) → IsPacket h x b → offset < 2 ^ 31 → is_new prev (back b.stamp offset) ≡ new_at prev' x offset
+    → In x (placed h) → IsPacket h x b → offset < 2 ^ 31 → is_new prev (back b.timestamp offset) ≡ new_at prev' x offset
 new_is h law p d None None b x offset m l i is o = refl
 new_is h law p d None (Some y) b x offset m l i is o = absurd m
 new_is h law p d (Some a) None b x offset m l i is o = absurd m
 new_is h law p d (Some a) (Some y) b x offset m l i is o =
     let below = law.rises y x l.0 i l.1 l.2 in
     let span = law.spans x y i l.0 in
-    rw (is.stamp, m.is.stamp) (after_back h.base x.media y.media offset span (omega arith) o (omega arith))
+    rw (is.timestamp, m.is.timestamp) (after_back h.base x.media y.media offset span (omega arith) o (omega arith))
 
 linked_is : (prev' : Option Placed) (x : Placed) → is_linked_after prev' x ≡ new_at prev' x x.reach
 linked_is None x = refl
@@ -79,12 +79,12 @@ lost_is h p d f g first least None (Some y) b x e z m q = absurd m
 lost_is h p d f g first least (Some a) None b x e z m q = absurd m
 lost_is h p d f g first least (Some a) (Some y) b x e z m q = between_moved f g p d a.number b.number y.place x.place e m.number q.number
 
-mark_is : (h : History) (law : Lawful h) (p d : ℕ) (f g : ℕ → Bool) (first least : ℕ) (prev : Option Numbered) (prev' : Option Placed) (b : Numbered) (x : Placed) → SameTests p d f g → first + p ≡ least + d
-    → PrevMatches h p d prev prev' → PrevBefore h prev' x → Matches h p d b x → is_marked f first prev b ≡ has_mark g least prev' x
-mark_is h law p d f g first least prev prev' b x e z m l q =
+marker_is : (h : History) (law : Lawful h) (p d : ℕ) (f g : ℕ → Bool) (first least : ℕ) (prev : Option Numbered) (prev' : Option Placed) (b : Numbered) (x : Placed) → SameTests p d f g → first + p ≡ least + d
+    → PrevMatches h p d prev prev' → PrevBefore h prev' x → Matches h p d b x → is_marked f first prev b ≡ has_marker g least prev' x
+marker_is h law p d f g first least prev prev' b x e z m l q =
     let fits = law.reach x q.within in
     let oldest = q.is.oldest in
-    let new : is_new prev (back b.packet.stamp (oldest_offset b.packet.older)) ≡ is_linked_after prev' x =
+    let new : is_new prev (back b.packet.timestamp (oldest_offset b.packet.older)) ≡ is_linked_after prev' x =
     new_is h law p d prev prev' b.packet x (oldest_offset b.packet.older) m l q.within q.is (omega arith) ∙ (ap (new_at prev' x) oldest ∙ sym (linked_is prev' x)) in
     let lost = lost_is h p d f g first least prev prev' b x e z m q in
     rw (new, lost, q.is.count)
@@ -129,7 +129,7 @@ no_text t e = rw e
 -- one block
 block_is : (h : History) (law : Lawful h) (p d : ℕ) (prev : Option Numbered) (prev' : Option Placed) (b : Packet) (x y : Placed) (c : TextBlock) → PrevMatches h p d prev prev' → PrevBefore h prev' x
     → In x (placed h) → IsPacket h x b → In y (placed h) → y.source ≡ x.source → Repeats x c (Some y)
-    → (if is_new prev (back b.stamp c.offset) then text_list c.text else []) ≡ texts (block_item prev' y)
+    → (if is_new prev (back b.timestamp c.offset) then text_list c.text else []) ≡ texts (block_item prev' y)
 block_is h law p d prev prev' b x y c m l i is j s r = go (has_text y.text) refl (is_above prev' y) refl
   where
     short : c.offset < 2 ^ 31
@@ -139,9 +139,9 @@ block_is h law p d prev prev' b x y c m l i is j s r = go (has_text y.text) refl
     empty true e = ap text_list r.0 ∙ no_text y.text e
     empty false e = refl
 
-    go : (t : Bool) → has_text y.text ≡ t → (u : Bool) → is_above prev' y ≡ u → (if is_new prev (back b.stamp c.offset) then text_list c.text else []) ≡ texts (block_item prev' y)
-    go false e true f = rw (f, e) (empty (is_new prev (back b.stamp c.offset)) e)
-    go false e false f = rw f (empty (is_new prev (back b.stamp c.offset)) e)
+    go : (t : Bool) → has_text y.text ≡ t → (u : Bool) → is_above prev' y ≡ u → (if is_new prev (back b.timestamp c.offset) then text_list c.text else []) ≡ texts (block_item prev' y)
+    go false e true f = rw (f, e) (empty (is_new prev (back b.timestamp c.offset)) e)
+    go false e false f = rw f (empty (is_new prev (back b.timestamp c.offset)) e)
     go true e u f =
         let new = new_is h law p d prev prev' b x c.offset m l i is short ∙ above_is h law prev' x y c.offset l j s (r.2 e) in
         rw (new, r.0, f, e) (both u)
@@ -153,13 +153,13 @@ block_is h law p d prev prev' b x y c m l i is j s r = go (has_text y.text) refl
 -- the redundant blocks
 older_is : (h : History) (law : Lawful h) (p d : ℕ) (prev : Option Numbered) (prev' : Option Placed) (b : Packet) (x : Placed) (cs : List TextBlock) (sl : List (Option Placed)) → PrevMatches h p d prev prev' → PrevBefore h prev' x
     → In x (placed h) → IsPacket h x b → AllZip (Repeats x) cs sl → ((y : Placed) → In y (somes sl) → In y (placed h) × (y.source ≡ x.source))
-    → older_texts prev b.stamp cs ≡ texts (blocks_of prev' (somes sl))
+    → older_texts prev b.timestamp cs ≡ texts (blocks_of prev' (somes sl))
 older_is h law p d prev prev' b x [] [] m l i is q f = refl
 older_is h law p d prev prev' b x [] (s ∷ sl) m l i is q f = absurd q
 older_is h law p d prev prev' b x (c ∷ cs) [] m l i is q f = absurd q
 older_is h law p d prev prev' b x (c ∷ cs) (None ∷ sl) m l i is q f =
     let r = older_is h law p d prev prev' b x cs sl m l i is q.1 f in
-    ap (λ ts. ts ++ older_texts prev b.stamp cs) (empty (is_new prev (back b.stamp c.offset))) ∙ r
+    ap (λ ts. ts ++ older_texts prev b.timestamp cs) (empty (is_new prev (back b.timestamp c.offset))) ∙ r
   where
     empty : (t : Bool) → (if t then text_list c.text else []) ≡ []
     empty true = ap text_list q.0
@@ -168,7 +168,7 @@ older_is h law p d prev prev' b x (c ∷ cs) (Some y ∷ sl) m l i is q f =
     let r = older_is h law p d prev prev' b x cs sl m l i is q.1 (λ z j. f z (inr j)) in
     let g = f y (inl refl) in
     let e = block_is h law p d prev prev' b x y c m l i is g.0 g.1 q.0 in
-    ap (λ ts. ts ++ older_texts prev b.stamp cs) e ∙ (ap (λ ts. texts (block_item prev' y) ++ ts) r ∙ sym (map-append text_of (block_item prev' y) (blocks_of prev' (somes sl))))
+    ap (λ ts. ts ++ older_texts prev b.timestamp cs) e ∙ (ap (λ ts. texts (block_item prev' y) ++ ts) r ∙ sym (map-append text_of (block_item prev' y) (blocks_of prev' (somes sl))))
 
 prev_above : (h : History) (prev' : Option Placed) (x : Placed) → PrevBefore h prev' x → In x (placed h) → is_above prev' x ≡ true
 prev_above h None x l i = refl
@@ -185,20 +185,20 @@ own_text x = go (has_text x.text)
 pub piece_is : (h : History) (law : Lawful h) (p d : ℕ) (f g : ℕ → Bool) (first least : ℕ) (prev : Option Numbered) (prev' : Option Placed) (b : Numbered) (x : Placed) → SameTests p d f g → first + p ≡ least + d
     → PrevMatches h p d prev prev' → PrevBefore h prev' x → Matches h p d b x → piece f first prev b ≡ texts (items_of h g least prev' x)
 piece_is h law p d f g first least prev prev' b x e z m l q =
-    let same : somes (slots h x) ≡ window h x = somes_nones (x.gens - x.index) (map Some (window h x)) ∙ somes_map (window h x) in
+    let same : somes (slots h x) ≡ window h x = somes_nones (x.generations - x.index) (map Some (window h x)) ∙ somes_map (window h x) in
     let older = older_is h law p d prev prev' b.packet x b.packet.older (slots h x) m l q.within q.is q.is.older
     (λ y j. let r = in_window h x y (subst (λ (ys : List Placed). In y ys) same j) in (r.0, r.1)) in
-    let older' : older_texts prev b.packet.stamp b.packet.older ≡ texts (blocks_of prev' (window h x)) = older ∙ ap (λ ys. texts (blocks_of prev' ys)) same in
+    let older' : older_texts prev b.packet.timestamp b.packet.older ≡ texts (blocks_of prev' (window h x)) = older ∙ ap (λ ys. texts (blocks_of prev' ys)) same in
     let own : text_list b.packet.primary ≡ texts (blocks_of prev' (x ∷ [])) =
     ap text_list q.is.primary ∙ (own_text x ∙ ap texts (sym (append-nil (block_item prev' x) ∙ ap (λ t. if t && has_text x.text then k.Block x ∷ [] else []) (prev_above h prev' x l q.within)))) in
-    let marks = mark_is h law p d f g first least prev prev' b x e z m l q in
-    let all : older_texts prev b.packet.stamp b.packet.older ++ text_list b.packet.primary ≡ texts (blocks_of prev' (carried h x)) =
+    let markers = marker_is h law p d f g first least prev prev' b x e z m l q in
+    let all : older_texts prev b.packet.timestamp b.packet.older ++ text_list b.packet.primary ≡ texts (blocks_of prev' (carried h x)) =
     ap (λ ts. ts ++ text_list b.packet.primary) older' ∙ (ap (λ ts. texts (blocks_of prev' (window h x)) ++ ts) own
     ∙ (sym (map-append text_of (blocks_of prev' (window h x)) (blocks_of prev' (x ∷ []))) ∙ ap texts (sym (blocks_append prev' (window h x) (x ∷ []))))) in
-    rw marks (go (has_mark g least prev' x) all)
+    rw markers (go (has_marker g least prev' x) all)
   where
-    go : (t : Bool) → older_texts prev b.packet.stamp b.packet.older ++ text_list b.packet.primary ≡ texts (blocks_of prev' (carried h x))
-        → (if t then marker ∷ [] else []) ++ (older_texts prev b.packet.stamp b.packet.older ++ text_list b.packet.primary) ≡ texts ((if t then Mark ∷ [] else []) ++ blocks_of prev' (carried h x))
+    go : (t : Bool) → older_texts prev b.packet.timestamp b.packet.older ++ text_list b.packet.primary ≡ texts (blocks_of prev' (carried h x))
+        → (if t then marker ∷ [] else []) ++ (older_texts prev b.packet.timestamp b.packet.older ++ text_list b.packet.primary) ≡ texts ((if t then Marker ∷ [] else []) ++ blocks_of prev' (carried h x))
     go true a = ap (λ ts. marker ∷ ts) a
     go false a = a
 

@@ -33,10 +33,10 @@ BlocksAreThoseCarried =
     → (s : ℕ) (k : Placed)
     → In (Block k) (kept h i s) ↔ IsCarried h i s k
 
--- Where a block is absent, a place below it came and a later one of its source, a mark parts the blocks below it from those
+-- Where a block is absent, a place below it came and a later one of its source, a marker parts the blocks below it from those
 -- above it.
-abbrev pub MarkStands : Type 0
-MarkStands =
+abbrev pub MarkerStands : Type 0
+MarkerStands =
     (h : History) → Lawful h
     → (i : List Placed) → ArePlaces h i
     → (s : ℕ) (k below above : Placed)

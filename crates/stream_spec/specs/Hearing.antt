@@ -2,7 +2,7 @@
 -- Addendum 1; the rule for a marker where many sources share one numbering is a profile).
 use Rattle.std.specs.Prelude.{◌≡◌, ℕ, zero, suc, ◌+◌, ◌-◌, ◌==◌, Bool, true, Option, None, Some, List, [], ◌∷◌, ◌++◌, length, filter, IsUtf8, ◌&&◌, nat_lt, if◌then◌else◌}
 use Rattle.rtt_base.specs.declared.blocks.TextBlock.{TextBlock}
-use Rattle.rtt_base.specs.Stamps.{is_after}
+use Rattle.rtt_base.specs.Timestamps.{is_after}
 use Rattle.wire_spec.specs.Packets.{Arrival, back, has_text}
 use Rattle.stream_spec.specs.Lists.{In}
 use Rattle.stream_spec.specs.Numbering.{Numbered, numbered, used, has_number, first_number}
@@ -22,10 +22,10 @@ marker = 239 ∷ 191 ∷ 189 ∷ []
 
 -- what is stamped so is new after the packet before, if there is one
 abbrev pub is_new : Option Numbered → ℕ → Bool
-is_new None stamp = true
-is_new (Some a) stamp = is_after stamp a.packet.stamp
+is_new None timestamp = true
+is_new (Some a) timestamp = is_after timestamp a.packet.timestamp
 
--- how far the oldest block lies before the packet's stamp; the primary, where it is the only one
+-- how far the oldest block lies before the packet's timestamp; the primary, where it is the only one
 abbrev pub oldest_offset : List TextBlock → ℕ
 oldest_offset [] = 0
 oldest_offset (b ∷ bs) = b.offset
@@ -39,20 +39,20 @@ missing_before present first (Some a) b = missing_between present a.number b.num
 abbrev pub is_marked : (ℕ → Bool) → ℕ → Option Numbered → Numbered → Bool
 is_marked present first prev b =
     nat_lt (length b.packet.older) (missing_before present first prev b)
-    && is_new prev (back b.packet.stamp (oldest_offset b.packet.older))
+    && is_new prev (back b.packet.timestamp (oldest_offset b.packet.older))
 
 -- a text, where there is one
 abbrev pub text_list : List ℕ → List (List ℕ)
 text_list text = if has_text text then text ∷ [] else []
 
--- the new texts of redundant blocks, in a packet with this stamp
+-- the new texts of redundant blocks, in a packet with this timestamp
 abbrev pub older_texts : Option Numbered → ℕ → List TextBlock → List (List ℕ)
-older_texts prev stamp [] = []
-older_texts prev stamp (b ∷ bs) = (if is_new prev (back stamp b.offset) then text_list b.text else []) ++ older_texts prev stamp bs
+older_texts prev timestamp [] = []
+older_texts prev timestamp (b ∷ bs) = (if is_new prev (back timestamp b.offset) then text_list b.text else []) ++ older_texts prev timestamp bs
 
 -- all new texts of b, oldest first
 abbrev pub new_texts : Option Numbered → Numbered → List (List ℕ)
-new_texts prev b = older_texts prev b.packet.stamp b.packet.older ++ text_list b.packet.primary
+new_texts prev b = older_texts prev b.packet.timestamp b.packet.older ++ text_list b.packet.primary
 
 -- what b adds, where prev is the packet of its source before it
 abbrev pub piece : (ℕ → Bool) → ℕ → Option Numbered → Numbered → List (List ℕ)

@@ -9,12 +9,13 @@ use Rattle.stream_spec.specs.Numbering.{in_time, numbered, number_it}
 use Rattle.stream_spec.specs.Hearing.{oldest_offset}
 use Rattle.rtt_base.specs.declared.limits.TheConstants.{MOST_OFFSET, MOST_PACKET_OCTETS, MOST_TEXT_OCTETS}
 
--- A text that was sent: `gens` is the number of redundant blocks beside it, `reach` the offset of the oldest of them.
+-- A text that was sent: `generations` is the number of redundant blocks beside it, `reach` the offset of the oldest of
+-- them.
 pub record Entry : Type 0 where
   pub source : ℕ
   pub media : ℕ
   pub text : List ℕ
-  pub gens : ℕ
+  pub generations : ℕ
   pub reach : ℕ
 
 -- the entries, oldest first, of a stream with this SSRC, first sequence number, and timestamp at media time 0
@@ -31,7 +32,7 @@ pub record Placed : Type 0 where
   pub source : ℕ
   pub media : ℕ
   pub text : List ℕ
-  pub gens : ℕ
+  pub generations : ℕ
   pub reach : ℕ
 
 -- how many entries are of the source
@@ -40,7 +41,7 @@ entry_count s [] = 0
 entry_count s (e ∷ es) = (if e.source == s then 1 else 0) + entry_count s es
 
 abbrev pub placed_at : List Entry → Entry → Placed
-placed_at before e = record { place = length before; index = entry_count e.source before; source = e.source; media = e.media; text = e.text; gens = e.gens; reach = e.reach }
+placed_at before e = record { place = length before; index = entry_count e.source before; source = e.source; media = e.media; text = e.text; generations = e.generations; reach = e.reach }
 
 abbrev pub placed_after : List Entry → List Entry → List Placed
 placed_after before [] = []
@@ -55,18 +56,18 @@ before h n x = filter (λ y. (y.source == x.source) && (nat_le (x.index - n) y.i
 
 -- the least index that x repeats
 abbrev pub low : Placed → ℕ
-low x = x.index - x.gens
+low x = x.index - x.generations
 
 -- the entries that x repeats
 abbrev pub window : History → Placed → List Placed
-window h x = before h x.gens x
+window h x = before h x.generations x
 
 abbrev pub nones : ℕ → List (Option Placed)
 nones n = replicate n None
 
 -- for each redundant block of x the entry that it repeats, if there is one
 abbrev pub slots : History → Placed → List (Option Placed)
-slots h x = nones (x.gens - x.index) ++ map Some (window h x)
+slots h x = nones (x.generations - x.index) ++ map Some (window h x)
 
 -- The block of x repeats this entry: its text, at the exact distance; at most the distance where there is no text.
 abbrev pub Repeats : Placed → TextBlock → Option Placed → Type 0
@@ -76,17 +77,17 @@ Repeats x b (Some y) = (b.text ≡ y.text) × (b.offset + y.media ≤ x.media) �
 -- p is a packet of the entry x
 pub record IsPacket (h : History) (x : Placed) (p : Packet) : Type 0 where
   pub seq : p.seq ≡ (h.first + x.place) % 65536
-  pub stamp : p.stamp ≡ (h.base + x.media) % 2 ^ 32
+  pub timestamp : p.timestamp ≡ (h.base + x.media) % 2 ^ 32
   pub ssrc : p.ssrc ≡ h.ssrc
   pub source : p.source ≡ x.source
   pub primary : p.primary ≡ x.text
-  pub count : length p.older ≡ x.gens
+  pub count : length p.older ≡ x.generations
   pub older : AllZip (Repeats x) p.older (slots h x)
   pub oldest : oldest_offset p.older ≡ x.reach
 
 -- The oldest block of x reaches no farther than to an entry that x repeats.
 abbrev pub ReachFits : History → Placed → Type 0
-ReachFits h x = x.gens ≤ x.index → ((x.gens ≡ 0) × (x.reach ≡ 0)) ⊎ ((y : Placed) × In y (window h x) × (x.reach + y.media ≤ x.media))
+ReachFits h x = x.generations ≤ x.index → ((x.generations ≡ 0) × (x.reach ≡ 0)) ⊎ ((y : Placed) × In y (window h x) × (x.reach + y.media ≤ x.media))
 
 abbrev pub texts_of : List Placed → List (List ℕ)
 texts_of [] = []
@@ -95,7 +96,7 @@ texts_of (x ∷ xs) = x.text ∷ texts_of xs
 -- The octets of the packet of x in red form: the fixed header and, where the source is another than the stream's, one
 -- CSRC; the block headers; the texts.
 abbrev pub octets : History → Placed → ℕ
-octets h x = (if x.source == h.ssrc then 12 else 16) + (4 * x.gens + 1) + length (concat (texts_of (window h x)) ++ x.text)
+octets h x = (if x.source == h.ssrc then 12 else 16) + (4 * x.generations + 1) + length (concat (texts_of (window h x)) ++ x.text)
 
 pub record Lawful (h : History) : Type 0 where
   pub orders : (x y : Placed) → In x (placed h) → In y (placed h) → x.place ≤ y.place → x.media ≤ y.media
@@ -104,19 +105,19 @@ pub record Lawful (h : History) : Type 0 where
   pub low_rises : (x y : Placed) → In x (placed h) → In y (placed h) → x.source ≡ y.source → x.place < y.place → low x ≤ low y
   pub near : (x y : Placed) → In x (placed h) → In y (placed h) → x.source ≡ y.source → x.index < y.index → low y ≤ x.index
       → has_text x.text ≡ true → y.media ≤ x.media + MOST_OFFSET
-  pub gens : (x : Placed) → In x (placed h) → x.gens ≤ 8
+  pub generations : (x : Placed) → In x (placed h) → x.generations ≤ 8
   pub reach : (x : Placed) → In x (placed h) → x.reach < 2 ^ 14
   pub reach_fits : (x : Placed) → In x (placed h) → ReachFits h x
   pub text : (x : Placed) → In x (placed h) → (length x.text ≤ MOST_TEXT_OCTETS) × IsUtf8 x.text
   pub sized : (x : Placed) → In x (placed h) → octets h x ≤ MOST_PACKET_OCTETS
 
 abbrev pub nowhere : Placed
-nowhere = record { place = 0; index = 0; source = 0; media = 0; text = []; gens = 0; reach = 0 }
+nowhere = record { place = 0; index = 0; source = 0; media = 0; text = []; generations = 0; reach = 0 }
 
--- the entry that the source and the stamp of a packet name
+-- the entry that the source and the timestamp of a packet name
 abbrev pub named : ℕ → Packet → List Placed → Placed
 named base p [] = nowhere
-named base p (x ∷ xs) = if (x.source == p.source) && (((base + x.media) % 2 ^ 32) == p.stamp) then x else named base p xs
+named base p (x ∷ xs) = if (x.source == p.source) && (((base + x.media) % 2 ^ 32) == p.timestamp) then x else named base p xs
 
 abbrev pub entry_of : History → Packet → Placed
 entry_of h p = named h.base p (placed h)

@@ -1,5 +1,5 @@
--- What the places that came tell of a history: its blocks, and marks between them. There are no stamps, arrivals or
--- clocks here: a list is filtered by a set (profile).
+-- What the places that came tell of a history: its blocks, and markers between them. There are no timestamps, arrivals
+-- or clocks here: a list is filtered by a set (profile).
 use Rattle.std.specs.Prelude.{◌≡◌, ℕ, ◌+◌, ◌<◌, ◌≤◌, ◌==◌, Bool, true, Option, None, Some, List, [], ◌∷◌, ◌++◌, map, filter, ◌&&◌, nat_lt, if◌then◌else◌}
 use Rattle.std.specs.List.{list_any}
 use Rattle.wire_spec.specs.Packets.{has_text}
@@ -7,9 +7,9 @@ use Rattle.stream_spec.specs.Hearing.{missing_between, marker}
 use Rattle.stream_spec.specs.Lists.{In, RisingBy}
 use Rattle.stream_spec.specs.History.{History, Placed, placed, low, window}
 
--- the block of an entry, or a mark that blocks may be missing
+-- the block of an entry, or a marker that blocks may be missing
 pub data Item : Type 0 where
-  Mark : Item
+  Marker : Item
   Block : Placed → Item
 
 abbrev pub has_place : List Placed → ℕ → Bool
@@ -35,13 +35,13 @@ abbrev pub blocks_of : Option Placed → List Placed → List Item
 blocks_of prev [] = []
 blocks_of prev (y ∷ ys) = (if is_above prev y && has_text y.text then Block y ∷ [] else []) ++ blocks_of prev ys
 
-abbrev pub has_mark : (ℕ → Bool) → ℕ → Option Placed → Placed → Bool
-has_mark present least prev b = nat_lt b.gens (lost_before present least prev b) && is_linked_after prev b
+abbrev pub has_marker : (ℕ → Bool) → ℕ → Option Placed → Placed → Bool
+has_marker present least prev b = nat_lt b.generations (lost_before present least prev b) && is_linked_after prev b
 
--- what b gives: a mark where more places are missing than b repeats, and the new blocks that it carries
+-- what b gives: a marker where more places are missing than b repeats, and the new blocks that it carries
 abbrev pub items_of : History → (ℕ → Bool) → ℕ → Option Placed → Placed → List Item
 items_of h present least prev b =
-    (if has_mark present least prev b then Mark ∷ [] else [])
+    (if has_marker present least prev b then Marker ∷ [] else [])
     ++ blocks_of prev (window h b ++ b ∷ [])
 
 -- what these entries of one source give, which came, where prev is the one before them that came
@@ -61,7 +61,7 @@ abbrev pub kept : History → List Placed → ℕ → List Item
 kept h i s = kept_over h (has_place i) (least_place i) None (filter (is_entry_of s) i)
 
 abbrev pub text_of : Item → List ℕ
-text_of Mark = marker
+text_of Marker = marker
 text_of (Block x) = x.text
 
 abbrev pub texts : List Item → List (List ℕ)
@@ -93,7 +93,7 @@ pub record IsCarried (h : History) (i : List Placed) (s : ℕ) (k : Placed) : Ty
 
 abbrev pub blocks_in : List Item → List Placed
 blocks_in [] = []
-blocks_in (Mark ∷ items) = blocks_in items
+blocks_in (Marker ∷ items) = blocks_in items
 blocks_in (Block x ∷ items) = x ∷ blocks_in items
 
 -- no place between two that came is missing
@@ -103,6 +103,6 @@ NoGap i = (x y : Placed) (k : ℕ) → In x i → In y i → x.place < k → k <
 abbrev pub is_text_of : ℕ → Placed → Bool
 is_text_of s x = is_entry_of s x && has_text x.text
 
--- a mark parts the blocks below k from those above
+-- a marker parts the blocks below k from those above
 abbrev pub Parts : Placed → List Item → Type 0
-Parts k items = (xs ys : List Item) × (items ≡ xs ++ Mark ∷ ys) × ((x : Placed) → In (Block x) xs → x.index < k.index) × ((x : Placed) → In (Block x) ys → k.index < x.index)
+Parts k items = (xs ys : List Item) × (items ≡ xs ++ Marker ∷ ys) × ((x : Placed) → In (Block x) xs → x.index < k.index) × ((x : Placed) → In (Block x) ys → k.index < x.index)

@@ -1,6 +1,6 @@
 -- What the laws say of numbers, of the used packets and of what is settled.
 use Rattle.std.specs.Prelude.{◌≡◌, ℕ, ◌%◌, ◌<◌, ◌≤◌, ◌↔◌, ◌⊎◌, true, List, [], ◌++◌}
-use Rattle.rtt_base.specs.declared.text_packets.Pts.{Pts}
+use Rattle.rtt_base.specs.declared.text_packets.PayloadTypes.{PayloadTypes}
 use Rattle.wire_spec.specs.Dump
 use Rattle.wire_spec.specs.Packets.{Arrival}
 use Rattle.stream_spec.specs.Lists.{In}
@@ -60,20 +60,20 @@ EndsWhereSettled =
 -- The times of a recording's arrivals never fall.
 abbrev pub RecordingsNeverFall : Type 0
 RecordingsNeverFall =
-    (items : List Dump.Item) (ssrc : ℕ) (pts : Pts)
-    → Falling (numbered (Dump.arrivals_after ssrc pts [] items))
+    (items : List Dump.Item) (ssrc : ℕ) (payload_types : PayloadTypes)
+    → Falling (numbered (Dump.arrivals_after ssrc payload_types [] items))
 
 -- The same of its octets.
 abbrev pub OctetsNeverFall : Type 0
 OctetsNeverFall =
-    (octets : List ℕ) (ssrc : ℕ) (pts : Pts)
-    → Falling (numbered (Dump.arrivals octets ssrc pts))
+    (octets : List ℕ) (ssrc : ℕ) (payload_types : PayloadTypes)
+    → Falling (numbered (Dump.arrivals octets ssrc payload_types))
 
 -- So the moments at which chunks are ready never fall.
 abbrev pub OctetsAreReadyInOrder : Type 0
 OctetsAreReadyInOrder =
-    (octets : List ℕ) (ssrc : ℕ) (pts : Pts) (wait place s : ℕ)
-    → ReadyRises (chunks wait place (Dump.arrivals octets ssrc pts) s)
+    (octets : List ℕ) (ssrc : ℕ) (payload_types : PayloadTypes) (wait place s : ℕ)
+    → ReadyRises (chunks wait place (Dump.arrivals octets ssrc payload_types) s)
 
 -- ---- what is settled
 -- The used packets that are ready by t stay the first of all, whatever comes at t or later.

@@ -3,7 +3,7 @@
 use Rattle.std.specs.Prelude.{◌≡◌, ℕ, zero, suc, ◌+◌, ◌-◌, ◌%◌, ◌^◌, ◌<◌, ◌==◌, Bool, not, true, Option, None, Some, List, [], ◌∷◌, ◌++◌, length, map, take, min, max, if◌then◌else◌, ◌≤◌, IsUtf8}
 use Rattle.std.specs.List.{list_any}
 use Rattle.rtt_base.specs.declared.blocks.TextBlock.{TextBlock}
-use Rattle.rtt_base.specs.Stamps.{ahead}
+use Rattle.rtt_base.specs.Timestamps.{ahead}
 use Rattle.wire_spec.specs.Packets.{Packet, Arrival, has_text}
 use Rattle.stream_spec.specs.Lists.{In}
 use Rattle.stream_spec.specs.Hearing.{oldest_offset}
@@ -22,14 +22,14 @@ block_of x (Some y) = record { offset = if has_text y.text then x.media - y.medi
 
 -- The M bit: none of the entries that x repeats has text; where x repeats none, the one before it has none.
 abbrev pub is_after_pause : History → Placed → Bool
-is_after_pause h x = not (list_any (λ y. has_text y.text) (before h (max 1 x.gens) x))
+is_after_pause h x = not (list_any (λ y. has_text y.text) (before h (max 1 x.generations) x))
 
 -- the one packet of x
 abbrev pub own_packet : History → Placed → Packet
 own_packet h x = record {
-  mark = is_after_pause h x;
+  marker_bit = is_after_pause h x;
   seq = (h.first + x.place) % 65536;
-  stamp = (h.base + x.media) % 2 ^ 32;
+  timestamp = (h.base + x.media) % 2 ^ 32;
   ssrc = h.ssrc;
   source = x.source;
   older = map (block_of x) (slots h x);
@@ -48,23 +48,23 @@ NearEach h (a ∷ past) = In a.1 (placed h) × (IsNear h a.1.place (come_from h 
 
 -- each entry has g redundant blocks, and `reach` is the offset of the oldest block of its packet
 pub record Own (g : ℕ) (h : History) : Type 0 where
-  pub gens : (x : Placed) → In x (placed h) → x.gens ≡ g
+  pub generations : (x : Placed) → In x (placed h) → x.generations ≡ g
   pub reach : (x : Placed) → In x (placed h) → x.reach ≡ oldest_offset (own_packet h x).older
 
 -- each text was repeated g times
 abbrev pub Closed : ℕ → History → Type 0
 Closed g h = (x : Placed) → In x (placed h) → has_text x.text ≡ true → x.index + g < entry_count x.source h.entries
 
--- The media time that a stamp tells, where the entry before it has the media time m: the first one from m on.
+-- The media time that a timestamp tells, where the entry before it has the media time m: the first one from m on.
 abbrev pub media_of : ℕ → ℕ → ℕ → ℕ
-media_of base m stamp = m + ahead stamp ((base + m) % 2 ^ 32)
+media_of base m timestamp = m + ahead timestamp ((base + m) % 2 ^ 32)
 
 -- the entries that packets tell, in order, after the media time m
 abbrev pub entries_of : ℕ → ℕ → List Packet → List Entry
 entries_of base m [] = []
 entries_of base m (p ∷ ps) =
-    record { source = p.source; media = media_of base m p.stamp; text = p.primary; gens = length p.older; reach = oldest_offset p.older }
-    ∷ entries_of base (media_of base m p.stamp) ps
+    record { source = p.source; media = media_of base m p.timestamp; text = p.primary; generations = length p.older; reach = oldest_offset p.older }
+    ∷ entries_of base (media_of base m p.timestamp) ps
 
 abbrev pub first_seq : List Packet → ℕ
 first_seq [] = 0
@@ -74,7 +74,7 @@ abbrev pub first_ssrc : List Packet → ℕ
 first_ssrc [] = 0
 first_ssrc (p ∷ ps) = p.ssrc
 
--- the history that packets tell, in order, where `base` is the stamp of the media time 0
+-- the history that packets tell, in order, where `base` is the timestamp of the media time 0
 abbrev pub history_of : List Packet → ℕ → History
 history_of packets base = record { ssrc = first_ssrc packets; first = first_seq packets; base = base; entries = entries_of base 0 packets }
 
@@ -89,7 +89,7 @@ pub record Stream : Type 0 where
   pub ssrc : ℕ
   pub first : ℕ
   pub base : ℕ
-  pub gens : ℕ
+  pub generations : ℕ
 
 -- what was sent of the source
 abbrev pub sent_of : ℕ → List Sent → List Sent
@@ -117,7 +117,7 @@ abbrev pub has_text_in : ℕ → List Sent → Bool
 has_text_in n past = list_any (λ e. has_text e.text) (take n past)
 
 abbrev pub entry_after : ℕ → List Sent → Sent → Entry
-entry_after g past e = record { source = e.source; media = e.media; text = e.text; gens = g; reach = oldest_offset (repeats g e.media (sent_of e.source past)) }
+entry_after g past e = record { source = e.source; media = e.media; text = e.text; generations = g; reach = oldest_offset (repeats g e.media (sent_of e.source past)) }
 
 -- oldest first
 abbrev pub entries_sent : ℕ → List Sent → List Entry
@@ -126,24 +126,24 @@ entries_sent g (e ∷ past) = entries_sent g past ++ entry_after g past e ∷ []
 
 -- the history of what was sent, newest first
 abbrev pub sent_history : Stream → List Sent → History
-sent_history c past = record { ssrc = c.ssrc; first = c.first; base = c.base; entries = entries_sent c.gens past }
+sent_history c past = record { ssrc = c.ssrc; first = c.first; base = c.base; entries = entries_sent c.generations past }
 
 -- the packet of e, sent after these
 abbrev pub packet_after : Stream → List Sent → Sent → Packet
 packet_after c past e = record {
-  mark = not (has_text_in (max 1 c.gens) (sent_of e.source past));
+  marker_bit = not (has_text_in (max 1 c.generations) (sent_of e.source past));
   seq = (c.first + length past) % 65536;
-  stamp = (c.base + e.media) % 2 ^ 32;
+  timestamp = (c.base + e.media) % 2 ^ 32;
   ssrc = c.ssrc;
   source = e.source;
-  older = repeats c.gens e.media (sent_of e.source past);
+  older = repeats c.generations e.media (sent_of e.source past);
   primary = e.text;
 }
 
 -- e may be sent after these: it is later than each, and near to each text that it repeats
 pub record MaySend (c : Stream) (past : List Sent) (e : Sent) : Type 0 where
   pub later : (x : Sent) → In x past → (x.media < e.media) × (e.media < x.media + 2 ^ 31)
-  pub near : (x : Sent) → In x (take c.gens (sent_of e.source past)) → has_text x.text ≡ true → e.media ≤ x.media + MOST_OFFSET
+  pub near : (x : Sent) → In x (take c.generations (sent_of e.source past)) → has_text x.text ≡ true → e.media ≤ x.media + MOST_OFFSET
   pub text : (length e.text ≤ MOST_TEXT_OCTETS) × IsUtf8 e.text
 
 -- each of these could be sent after those before it

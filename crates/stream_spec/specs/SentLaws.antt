@@ -9,7 +9,7 @@ use Rattle.stream_spec.specs.Own.{Own, Closed, Stream, Sent, Sendable, NearEach,
 abbrev pub SentIsLawful : Type 0
 SentIsLawful =
     (c : Stream) (past : List Sent)
-    → c.gens ≤ 3
+    → c.generations ≤ 3
     → Sendable c past
     → Lawful (sent_history c past)
 
@@ -25,8 +25,8 @@ LastIsSent =
 abbrev pub QuietIsClosed : Type 0
 QuietIsClosed =
     (c : Stream) (past : List Sent)
-    → ((s : ℕ) → has_text_in c.gens (sent_of s past) ≡ false)
-    → Closed c.gens (sent_history c past)
+    → ((s : ℕ) → has_text_in c.generations (sent_of s past) ≡ false)
+    → Closed c.generations (sent_history c past)
 
 -- ---- own packets
 -- The own packet of an entry is a packet of it.

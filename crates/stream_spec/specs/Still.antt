@@ -44,10 +44,10 @@ still_numbered u = record { time = u.time; number = u.number; packet = still_pac
 
 -- ---- of what was sent
 abbrev pub still_entry : Entry → Entry
-still_entry e = record { source = e.source; media = e.media; text = still_text e.text; gens = e.gens; reach = e.reach }
+still_entry e = record { source = e.source; media = e.media; text = still_text e.text; generations = e.generations; reach = e.reach }
 
 abbrev pub still_history : History → History
 still_history h = record { ssrc = h.ssrc; first = h.first; base = h.base; entries = map still_entry h.entries }
 
 abbrev pub still_placed : Placed → Placed
-still_placed x = record { place = x.place; index = x.index; source = x.source; media = x.media; text = still_text x.text; gens = x.gens; reach = x.reach }
+still_placed x = record { place = x.place; index = x.index; source = x.source; media = x.media; text = still_text x.text; generations = x.generations; reach = x.reach }

@@ -62,11 +62,11 @@ media_at g (e ∷ es) t = if has_text_in g (sents (e ∷ es)) then min t (e.sent
 
 -- an entry stands at t: text waits or is still to be repeated, and the interval has passed
 abbrev pub is_due : Stream → ℕ → List Turned → List ℕ → ℕ → Bool
-is_due c interval es waits t = (has_text waits || has_text_in c.gens (sents es)) && has_passed interval es t
+is_due c interval es waits t = (has_text waits || has_text_in c.generations (sents es)) && has_passed interval es t
 
 -- the entry at t, after these, where this text waits
 abbrev pub entry_at : Stream → List Turned → List ℕ → ℕ → Turned
-entry_at c es waits t = record { at = t; sent = record { source = c.ssrc; media = media_at c.gens es t; text = whole_front MOST_TEXT_OCTETS waits } }
+entry_at c es waits t = record { at = t; sent = record { source = c.ssrc; media = media_at c.generations es t; text = whole_front MOST_TEXT_OCTETS waits } }
 
 -- what waits of all that was typed
 abbrev pub left : List Turned → List ℕ → List ℕ
@@ -97,7 +97,7 @@ packet_at c interval past t =
 
 -- text waits, or is still to be repeated
 abbrev pub has_more : Stream → ℕ → List Event → Bool
-has_more c interval past = has_text (waiting c interval past) || has_text_in c.gens (sents (entries c interval past))
+has_more c interval past = has_text (waiting c interval past) || has_text_in c.generations (sents (entries c interval past))
 
 -- the first moment at which another entry may stand, where one is there
 abbrev pub next_at : ℕ → List Turned → Option ℕ

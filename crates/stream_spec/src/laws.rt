@@ -5,9 +5,9 @@ ghost use Rattle.wire_spec.specs.Packets.{Arrival};
 ghost use Rattle.stream_spec.specs.Lists.{In};
 ghost use Rattle.stream_spec.specs.Numbering.{Numbered, RisingNumbers, nearest, used};
 ghost use Rattle.stream_spec.specs.History.{Come, History, Placed, places};
-ghost use Rattle.stream_spec.specs.Kept.{ArePlaces, Mark, NoGap, kept};
+ghost use Rattle.stream_spec.specs.Kept.{ArePlaces, Marker, NoGap, kept};
 ghost use Rattle.stream_spec.specs.Own.{Own, Sent, Stream, sent_history};
-ghost use Rattle.stream_spec.specs.HeardLaws.{AllAreTold, BlocksAreThoseCarried, BlocksRise, ChunksAreHeard, HeardIsByUsed, HeardIsTold, MarkStands, NextAddsTexts, ReadyNeverFalls};
+ghost use Rattle.stream_spec.specs.HeardLaws.{AllAreTold, BlocksAreThoseCarried, BlocksRise, ChunksAreHeard, HeardIsByUsed, HeardIsTold, MarkerStands, NextAddsTexts, ReadyNeverFalls};
 ghost use Rattle.stream_spec.specs.NumberLaws.{EndsWhereSettled, GivenUpHasCause, LowerIsFarther, NoneIsNearer, OctetsAreReadyInOrder, OctetsNeverFall, RecordingsNeverFall, SettledChunksStay, SettledPacketsStay, UsedCameInTime};
 ghost use Rattle.stream_spec.specs.StillLaws.{StillComes, StillIsFiltered, StillIsLawful, StillIsNumbered, StillIsPlaced, StillIsText, StillIsUsed, StillNeverFalls, StillPlacesCame, TextIsStill};
 ghost use Rattle.stream_spec.specs.SentLaws.{LastIsSent, OwnIsPacket, OwnPacketsCome, PacketsTellHistory, QuietIsClosed, SentIsLawful};
@@ -31,16 +31,16 @@ pub fn carriers_decide()
     ensures exact { BlocksAreThoseCarried }
 {}
 
-/// Where a block is absent, and some place below it and some later place of its source came, a mark stands after all
+/// Where a block is absent, and some place below it and some later place of its source came, a marker stands after all
 /// blocks below it and before all blocks above it.
-pub fn mark_stands()
-    ensures { MarkStands }
+pub fn marker_stands()
+    ensures { MarkerStands }
 {}
 
-/// Where no place between the first and the last that came is missing, there is no mark. Where all places came, the
+/// Where no place between the first and the last that came is missing, there is no marker. Where all places came, the
 /// blocks are all entries of the source with text.
-pub fn no_gap_no_mark()
-    ensures no_mark { (h : History) (i : List Placed) (s : ℕ) → NoGap i → In Mark (kept h i s) → ⊥ }
+pub fn no_gap_no_marker()
+    ensures no_marker { (h : History) (i : List Placed) (s : ℕ) → NoGap i → In Marker (kept h i s) → ⊥ }
     ensures all { AllAreTold }
 {}
 
@@ -62,7 +62,7 @@ pub fn chunks_are_heard()
 /// left to repeat.
 pub fn sent_is_lawful()
     ensures lawful { SentIsLawful }
-    ensures own { (c : Stream) (past : List Sent) → Own c.gens (sent_history c past) }
+    ensures own { (c : Stream) (past : List Sent) → Own c.generations (sent_history c past) }
     ensures last { LastIsSent }
     ensures closed { QuietIsClosed }
 {}

@@ -6,8 +6,8 @@ pub mod limits;
 mod one_by_one;
 
 pub use laws::{
-    carriers_decide, chunks_are_heard, heard_is_kept, heard_one_by_one, mark_stands,
-    no_gap_no_mark, numbers_are_nearest, numbers_end, own_packets_tell, recordings_never_fall,
+    carriers_decide, chunks_are_heard, heard_is_kept, heard_one_by_one, marker_stands,
+    no_gap_no_marker, numbers_are_nearest, numbers_end, own_packets_tell, recordings_never_fall,
     sent_is_lawful, settled_stays, still_keeps, used_came_in_time,
 };
 pub use one_by_one::chunks_one_by_one;

@@ -5,7 +5,7 @@ use Rattle.std.specs.Str.{chars}
 use Rattle.std.proofs.lemmas.List.{reverse-append}
 use Rattle.text_spec.specs.Characters.{is_new_line}
 use Rattle.text_spec.specs.Ends.{ends_line, ends_sentence, first_is, is_closing, is_space, is_stop, is_stopped, is_wide_closing, is_wide_stop, is_wide_stopped, past_one}
-use Rattle.t140_text.specs.declared.ends.Ending.{Ending}
+use Rattle.t140_text.specs.declared.ends.TextEnd.{TextEnd}
 use Rattle.t140_text.specs.Endings.{IsEnding, back, is_line_end, is_sentence_end, pushed}
 
 -- the first three of these
@@ -18,7 +18,7 @@ two_of [] = refl
 two_of (a ∷ []) = refl
 two_of (a ∷ b ∷ xs) = refl
 
-pub push_step : (e : Ending) (c : ℕ) (cs : List ℕ) → IsEnding e cs → IsEnding (pushed e c) (cs ++ c ∷ [])
+pub push_step : (e : TextEnd) (c : ℕ) (cs : List ℕ) → IsEnding e cs → IsEnding (pushed e c) (cs ++ c ∷ [])
 push_step e c cs h = ap three (reverse-append cs (c ∷ [])) ∙ ap (λ xs. c ∷ xs) (two_of (reverse cs ++ 0 ∷ 0 ∷ 0 ∷ []) ∙ ap (take 2) h)
 
 -- ---- what the characters end with
@@ -86,11 +86,11 @@ wide_three (a ∷ b ∷ c ∷ xs) = go (is_space a)
     go true = closed b c xs [] (is_wide_closing b)
     go false = closed a b (c ∷ xs) (c ∷ []) (is_wide_closing a)
 
-pub line_of : (e : Ending) (text : List ℕ) → IsEnding e (chars text) → is_line_end e ≡ ends_line text
+pub line_of : (e : TextEnd) (text : List ℕ) → IsEnding e (chars text) → is_line_end e ≡ ends_line text
 unfolding ends_line
 line_of e text h = ap (first_is is_new_line) (sym h) ∙ sym (first_of_three is_new_line refl (reverse (chars text)))
 
-pub sentence_of : (e : Ending) (text : List ℕ) → IsEnding e (chars text) → is_sentence_end e ≡ ends_sentence text
+pub sentence_of : (e : TextEnd) (text : List ℕ) → IsEnding e (chars text) → is_sentence_end e ≡ ends_sentence text
 unfolding ends_sentence
 sentence_of e text h =
     ap (λ xs. is_stopped xs || is_wide_stopped xs) (sym h)
@@ -104,13 +104,13 @@ one_mark p q x y more = go (q x)
     go true = refl
     go false = refl
 
-pub spaced : (e : Ending) → (e.last == 0x20) ≡ true
+pub spaced : (e : TextEnd) → (e.last == 0x20) ≡ true
     → (is_stop (cond (is_closing e.second) e.third e.second) || is_wide_stop (cond (is_wide_closing e.second) e.third e.second)) ≡ is_sentence_end e
 spaced e q =
     (λ i. one_mark is_stop is_closing e.second e.third [] i || one_mark is_wide_stop is_wide_closing e.second e.third [] i)
     ∙ ap (λ b. (b && first_is is_stop (past_one is_closing (cond b (e.second ∷ e.third ∷ []) (back e)))) || first_is is_wide_stop (past_one is_wide_closing (cond b (e.second ∷ e.third ∷ []) (back e)))) (sym q)
 
-pub unspaced : (e : Ending) → (e.last == 0x20) ≡ false → is_wide_stop (cond (is_wide_closing e.last) e.second e.last) ≡ is_sentence_end e
+pub unspaced : (e : TextEnd) → (e.last == 0x20) ≡ false → is_wide_stop (cond (is_wide_closing e.last) e.second e.last) ≡ is_sentence_end e
 unspaced e q =
     one_mark is_wide_stop is_wide_closing e.last e.second (e.third ∷ [])
     ∙ ap (λ b. (b && first_is is_stop (past_one is_closing (cond b (e.second ∷ e.third ∷ []) (back e)))) || first_is is_wide_stop (past_one is_wide_closing (cond b (e.second ∷ e.third ∷ []) (back e)))) (sym q)

@@ -28,9 +28,9 @@ erased_text old new cs c spelled split other =
 
 -- where it was a marker, and put back
 pub marked_text : {Z : Type 0} (old : List ℕ) (mid : String Z) (new cs : List ℕ) (c : ℕ) → old ≡ encode_utf8_all cs → old ≡ string_bytes mid ++ encode_utf8 c → is_marker (class_of c) ≡ true → new ≡ string_bytes mid ++ encode_utf8 c → new ≡ encode_utf8_all (one_back cs)
-marked_text old mid new cs c spelled split marks back =
+marked_text old mid new cs c spelled split markers back =
     let p = popped old (string_bytes mid) cs c spelled (IsUtf8-string_bytes mid) split in
-    let stays : one_back cs ≡ cs = ap one_back (sym p.1.1) ∙ (one_back-append p.0 c ∙ (ap (λ b. p.0 ++ cond b (c ∷ []) []) marks ∙ p.1.1)) in
+    let stays : one_back cs ≡ cs = ap one_back (sym p.1.1) ∙ (one_back-append p.0 c ∙ (ap (λ b. p.0 ++ cond b (c ∷ []) []) markers ∙ p.1.1)) in
     back ∙ (sym split ∙ (spelled ∙ ap encode_utf8_all (sym stays)))
 
 -- where it was empty
@@ -48,8 +48,8 @@ marker_class : class_of 0xFFFD ≡ Marker
 unfolding class_of
 marker_class = refl
 
-pub marks : is_marker (class_of 0xFFFD) ≡ true
-marks = ap is_marker marker_class
+pub markers : is_marker (class_of 0xFFFD) ≡ true
+markers = ap is_marker marker_class
 
 no_other : (a b n s : Bool) → is_marker (cond a Erase (cond b Bell (cond n NewLine (cond s Silent (cond false Marker Print))))) ≡ false
 no_other true b n s = refl

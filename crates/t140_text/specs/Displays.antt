@@ -1,7 +1,7 @@
 -- A shown text as the record that the definitions speak of; and what print keeps.
 use Rattle.std.specs.Prelude.{◌≡◌, ℕ, List, ◌++◌}
 use Rattle.text_spec.specs.Shown.{Display}
-use Rattle.t140_text.specs.declared.showing.Shown.{Shown}
+use Rattle.t140_text.specs.declared.displays.Shown.{Shown}
 
 abbrev pub display_of : Shown → Display
 display_of s = record { lines = s.lines; bells = s.bells }

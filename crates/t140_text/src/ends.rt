@@ -5,7 +5,7 @@ ghost use Rattle.t140_text.specs.Endings.{IsEnding, is_line_end, is_sentence_end
 
 /// The last three characters of a text: as many as tell whether it ends a line or a sentence.
 #[derive(Clone, Copy, Debug)]
-pub struct Ending {
+pub struct TextEnd {
     last: char,
     second: char,
     third: char,
@@ -65,12 +65,12 @@ fn is_wide_stopped(last: char, second: char) -> bool
     is_wide_stop(stop)
 }
 
-impl Ending {
+impl TextEnd {
     /// The end of the empty text.
-    pub const fn new() -> Ending
+    pub const fn new() -> TextEnd
         ensures { IsEnding result [] }
     {
-        Ending {
+        TextEnd {
             last: '\0',
             second: '\0',
             third: '\0',

@@ -6,13 +6,13 @@ mod ends;
 mod lines;
 mod plain;
 mod screens;
-mod showing;
+mod displays;
 pub mod views;
 
 pub use classes::class;
-pub use ends::Ending;
+pub use ends::TextEnd;
 pub use lines::Lines;
-pub use showing::{Shown, show};
+pub use displays::{Shown, show};
 pub use text_spec::CharClass;
 pub use view_spec::Counts;
 

@@ -1,7 +1,7 @@
 //! What a text shows so far, character by character.
 ghost use Rattle.std.specs.Prelude.{◌≡◌, ℕ, ◌+◌, ◌-◌, ◌<◌, ◌≤◌, ◌^◌, List, [], ◌∷◌, ◌++◌, length, All, OnOk, IfOk, encode_utf8_all, string_bytes};
 ghost use Rattle.text_spec.specs.Shown.{one_back};
-ghost use Rattle.t140_text.specs.Screens.{Holds, IsPlain, Reads};
+ghost use Rattle.t140_text.specs.Screens.{ScreenHolds, IsPlain, Reads};
 
 use crate::class;
 use rtt_base::NoMemory;
@@ -33,7 +33,7 @@ fn erase(text: &mut String) -> Result<(), NoMemory>
 
 impl Screen {
     pub(crate) fn new(alloc: Global) -> Screen
-        ensures { Holds result [] }
+        ensures { ScreenHolds result [] }
     {
         Screen {
             text: String::new(alloc),
@@ -45,7 +45,7 @@ impl Screen {
     /// Takes the next character.
     pub(crate) fn read(&mut self, c: char) -> Result<(), NoMemory>
         requires { self.old.bells + 1 < 2 ^ 64 }
-        ensures { (cs : List ℕ) → Holds self.old cs → OnOk result (Holds self.new (cs ++ c ∷ [])) }
+        ensures { (cs : List ℕ) → ScreenHolds self.old cs → OnOk result (ScreenHolds self.new (cs ++ c ∷ [])) }
     {
         match class(c) {
             CharClass::Erase => erase(&mut self.text)?,

@@ -1,7 +1,7 @@
 use crate::views::{
     append_aware_title, append_source_view, append_text_view, append_unaware_title,
 };
-use crate::{CharClass, Counts, Ending, class, show};
+use crate::{CharClass, Counts, TextEnd, class, show};
 use rtt_base::Bytes;
 use std::test::Fail;
 
@@ -118,7 +118,7 @@ fn texts_end_lines_and_sentences(rt: HostRuntime) {
         ("Hi.\u{300d} ", false, false),
     ];
     for (text, line, sentence) in cases {
-        let mut ending = Ending::new();
+        let mut ending = TextEnd::new();
         for c in text.chars() {
             ending.push(c);
         }

@@ -130,13 +130,13 @@ fn append_unheard(tally: Tally, out: &mut Bytes) -> Result<(), NoMemory>
     append_all(&parts, out)
 }
 
-// Appends each line with a name and a mark in front of it and LF behind it.
-fn append_lines(name: &[u8], mark: &[u8], lines: &Lines, out: &mut Bytes) -> Result<(), NoMemory>
-    ensures ok { OnOk result (out.new ≡ out.old ++ printed_lines (name.now ++ mark.now) lines.now) }
+// Appends each line with a name and a sign in front of it and LF behind it.
+fn append_lines(name: &[u8], sign: &[u8], lines: &Lines, out: &mut Bytes) -> Result<(), NoMemory>
+    ensures ok { OnOk result (out.new ≡ out.old ++ printed_lines (name.now ++ sign.now) lines.now) }
     ensures kept { Extends out.old out.new }
 {
     for line in lines.joined().split('\n') {
-        append_all(&[name, mark, line.as_bytes(), b"\n"], out)?;
+        append_all(&[name, sign, line.as_bytes(), b"\n"], out)?;
     }
     Ok(())
 }

@@ -1,3 +1,3 @@
 pub mod Listening
 pub mod Seeing
-pub mod Marks
+pub mod Markers

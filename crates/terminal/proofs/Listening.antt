@@ -4,7 +4,7 @@ use Rattle.std.specs.Prelude.{OnOk, All, filter, slice_index, slice_index_or}
 use Rattle.std.specs.List.{concat}
 use Rattle.std.proofs.lemmas.List.{length-map, length-append}
 use Rattle.std.proofs.lemmas.List.Elements.{filter-append}
-use Rattle.rtt_base.specs.declared.text_packets.Pts.{Pts}
+use Rattle.rtt_base.specs.declared.text_packets.PayloadTypes.{PayloadTypes}
 use Rattle.wire_spec.specs.declared.faults.TextFault.{TextFault}
 use Rattle.wire_spec.specs.declared.faults.TextFault.TheVariants as faults
 use Rattle.wire_spec.specs.Packets.{Packet, Arrival, AreTextArrivals}
@@ -15,8 +15,8 @@ use Rattle.stream_spec.specs.Hearing.{heard, heard_by}
 use Rattle.stream_spec.specs.ChunksBy.{used_ready}
 use Rattle.gap_tracker.specs.Stories.{Story, Given, begun, ended, dues, due_at, ready_dues}
 use Rattle.source_receiver.specs.declared.source_texts.SourceText.{SourceText}
-use Rattle.source_receiver.specs.Each.{IsHeardOf, marks_by}
-use Rattle.ear.specs.declared.confs.EarConf.{EarConf}
+use Rattle.source_receiver.specs.Each.{IsHeardOf, markers_by}
+use Rattle.ear.specs.declared.settings.EarSettings.{EarSettings}
 use Rattle.ear.specs.declared.ears.Ear.{Ear}
 use Rattle.ear.specs.Hears.{told, all_given, IsToldOf, arrival_count, is_quiet, is_finished, ready_packets, Becomes, AllReady, Hears}
 use Rattle.ear.specs.Each.{HearsEach, GathersEach}
@@ -27,10 +27,10 @@ use Rattle.ear.proofs.ReadyBy.{heard_dues, told_arrived}
 use Rattle.stream_spec.proofs.HeardTexts.{heard_utf8}
 use Rattle.view_spec.specs.declared.counts.Counts.{Counts}
 use Rattle.view_spec.specs.Seen.{Reception, Fate, NoPacket, fate_of, fate_of_what, fate_at, is_packet, is_refused, is_foreign, many, arrivals_at, counts_at}
-use Rattle.terminal.proofs.Marks.{marks_are}
-use Rattle.terminal.specs.declared.confs.TermConf.{TermConf}
+use Rattle.terminal.proofs.Markers.{markers_are}
+use Rattle.terminal.specs.declared.settings.TerminalSettings.{TerminalSettings}
 use Rattle.terminal.specs.declared.terminals.Terminal.{Terminal}
-use Rattle.terminal.specs.Terminals.{reception, ear_conf, one_if, is_spent, IsEmpty, IsUnread, HearsTexts, SameCounts, CountsAs, Counted, Listens, IsTextOf, Heard}
+use Rattle.terminal.specs.Terminals.{reception, ear_settings, one_if, is_spent, IsEmpty, IsUnread, HearsTexts, SameCounts, CountsAs, Counted, Listens, IsTextOf, Heard}
 
 -- facts of a success give another
 pub on_ok : {X E P Q : Type 0} (r : Result X E) → OnOk r P → (P → Q) → OnOk r Q
@@ -46,19 +46,19 @@ on_ok5 (Ok x) p q r s t f = f p q r s t
 on_ok5 (Err e) p q r s t f = tt
 
 -- nothing came yet
-pub nothing_yet : (e : Ear) (c : TermConf) (sources : List ℕ) (texts : List SourceText) → Hears e (ear_conf c) sources (begun c.wait) → length texts ≡ length sources → All IsEmpty texts → HearsEach e (ear_conf c) sources (begun c.wait) texts
+pub nothing_yet : (e : Ear) (c : TerminalSettings) (sources : List ℕ) (texts : List SourceText) → Hears e (ear_settings c) sources (begun c.wait) → length texts ≡ length sources → All IsEmpty texts → HearsEach e (ear_settings c) sources (begun c.wait) texts
 nothing_yet e c sources texts h n none = record {
   hears = h;
   each = n;
-  heard = λ k d l. let empty = none k d (omega (arith, n, l)) in record { text = empty.text; marks = empty.marks };
+  heard = λ k d l. let empty = none k d (omega (arith, n, l)) in record { text = empty.text; markers = empty.markers };
 }
 
 -- the ear was told
-becomes_text : (l k : Terminal) (f : EarConf → Story → Story) (c : TermConf) (sources : List ℕ) (story : Story) → Becomes l.ear k.ear f → (f (ear_conf c) story).given ≡ story.given → k.heard ≡ l.heard → k.counts.used ≡ l.counts.used → HearsTexts l c sources story
-    → HearsTexts k c sources (f (ear_conf c) story)
+becomes_text : (l k : Terminal) (f : EarSettings → Story → Story) (c : TerminalSettings) (sources : List ℕ) (story : Story) → Becomes l.ear k.ear f → (f (ear_settings c) story).given ≡ story.given → k.heard ≡ l.heard → k.counts.used ≡ l.counts.used → HearsTexts l c sources story
+    → HearsTexts k c sources (f (ear_settings c) story)
 becomes_text l k f c sources story b same t u h = record {
   hears = record {
-    hears = b.hears (ear_conf c) sources story h.hears.hears;
+    hears = b.hears (ear_settings c) sources story h.hears.hears;
     each = ap (λ v. length v.items) t ∙ h.hears.each;
     heard = λ i d below. subst (λ (gs : List Given). IsHeardOf (slice_index sources i) (ready_packets gs) (slice_index_or k.heard.items i d)) (sym same)
         (subst (λ (x : SourceText). IsHeardOf (slice_index sources i) (ready_packets story.given) x) (sym (ap (λ v. slice_index_or v.items i d) t)) (h.hears.heard i d below));
@@ -66,17 +66,17 @@ becomes_text l k f c sources story b same t u h = record {
   used = u ∙ (h.used ∙ ap (λ (gs : List Given). length gs) (sym same));
 }
 
-pub told_text : (l k : Terminal) (at : ℕ) (octets : List ℕ) (c : TermConf) (sources : List ℕ) (story : Story) → Becomes l.ear k.ear (λ conf s. told s at (text_of octets (Some conf.ssrc) conf.pts)) → k.heard ≡ l.heard → k.counts.used ≡ l.counts.used → HearsTexts l c sources story
-    → HearsTexts k c sources (told story at (text_of octets (Some c.ssrc) c.pts))
-told_text l k at octets c sources story b = becomes_text l k (λ conf s. told s at (text_of octets (Some conf.ssrc) conf.pts)) c sources story b (told_given story at (text_of octets (Some c.ssrc) c.pts))
+pub told_text : (l k : Terminal) (at : ℕ) (octets : List ℕ) (c : TerminalSettings) (sources : List ℕ) (story : Story) → Becomes l.ear k.ear (λ settings s. told s at (text_of octets (Some settings.ssrc) settings.payload_types)) → k.heard ≡ l.heard → k.counts.used ≡ l.counts.used → HearsTexts l c sources story
+    → HearsTexts k c sources (told story at (text_of octets (Some c.ssrc) c.payload_types))
+told_text l k at octets c sources story b = becomes_text l k (λ settings s. told s at (text_of octets (Some settings.ssrc) settings.payload_types)) c sources story b (told_given story at (text_of octets (Some c.ssrc) c.payload_types))
 
-pub ended_text : (l k : Terminal) (c : TermConf) (sources : List ℕ) (story : Story) → Becomes l.ear k.ear (λ conf s. ended s) → k.heard ≡ l.heard → k.counts.used ≡ l.counts.used → HearsTexts l c sources story → HearsTexts k c sources (ended story)
-ended_text l k c sources story b = becomes_text l k (λ conf s. ended s) c sources story b refl
+pub ended_text : (l k : Terminal) (c : TerminalSettings) (sources : List ℕ) (story : Story) → Becomes l.ear k.ear (λ settings s. ended s) → k.heard ≡ l.heard → k.counts.used ≡ l.counts.used → HearsTexts l c sources story → HearsTexts k c sources (ended story)
+ended_text l k c sources story b = becomes_text l k (λ settings s. ended s) c sources story b refl
 
 -- ---- one more item behind those that came
-pub arrivals_more : (ssrc : ℕ) (pts : Pts) (past : List Arrival) (came : List Item) (item : Item) → arrivals_after ssrc pts past (came ++ item ∷ []) ≡ arrivals_with ssrc pts item (arrivals_after ssrc pts past came)
-arrivals_more ssrc pts past [] item = refl
-arrivals_more ssrc pts past (i ∷ came) item = arrivals_more ssrc pts (arrivals_with ssrc pts i past) came item
+pub arrivals_more : (ssrc : ℕ) (payload_types : PayloadTypes) (past : List Arrival) (came : List Item) (item : Item) → arrivals_after ssrc payload_types past (came ++ item ∷ []) ≡ arrivals_with ssrc payload_types item (arrivals_after ssrc payload_types past came)
+arrivals_more ssrc payload_types past [] item = refl
+arrivals_more ssrc payload_types past (i ∷ came) item = arrivals_more ssrc payload_types (arrivals_with ssrc payload_types i past) came item
 
 pub many_more : (p : Fate → Bool) (r : Reception) (came : List Item) (item : Item) → many p (fate_at r) (came ++ item ∷ []) ≡ many p (fate_at r) came + one_if (p (fate_at r item))
 many_more p r came item =
@@ -118,20 +118,20 @@ is_counted (Err faults.NotText) = refl
 is_counted (Err faults.Foreign) = refl
 
 -- the ear was told of one more
-told_more : (story : Story) (c : TermConf) (came : List Item) (at : ℕ) (octets : List ℕ) → IsToldOf story (arrivals_at (reception c) came)
-    → IsToldOf (told story at (text_of octets (Some c.ssrc) c.pts)) (arrivals_at (reception c) (came ++ sent_item (at, octets) ∷ []))
+told_more : (story : Story) (c : TerminalSettings) (came : List Item) (at : ℕ) (octets : List ℕ) → IsToldOf story (arrivals_at (reception c) came)
+    → IsToldOf (told story at (text_of octets (Some c.ssrc) c.payload_types)) (arrivals_at (reception c) (came ++ sent_item (at, octets) ∷ []))
 told_more story c came at octets t =
-    subst (IsToldOf (told story at (text_of octets (Some c.ssrc) c.pts))) (sym (arrivals_more c.ssrc c.pts [] came (sent_item (at, octets)))) (told_arrived story (arrivals_at (reception c) came) at (text_of octets (Some c.ssrc) c.pts) t)
+    subst (IsToldOf (told story at (text_of octets (Some c.ssrc) c.payload_types))) (sym (arrivals_more c.ssrc c.payload_types [] came (sent_item (at, octets)))) (told_arrived story (arrivals_at (reception c) came) at (text_of octets (Some c.ssrc) c.payload_types) t)
 
 -- one more packet of the stream came, and what is settled was heard
-pub took : (l k m : Terminal) (at : ℕ) (octets : List ℕ) (p : Packet) → Becomes l.ear k.ear (λ conf s. told s at (text_of octets (Some conf.ssrc) conf.pts)) → text_of octets (Some l.ear.conf.ssrc) l.ear.conf.pts ≡ Ok p → k.heard ≡ l.heard
+pub took : (l k m : Terminal) (at : ℕ) (octets : List ℕ) (p : Packet) → Becomes l.ear k.ear (λ settings s. told s at (text_of octets (Some settings.ssrc) settings.payload_types)) → text_of octets (Some l.ear.settings.ssrc) l.ear.settings.payload_types ≡ Ok p → k.heard ≡ l.heard
     → k.counts ≡ record l.counts { packets = l.counts.packets + 1 } → is_finished k.ear ≡ is_finished l.ear → arrival_count k.ear ≤ arrival_count l.ear + 1 → is_spent k ≡ is_spent l
-    → ((c : TermConf) (sources : List ℕ) (story : Story) → HearsTexts k c sources story → HearsTexts m c sources (all_given story)) → SameCounts k.counts m.counts → is_quiet m.ear ≡ true → arrival_count m.ear ≡ arrival_count k.ear → is_finished m.ear ≡ is_finished k.ear → is_spent m ≡ is_spent k
-    → (c : TermConf) (sources : List ℕ) (came : List Item) → Listens l c sources came → Listens m c sources (came ++ sent_item (at, octets) ∷ [])
+    → ((c : TerminalSettings) (sources : List ℕ) (story : Story) → HearsTexts k c sources story → HearsTexts m c sources (all_given story)) → SameCounts k.counts m.counts → is_quiet m.ear ≡ true → arrival_count m.ear ≡ arrival_count k.ear → is_finished m.ear ≡ is_finished k.ear → is_spent m ≡ is_spent k
+    → (c : TerminalSettings) (sources : List ℕ) (came : List Item) → Listens l c sources came → Listens m c sources (came ++ sent_item (at, octets) ∷ [])
 took l k m at octets p b e t n f a w g same quiet arrivals finished spent c sources came li =
-    let x = text_of octets (Some c.ssrc) c.pts in
+    let x = text_of octets (Some c.ssrc) c.payload_types in
     let now = told_more li.story c came at octets li.told in
-    let ok : x ≡ Ok p = sym (ap (λ (q : EarConf). text_of octets (Some q.ssrc) q.pts) li.hears.hears.hears.asked) ∙ e in
+    let ok : x ≡ Ok p = sym (ap (λ (q : EarSettings). text_of octets (Some q.ssrc) q.payload_types) li.hears.hears.hears.asked) ∙ e in
     let counts : CountsAs (fate_of x) l.counts m.counts = subst (λ (y : Result Packet TextFault). CountsAs (fate_of y) l.counts m.counts) (sym ok) (record {
       packets = same.packets ∙ ap (λ (q : Counts). q.packets) n;
       refused = omega (arith, same.refused, ap (λ (q : Counts). q.refused) n);
@@ -150,19 +150,19 @@ took l k m at octets p b e t n f a w g same quiet arrivals finished spent c sour
     }
 
 -- one more packet of the stream came, and was heard where it lies
-pub took_plain : (l m : Terminal) (at : ℕ) (octets : List ℕ) → HearsPlain l.ear m.ear at octets l.heard.items m.heard.items → IsTextFor l.ear.conf octets
+pub took_plain : (l m : Terminal) (at : ℕ) (octets : List ℕ) → HearsPlain l.ear m.ear at octets l.heard.items m.heard.items → IsTextFor l.ear.settings octets
     → m.counts ≡ record l.counts { packets = l.counts.packets + 1; used = l.counts.used + 1 } → is_quiet m.ear ≡ true → arrival_count m.ear ≤ arrival_count l.ear + 1 → is_finished m.ear ≡ is_finished l.ear → is_spent m ≡ is_spent l
-    → (c : TermConf) (sources : List ℕ) (came : List Item) → Listens l c sources came → Listens m c sources (came ++ sent_item (at, octets) ∷ [])
+    → (c : TerminalSettings) (sources : List ℕ) (came : List Item) → Listens l c sources came → Listens m c sources (came ++ sent_item (at, octets) ∷ [])
 took_plain l m at octets g e n quiet arrivals finished spent c sources came li =
-    let x = text_of octets (Some c.ssrc) c.pts in
+    let x = text_of octets (Some c.ssrc) c.payload_types in
     let now = told_more li.story c came at octets li.told in
-    let ok : x ≡ Ok e.0 = sym (ap (λ (q : EarConf). text_of octets (Some q.ssrc) q.pts) li.hears.hears.hears.asked) ∙ e.1 in
+    let ok : x ≡ Ok e.0 = sym (ap (λ (q : EarSettings). text_of octets (Some q.ssrc) q.payload_types) li.hears.hears.hears.asked) ∙ e.1 in
     let counts : CountsAs (fate_of x) l.counts m.counts = subst (λ (y : Result Packet TextFault). CountsAs (fate_of y) l.counts m.counts) (sym ok) (record {
       packets = ap (λ (q : Counts). q.packets) n;
       refused = omega (arith, ap (λ (q : Counts). q.refused) n);
       foreign = omega (arith, ap (λ (q : Counts). q.foreign) n);
     }) in
-    let d = g (ear_conf c) sources li.story li.hears.hears in
+    let d = g (ear_settings c) sources li.story li.hears.hears in
     let before : length (told li.story at x).given ≡ length li.story.given = ap (λ (gs : List Given). length gs) (told_given li.story at x) in
     record {
       story = all_given (told li.story at x);
@@ -177,11 +177,11 @@ took_plain l m at octets g e n quiet arrivals finished spent c sources came li =
     }
 
 -- nothing came
-pub listens_alike : (l m : Terminal) → m.ear ≡ l.ear → m.heard.items ≡ l.heard.items → m.counts ≡ l.counts → is_spent m ≡ is_spent l → (c : TermConf) (sources : List ℕ) (came : List Item) → Listens l c sources came → Listens m c sources came
+pub listens_alike : (l m : Terminal) → m.ear ≡ l.ear → m.heard.items ≡ l.heard.items → m.counts ≡ l.counts → is_spent m ≡ is_spent l → (c : TerminalSettings) (sources : List ℕ) (came : List Item) → Listens l c sources came → Listens m c sources came
 listens_alike l m e t n w c sources came li = record {
   story = li.story;
   hears = record {
-    hears = subst (λ (texts : List SourceText). HearsEach m.ear (ear_conf c) sources li.story texts) (sym t) (subst (λ (x : Ear). HearsEach x (ear_conf c) sources li.story l.heard.items) (sym e) li.hears.hears);
+    hears = subst (λ (texts : List SourceText). HearsEach m.ear (ear_settings c) sources li.story texts) (sym t) (subst (λ (x : Ear). HearsEach x (ear_settings c) sources li.story l.heard.items) (sym e) li.hears.hears);
     used = ap (λ (q : Counts). q.used) n ∙ li.hears.used;
   };
   told = li.told;
@@ -194,19 +194,19 @@ listens_alike l m e t n w c sources came li = record {
 }
 
 -- what was refused is counted
-pub refused : (l k m : Terminal) (at : ℕ) (octets : List ℕ) (fault : TextFault) → Becomes l.ear k.ear (λ conf s. told s at (text_of octets (Some conf.ssrc) conf.pts)) → text_of octets (Some l.ear.conf.ssrc) l.ear.conf.pts ≡ Err fault
+pub refused : (l k m : Terminal) (at : ℕ) (octets : List ℕ) (fault : TextFault) → Becomes l.ear k.ear (λ settings s. told s at (text_of octets (Some settings.ssrc) settings.payload_types)) → text_of octets (Some l.ear.settings.ssrc) l.ear.settings.payload_types ≡ Err fault
     → m.ear ≡ k.ear → m.heard ≡ l.heard → m.counts.used ≡ l.counts.used → m.counts.packets ≡ l.counts.packets + 1 → m.counts.refused ≡ l.counts.refused + one_if (is_refused (fate_of (Err fault))) → m.counts.foreign ≡ l.counts.foreign + one_if (is_foreign (fate_of (Err fault)))
     → is_spent m ≡ is_spent l → is_quiet k.ear ≡ true → is_finished k.ear ≡ is_finished l.ear → arrival_count k.ear ≤ arrival_count l.ear + 1
-    → (c : TermConf) (sources : List ℕ) (came : List Item) → Listens l c sources came → Listens m c sources (came ++ sent_item (at, octets) ∷ [])
+    → (c : TerminalSettings) (sources : List ℕ) (came : List Item) → Listens l c sources came → Listens m c sources (came ++ sent_item (at, octets) ∷ [])
 refused l k m at octets fault b e same t u p q f w quiet finished a c sources came li =
-    let x = text_of octets (Some c.ssrc) c.pts in
+    let x = text_of octets (Some c.ssrc) c.payload_types in
     let now = told_more li.story c came at octets li.told in
-    let err : x ≡ Err fault = sym (ap (λ (q : EarConf). text_of octets (Some q.ssrc) q.pts) li.hears.hears.hears.asked) ∙ e in
+    let err : x ≡ Err fault = sym (ap (λ (q : EarSettings). text_of octets (Some q.ssrc) q.payload_types) li.hears.hears.hears.asked) ∙ e in
     let one : one_if (is_packet (fate_of (Err fault))) ≡ 1 = ap one_if (is_counted (Err fault)) in
     let counts : CountsAs (fate_of x) l.counts m.counts = subst (λ (y : Result Packet TextFault). CountsAs (fate_of y) l.counts m.counts) (sym err) (record { packets = omega (arith, p, one); refused = q; foreign = f }) in
     record {
       story = told li.story at x;
-      hears = told_text l m at octets c sources li.story (subst (λ (e : Ear). Becomes l.ear e (λ conf s. told s at (text_of octets (Some conf.ssrc) conf.pts))) (sym same) b) t u li.hears;
+      hears = told_text l m at octets c sources li.story (subst (λ (e : Ear). Becomes l.ear e (λ settings s. told s at (text_of octets (Some settings.ssrc) settings.payload_types))) (sym same) b) t u li.hears;
       told = record { arrivals = now.arrivals; moment = now.moment };
       some = li.some;
       counts = fate_counted l.counts m.counts (reception c) came (sent_item (at, octets)) li.counts counts (is_counted x);
@@ -233,19 +233,19 @@ unread_packet : (r : Reception) (item : Item) → IsUnread item.what → is_pack
 unread_packet r item (inl e) = ap (λ w. is_packet (fate_of_what r w)) e
 unread_packet r item (inr e) = ap (λ w. is_packet (fate_of_what r w)) e
 
-unread_arrivals : (c : TermConf) (past : List Arrival) (item : Item) → IsUnread item.what → arrivals_with c.ssrc c.pts item past ≡ past
-unread_arrivals c past item (inl e) = ap (λ w. arrivals_with c.ssrc c.pts (record { time = item.time; what = w }) past) e
-unread_arrivals c past item (inr e) = ap (λ w. arrivals_with c.ssrc c.pts (record { time = item.time; what = w }) past) e
+unread_arrivals : (c : TerminalSettings) (past : List Arrival) (item : Item) → IsUnread item.what → arrivals_with c.ssrc c.payload_types item past ≡ past
+unread_arrivals c past item (inl e) = ap (λ w. arrivals_with c.ssrc c.payload_types (record { time = item.time; what = w }) past) e
+unread_arrivals c past item (inr e) = ap (λ w. arrivals_with c.ssrc c.payload_types (record { time = item.time; what = w }) past) e
 
 pub passed_over : (l m : Terminal) → m.ear ≡ l.ear → m.heard ≡ l.heard → m.counts ≡ record l.counts { packets = l.counts.packets + 1; refused = l.counts.refused + 1 } → is_spent m ≡ is_spent l
-    → (c : TermConf) (sources : List ℕ) (came : List Item) (item : Item) → IsUnread item.what → Listens l c sources came → Listens m c sources (came ++ item ∷ [])
+    → (c : TerminalSettings) (sources : List ℕ) (came : List Item) (item : Item) → IsUnread item.what → Listens l c sources came → Listens m c sources (came ++ item ∷ [])
 passed_over l m e t n w c sources came item u li =
-    let past = arrivals_more c.ssrc c.pts [] came item ∙ unread_arrivals c (arrivals_at (reception c) came) item u in
+    let past = arrivals_more c.ssrc c.payload_types [] came item ∙ unread_arrivals c (arrivals_at (reception c) came) item u in
     record {
       story = li.story;
       hears = record {
         hears = record {
-          hears = subst (λ (x : Ear). Hears x (ear_conf c) sources li.story) (sym e) li.hears.hears.hears;
+          hears = subst (λ (x : Ear). Hears x (ear_settings c) sources li.story) (sym e) li.hears.hears.hears;
           each = ap (λ v. length v.items) t ∙ li.hears.hears.each;
           heard = λ i d below. subst (λ (x : SourceText). IsHeardOf (slice_index sources i) (ready_packets li.story.given) x) (sym (ap (λ v. slice_index_or v.items i d) t)) (li.hears.hears.heard i d below);
         };
@@ -266,10 +266,10 @@ rtcp_same r p came item e f =
     let none : one_if (p (fate_at r item)) ≡ 0 = ap (λ w. one_if (p (fate_of_what r w))) e ∙ ap one_if f in
     omega (arith, many_more p r came item, none)
 
-pub rtcp_passed : (t : Terminal) (c : TermConf) (sources : List ℕ) (came : List Item) (item : Item) → item.what ≡ Rtcp → Listens t c sources came → Listens t c sources (came ++ item ∷ [])
+pub rtcp_passed : (t : Terminal) (c : TerminalSettings) (sources : List ℕ) (came : List Item) (item : Item) → item.what ≡ Rtcp → Listens t c sources came → Listens t c sources (came ++ item ∷ [])
 rtcp_passed t c sources came item e li =
     let past : arrivals_at (reception c) (came ++ item ∷ []) ≡ arrivals_at (reception c) came =
-    arrivals_more c.ssrc c.pts [] came item ∙ ap (λ w. arrivals_with c.ssrc c.pts (record { time = item.time; what = w }) (arrivals_at (reception c) came)) e in
+    arrivals_more c.ssrc c.payload_types [] came item ∙ ap (λ w. arrivals_with c.ssrc c.payload_types (record { time = item.time; what = w }) (arrivals_at (reception c) came)) e in
     record {
       story = li.story;
       hears = li.hears;
@@ -292,9 +292,9 @@ rtcp_passed t c sources came item e li =
 same_counts : (a b : Counts) → a.packets ≡ b.packets → a.used ≡ b.used → a.refused ≡ b.refused → a.foreign ≡ b.foreign → a ≡ b
 same_counts a b p u r f = λ i. record { packets = p i; used = u i; refused = r i; foreign = f i }
 
-pub finished : (l k m : Terminal) → Becomes l.ear k.ear (λ conf s. ended s) → AllReady l.ear → k.heard ≡ l.heard → k.counts ≡ l.counts → is_spent k ≡ is_spent l
-    → ((c : TermConf) (sources : List ℕ) (story : Story) → HearsTexts k c sources story → HearsTexts m c sources (all_given story)) → SameCounts k.counts m.counts → is_spent m ≡ is_spent k
-    → (c : TermConf) (sources : List ℕ) (came : List Item) → Listens l c sources came → Heard m c sources came
+pub finished : (l k m : Terminal) → Becomes l.ear k.ear (λ settings s. ended s) → AllReady l.ear → k.heard ≡ l.heard → k.counts ≡ l.counts → is_spent k ≡ is_spent l
+    → ((c : TerminalSettings) (sources : List ℕ) (story : Story) → HearsTexts k c sources story → HearsTexts m c sources (all_given story)) → SameCounts k.counts m.counts → is_spent m ≡ is_spent k
+    → (c : TerminalSettings) (sources : List ℕ) (came : List Item) → Listens l c sources came → Heard m c sources came
 finished l k m b all t n w g same spent c sources came li = record {
   some = li.some;
   each = h.hears.each;
@@ -315,7 +315,7 @@ finished l k m b all t n w g same spent c sources came li = record {
     h = g c sources (ended li.story) (ended_text l k c sources li.story b t (ap (λ (q : Counts). q.used) n) li.hears)
 
     due : ready_dues (ended li.story) ≡ dues li.story
-    due = (all (ear_conf c) sources li.story li.hears.hears.hears).packets
+    due = (all (ear_settings c) sources li.story li.hears.hears.hears).packets
 
     wait : li.story.wait ≡ c.wait
     wait = li.hears.hears.hears.wait
@@ -339,11 +339,11 @@ finished l k m b all t n w g same spent c sources came li = record {
         let o = h.hears.heard i d below in
         record {
           text = o.text ∙ ap concat (heard_is (slice_index sources i));
-          marks = o.marks ∙ ap (λ (us : List Numbered). marks_by us (slice_index sources i)) packets ∙ marks_are c.wait past (slice_index sources i);
+          markers = o.markers ∙ ap (λ (us : List Numbered). markers_by us (slice_index sources i)) packets ∙ markers_are c.wait past (slice_index sources i);
         }
 
 -- all that is settled is heard
-pub gathers : (l m : Terminal) (n : ℕ) → GathersEach l.ear m.ear n l.heard.items m.heard.items → m.counts.used ≡ l.counts.used + n → (c : TermConf) (sources : List ℕ) (story : Story) → HearsTexts l c sources story → HearsTexts m c sources (all_given story)
+pub gathers : (l m : Terminal) (n : ℕ) → GathersEach l.ear m.ear n l.heard.items m.heard.items → m.counts.used ≡ l.counts.used + n → (c : TerminalSettings) (sources : List ℕ) (story : Story) → HearsTexts l c sources story → HearsTexts m c sources (all_given story)
 gathers l m n g u c sources story h =
-    let d = g (ear_conf c) sources story h.hears in
+    let d = g (ear_settings c) sources story h.hears in
     record { hears = d.hears; used = omega (arith, d.used, h.used, u) }

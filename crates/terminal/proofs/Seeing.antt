@@ -7,7 +7,7 @@ use Rattle.view_spec.specs.declared.counts.Counts.{Counts}
 use Rattle.text_spec.specs.Shown.{shown}
 use Rattle.view_spec.specs.Views.{Source, text_view, aware_view, unaware_view}
 use Rattle.view_spec.specs.Seen.{Reception, Speaker, text_at, display_at, source_at, text_seen, aware_seen, unaware_seen}
-use Rattle.terminal.specs.declared.confs.TermConf.{TermConf}
+use Rattle.terminal.specs.declared.settings.TerminalSettings.{TerminalSettings}
 use Rattle.terminal.specs.declared.terminals.Terminal.{Terminal}
 use Rattle.terminal.specs.Terminals.{reception, texts_of, counts_of, IsTextOf, Heard}
 use Rattle.terminal.specs.declared.views.View.{View}
@@ -32,17 +32,17 @@ named_is r came (s ∷ speakers) (t ∷ ts) n f =
     let rest = named_is r came speakers ts (omega (arith, n)) (λ k d l. f (suc k) d (omega (arith, l))) in
     ap (λ (x : List ℕ). record { name = s.name; display = shown x } ∷ named (map (λ z. z.name) speakers) ts) here ∙ ap (λ (xs : List Source). source_at r came s ∷ xs) rest
 
-pub text_is_seen : (t : Terminal) (c : TermConf) (source : ℕ) (came : List Item) → Heard t c (source ∷ []) came → text_view_of t ≡ text_seen (reception c) source came
+pub text_is_seen : (t : Terminal) (c : TerminalSettings) (source : ℕ) (came : List Item) → Heard t c (source ∷ []) came → text_view_of t ≡ text_seen (reception c) source came
 text_is_seen t c source came h =
     ap (λ (x : List ℕ). text_view (shown x) (counts_of t)) (first_is (reception c) came source (texts_of t) h.each h.texts)
     ∙ ap (λ (n : Counts). text_view (display_at (reception c) came source) n) h.counts
 
-pub unaware_is_seen : (t : Terminal) (name : List ℕ) (c : TermConf) (source : ℕ) (came : List Item) → Heard t c (source ∷ []) came → unaware_view_of name t ≡ unaware_seen (reception c) name source came
+pub unaware_is_seen : (t : Terminal) (name : List ℕ) (c : TerminalSettings) (source : ℕ) (came : List Item) → Heard t c (source ∷ []) came → unaware_view_of name t ≡ unaware_seen (reception c) name source came
 unaware_is_seen t name c source came h =
     ap (λ (x : List ℕ). unaware_view name (shown x) (counts_of t)) (first_is (reception c) came source (texts_of t) h.each h.texts)
     ∙ ap (λ (n : Counts). unaware_view name (display_at (reception c) came source) n) h.counts
 
-pub aware_is_seen : (t : Terminal) (name : List ℕ) (names : List (List ℕ)) (c : TermConf) (speakers : List Speaker) (came : List Item) → names ≡ map (λ s. s.name) speakers → Heard t c (map (λ s. s.ssrc) speakers) came
+pub aware_is_seen : (t : Terminal) (name : List ℕ) (names : List (List ℕ)) (c : TerminalSettings) (speakers : List Speaker) (came : List Item) → names ≡ map (λ s. s.name) speakers → Heard t c (map (λ s. s.ssrc) speakers) came
     → aware_view_of name names t ≡ aware_seen (reception c) name speakers came
 aware_is_seen t name names c speakers came e h =
     ap (λ (ns : List (List ℕ)). aware_view name (named ns (texts_of t)) (counts_of t)) e

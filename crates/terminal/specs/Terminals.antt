@@ -3,13 +3,13 @@ use Rattle.std.specs.Prelude.{◌≡◌, ℕ, ◌+◌, ◌<◌, ◌≤◌, ◌�
 use Rattle.wire_spec.specs.Dump.{Item, What, Cut, Large}
 use Rattle.gap_tracker.specs.Stories.{Story}
 use Rattle.source_receiver.specs.declared.source_texts.SourceText.{SourceText}
-use Rattle.ear.specs.declared.confs.EarConf.{EarConf}
+use Rattle.ear.specs.declared.settings.EarSettings.{EarSettings}
 use Rattle.ear.specs.Hears.{IsToldOf, arrival_count, is_quiet, is_finished}
 use Rattle.ear.specs.Each.{HearsEach}
 use Rattle.view_spec.specs.declared.counts.Counts.{Counts}
 use Rattle.view_spec.specs.Seen.{Reception, Fate, fate_at, is_packet, is_refused, is_foreign, many, arrivals_at, text_at, counts_at}
 use Rattle.view_spec.specs.Markers.{markers_at}
-use Rattle.terminal.specs.declared.confs.TermConf.{TermConf}
+use Rattle.terminal.specs.declared.settings.TerminalSettings.{TerminalSettings}
 use Rattle.terminal.specs.declared.terminals.Terminal.{Terminal}
 
 -- ---- what is seen of a terminal
@@ -37,26 +37,26 @@ IsWhole t = is_spent t ≡ false
 -- ---- what it heard
 
 -- who hears there
-abbrev pub reception : TermConf → Reception
-reception c = record { ssrc = c.ssrc; pts = c.pts; wait = c.wait }
+abbrev pub reception : TerminalSettings → Reception
+reception c = record { ssrc = c.ssrc; payload_types = c.payload_types; wait = c.wait }
 
 -- what is asked of the ear
-abbrev pub ear_conf : TermConf → EarConf
-ear_conf c = record { ssrc = c.ssrc; pts = c.pts; wait = c.wait }
+abbrev pub ear_settings : TerminalSettings → EarSettings
+ear_settings c = record { ssrc = c.ssrc; payload_types = c.payload_types; wait = c.wait }
 
 -- nothing was heard of the source
 pub record IsEmpty (t : SourceText) : Type 0 where
   pub text : t.text ≡ []
-  pub marks : t.marks ≡ 0
+  pub markers : t.markers ≡ 0
 
 -- the ear was told and gave what the story says, and the texts are what is heard of each source by what it gave
-pub record HearsTexts (t : Terminal) (c : TermConf) (sources : List ℕ) (story : Story) : Type 0 where
-  pub hears : HearsEach t.ear (ear_conf c) sources story t.heard.items
+pub record HearsTexts (t : Terminal) (c : TerminalSettings) (sources : List ℕ) (story : Story) : Type 0 where
+  pub hears : HearsEach t.ear (ear_settings c) sources story t.heard.items
   pub used : t.counts.used ≡ length story.given
 
 -- what it heard is that of some story
 abbrev pub IsHearingTexts : Terminal → Type 0
-IsHearingTexts t = (c : TermConf) × (sources : List ℕ) × (story : Story) × HearsTexts t c sources story
+IsHearingTexts t = (c : TerminalSettings) × (sources : List ℕ) × (story : Story) × HearsTexts t c sources story
 
 -- the packets that came are counted
 pub record Counted (n : Counts) (r : Reception) (came : List Item) : Type 0 where
@@ -67,7 +67,7 @@ pub record Counted (n : Counts) (r : Reception) (came : List Item) : Type 0 wher
   pub few_foreign : n.foreign ≤ n.packets
 
 -- this came to the terminal, oldest first, and more may come
-pub record Listens (t : Terminal) (c : TermConf) (sources : List ℕ) (came : List Item) : Type 0 where
+pub record Listens (t : Terminal) (c : TerminalSettings) (sources : List ℕ) (came : List Item) : Type 0 where
   pub story : Story
   pub hears : HearsTexts t c sources story
   pub told : IsToldOf story (arrivals_at (reception c) came)
@@ -80,7 +80,7 @@ pub record Listens (t : Terminal) (c : TermConf) (sources : List ℕ) (came : Li
 
 -- something came so
 abbrev pub IsListening : Terminal → Type 0
-IsListening t = (c : TermConf) × (sources : List ℕ) × (came : List Item) × Listens t c sources came
+IsListening t = (c : TerminalSettings) × (sources : List ℕ) × (came : List Item) × Listens t c sources came
 
 -- it is not finished: it listens, where it is not spent
 abbrev pub IsOpen : Terminal → Type 0
@@ -93,10 +93,10 @@ AreUtf8 texts = All (λ t. IsUtf8 t.text) texts
 -- all that is heard of the source s
 pub record IsTextOf (r : Reception) (came : List Item) (s : ℕ) (t : SourceText) : Type 0 where
   pub text : t.text ≡ text_at r came s
-  pub marks : t.marks ≡ markers_at r came s
+  pub markers : t.markers ≡ markers_at r came s
 
 -- what came was heard to its end
-pub record Heard (t : Terminal) (c : TermConf) (sources : List ℕ) (came : List Item) : Type 0 where
+pub record Heard (t : Terminal) (c : TerminalSettings) (sources : List ℕ) (came : List Item) : Type 0 where
   pub some : 0 < length sources
   pub each : length (texts_of t) ≡ length sources
   pub texts : (k : ℕ) (d : SourceText) → k < length sources → IsTextOf (reception c) came (slice_index sources k) (slice_index_or (texts_of t) k d)
@@ -106,7 +106,7 @@ pub record Heard (t : Terminal) (c : TermConf) (sources : List ℕ) (came : List
 
 -- something came and was heard to its end
 abbrev pub IsHeard : Terminal → Type 0
-IsHeard t = (c : TermConf) × (sources : List ℕ) × (came : List Item) × Heard t c sources came
+IsHeard t = (c : TerminalSettings) × (sources : List ℕ) × (came : List Item) × Heard t c sources came
 
 -- it is finished, where it is not spent
 abbrev pub IsFinished : Terminal → Type 0

@@ -1,13 +1,13 @@
 //! A terminal: what is heard of each source in the packets that come to it, and the view of it.
 #![tactic(auto)]
 
-mod confs;
+mod settings;
 mod terminals;
 #[cfg(test)]
 mod tests;
 mod views;
 
-pub use confs::TermConf;
+pub use settings::TerminalSettings;
 pub use source_receiver::SourceText;
 pub use t140_text::Counts;
 pub use terminals::Terminal;

@@ -5,8 +5,8 @@ ghost use Rattle.terminal.specs.Terminals.{texts_of, counts_of, is_spent, all_us
 ghost use Rattle.terminal.specs.Told.{MayTake, TakesPacket, TakesUnread, ListensAlike, one_if_refused, one_if_foreign, GathersTexts, HearsToEnd};
 ghost use Rattle.rtt_base.specs.declared.limits.TheConstants.{END_OF_MOMENTS, LONGEST_WAIT, MOST_ARRIVALS, MOST_SOURCES};
 
-use crate::TermConf;
-use ear::{Ear, EarConf};
+use crate::TerminalSettings;
+use ear::{Ear, EarSettings};
 use rtt_base::NoMemory;
 use source_receiver::SourceText;
 use std::alloc::Global;
@@ -41,19 +41,19 @@ fn nothing_heard(alloc: Global, number: usize) -> Result<Vec<SourceText>, NoMemo
 
 impl Terminal {
     /// A terminal to which nothing came yet, for the text of these sources: 1 to 64, all different.
-    pub fn new(alloc: Global, conf: TermConf, sources: &[u32]) -> Result<Terminal, NoMemory>
-        requires wait { conf.wait ≤ LONGEST_WAIT }
+    pub fn new(alloc: Global, settings: TerminalSettings, sources: &[u32]) -> Result<Terminal, NoMemory>
+        requires wait { settings.wait ≤ LONGEST_WAIT }
         requires some { 0 < length sources.now }
         requires few { length sources.now ≤ MOST_SOURCES }
         requires differ { AllPairs (λ a b. a ≢ b) sources.now }
-        ensures listens { IfOk result (λ terminal. Listens terminal conf sources.now []) }
+        ensures listens { IfOk result (λ terminal. Listens terminal settings sources.now []) }
         ensures packets { IfOk result (λ terminal. (counts_of terminal).packets ≡ 0) }
         ensures whole { IfOk result IsWhole }
     {
-        let asked = EarConf {
-            ssrc: conf.ssrc,
-            pts: conf.pts,
-            wait: conf.wait,
+        let asked = EarSettings {
+            ssrc: settings.ssrc,
+            payload_types: settings.payload_types,
+            wait: settings.wait,
         };
         let heard = nothing_heard(alloc, sources.len())?;
         Ok(Terminal {
@@ -68,12 +68,12 @@ impl Terminal {
     /// used.
     pub fn told(
         alloc: Global,
-        conf: TermConf,
+        settings: TerminalSettings,
         sources: &[u32],
         heard: Vec<SourceText>,
         packets: u64,
     ) -> Result<Terminal, NoMemory>
-        requires wait { conf.wait ≤ LONGEST_WAIT }
+        requires wait { settings.wait ≤ LONGEST_WAIT }
         requires some { 0 < length sources.now }
         requires few { length sources.now ≤ MOST_SOURCES }
         requires differ { AllPairs (λ a b. a ≢ b) sources.now }
@@ -81,7 +81,7 @@ impl Terminal {
         ensures counts { IfOk result (λ terminal. counts_of terminal ≡ all_used packets) }
         ensures whole { IfOk result IsWhole }
     {
-        let mut terminal = Terminal::new(alloc, conf, sources)?;
+        let mut terminal = Terminal::new(alloc, settings, sources)?;
         terminal.heard = heard;
         terminal.counts = Counts {
             packets,

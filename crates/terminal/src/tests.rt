@@ -4,8 +4,8 @@ ghost use Rattle.terminal.specs.Terminals.{counts_of, IsOpen};
 ghost use Rattle.terminal.specs.Told.{ListensStill};
 ghost use Rattle.rtt_base.specs.declared.limits.TheConstants.{END_OF_MOMENTS};
 
-use crate::{TermConf, Terminal, View};
-use rtt_base::{Bytes, Name, NoMemory, Packet, Pts};
+use crate::{TerminalSettings, Terminal, View};
+use rtt_base::{Bytes, Name, NoMemory, Packet, PayloadTypes};
 use std::test::Fail;
 
 /// What each writer types in a round, 300 ms apart: the digits 1 to 4, and then nothing.
@@ -90,15 +90,15 @@ fn name(letters: &str) -> Name {
     name
 }
 
-const CONF: TermConf = TermConf {
+const SETTINGS: TerminalSettings = TerminalSettings {
     ssrc: 9000,
-    pts: Pts { t140: 98, red: 100 },
+    payload_types: PayloadTypes { t140: 98, red: 100 },
     wait: 1000,
 };
 
 /// Whether the terminal D shows this where the packets with these numbers are lost.
 fn shows(rt: &HostRuntime, lost: &[u16], wanted: &str) -> Result<bool, Fail> {
-    let mut terminal = Terminal::new(rt.alloc(), CONF, &[1001, 1002, 1003])?;
+    let mut terminal = Terminal::new(rt.alloc(), SETTINGS, &[1001, 1002, 1003])?;
     for number in 0..18u16 {
         hand_in_unless_lost(&mut terminal, number, lost)?;
     }
@@ -121,11 +121,11 @@ fn shows_other(
     source: u32,
     packets: &[&[u8]],
     wanted: &str,
-    marks: u64,
+    markers: u64,
 ) -> Result<bool, Fail>
     requires { length packets.now < 100 }
 {
-    let mut terminal = Terminal::new(rt.alloc(), CONF, &[source])?;
+    let mut terminal = Terminal::new(rt.alloc(), SETTINGS, &[source])?;
     for number in 0..packets.len() {
         hand_in(&mut terminal, number as u64 * 300, packets[number])?;
     }
@@ -138,7 +138,7 @@ fn shows_other(
     };
     terminal.append_view(rt.alloc(), aware, &mut view)?;
     let counted = match terminal.heard() {
-        [heard] => heard.marks == marks,
+        [heard] => heard.markers == markers,
         _ => false,
     };
     Ok(counted && view.as_slice() == wanted.as_bytes())
@@ -148,7 +148,7 @@ fn shows_other(
 fn shows_as_one(rt: &HostRuntime, packets: &[&[u8]], wanted: &str) -> Result<bool, Fail>
     requires { length packets.now < 100 }
 {
-    let mut terminal = Terminal::new(rt.alloc(), CONF, &[9000])?;
+    let mut terminal = Terminal::new(rt.alloc(), SETTINGS, &[9000])?;
     for number in 0..packets.len() {
         hand_in(&mut terminal, number as u64 * 300, packets[number])?;
     }
@@ -160,7 +160,7 @@ fn shows_as_one(rt: &HostRuntime, packets: &[&[u8]], wanted: &str) -> Result<boo
 }
 
 #[test]
-fn lost_packets_are_repeated_or_leave_a_mark(rt: HostRuntime) -> Result<(), Fail> {
+fn lost_packets_are_repeated_or_leave_a_marker(rt: HostRuntime) -> Result<(), Fail> {
     // A round of each writer.
     let repeated =
         "== D aware\nA: 1234\n-- A bells 0\nB: 1234\n-- B bells 0\nC: 1234\n-- C bells 0\n-- packets 15 used 15 refused 0 foreign 0\n";
@@ -169,7 +169,7 @@ fn lost_packets_are_repeated_or_leave_a_mark(rt: HostRuntime) -> Result<(), Fail
     let marked =
         "== D aware\nA: 1\u{FFFD}234\n-- A bells 0\nB: 1\u{FFFD}234\n-- B bells 0\nC: 1\u{FFFD}234\n-- C bells 0\n-- packets 12 used 12 refused 0 foreign 0\n";
     assert!(rt; shows(&rt, &[3, 4, 5, 6, 7, 8], marked)?);
-    // Some here and there: a mark stands at who may have lost more.
+    // Some here and there: a marker stands at who may have lost more.
     let scattered =
         "== D aware\nA: 1234\n-- A bells 0\nB: \u{FFFD}1234\n-- B bells 0\nC: \u{FFFD}1234\n-- C bells 0\n-- packets 15 used 15 refused 0 foreign 0\n";
     assert!(rt; shows(&rt, &[1, 2, 4], scattered)?);

@@ -10,8 +10,8 @@ use Rattle.stream_spec.specs.Typed.{Event, Ask, Turned, sents, carried, typed, h
 use Rattle.stream_spec.proofs.Sent.{the_last, sent_lawful, sent_own, in_sent_of}
 use Rattle.stream_spec.proofs.Typing.{typed_is, entries_more, entries_same, waits_same, paced, length_of_front, last_end_le}
 use Rattle.stream_spec.proofs.Closing.{last_is, sent_closed, longest}
-use Rattle.text_sender.specs.declared.senders.SendConf.{SendConf}
-use Rattle.text_sender.specs.Confs.{IsConf, stream_of}
+use Rattle.text_sender.specs.declared.senders.SenderSettings.{SenderSettings}
+use Rattle.text_sender.specs.Settings.{AreSettings, stream_of}
 use Rattle.text_sender.specs.Standing.{sent_by, waits_for, has_more, next_due_of, history_sent}
 use Rattle.text_sender.proofs.Sending.{next_entry, length_sents}
 
@@ -27,23 +27,23 @@ pub carried_is : (g : ℕ) (es : List Turned) → flat_map (λ x. x.text) (entri
 carried_is g [] = refl
 carried_is g (e ∷ es) = one_text (entries_sent g (sents es)) (entry_after g (sents es) e.sent) ∙ ap (λ (xs : List ℕ). xs ++ e.sent.text) (carried_is g es)
 
-pub all_sent : (conf : SendConf) (past : List Event) → typed past ≡ primaries (history_sent conf past) ++ waits_for conf past
-all_sent conf past = typed_is (stream_of conf) conf.interval past ∙ ap (λ (xs : List ℕ). xs ++ waits_for conf past) (sym (carried_is conf.gens (sent_by conf past)))
+pub all_sent : (settings : SenderSettings) (past : List Event) → typed past ≡ primaries (history_sent settings past) ++ waits_for settings past
+all_sent settings past = typed_is (stream_of settings) settings.interval past ∙ ap (λ (xs : List ℕ). xs ++ waits_for settings past) (sym (carried_is settings.generations (sent_by settings past)))
 
-pub lawful : (conf : SendConf) (past : List Event) → IsConf conf → IsScript past → Lawful (history_sent conf past)
-lawful conf past k s = sent_lawful (stream_of conf) (sents (sent_by conf past)) k.gens (paced (stream_of conf) conf.interval past k.gens (let l = k.least in omega arith) s).sendable
+pub lawful : (settings : SenderSettings) (past : List Event) → AreSettings settings → IsScript past → Lawful (history_sent settings past)
+lawful settings past k s = sent_lawful (stream_of settings) (sents (sent_by settings past)) k.generations (paced (stream_of settings) settings.interval past k.generations (let l = k.least in omega arith) s).sendable
 
-pub own : (conf : SendConf) (past : List Event) → Own conf.gens (history_sent conf past)
-own conf past = sent_own (stream_of conf) (sents (sent_by conf past))
+pub own : (settings : SenderSettings) (past : List Event) → Own settings.generations (history_sent settings past)
+own settings past = sent_own (stream_of settings) (sents (sent_by settings past))
 
-pub own_packets : (conf : SendConf) (past : List Event) (t : ℕ) → due_at (stream_of conf) conf.interval past t ≡ true
-    → (x : Placed) × In x (placed (history_sent conf (Ask t ∷ past))) × (x.place ≡ length (sent_by conf past))
-    × (packet_at (stream_of conf) conf.interval past t ≡ Some (own_packet (history_sent conf (Ask t ∷ past)) x))
-own_packets conf past t d =
-    let c = stream_of conf in
-    let es = sent_by conf past in
-    let e = next_entry conf past t in
-    let more = entries_more c conf.interval past t d in
+pub own_packets : (settings : SenderSettings) (past : List Event) (t : ℕ) → due_at (stream_of settings) settings.interval past t ≡ true
+    → (x : Placed) × In x (placed (history_sent settings (Ask t ∷ past))) × (x.place ≡ length (sent_by settings past))
+    × (packet_at (stream_of settings) settings.interval past t ≡ Some (own_packet (history_sent settings (Ask t ∷ past)) x))
+own_packets settings past t d =
+    let c = stream_of settings in
+    let es = sent_by settings past in
+    let e = next_entry settings past t in
+    let more = entries_more c settings.interval past t d in
     let l = last_is c (sents es) e.sent in
     let x = the_last c (sents es) e.sent in (
       x,
@@ -60,59 +60,59 @@ empty : (w : List ℕ) → has_text w ≡ false → w ≡ []
 empty [] h = refl
 empty (x ∷ w) h = cc h
 
-pub end_sent : (conf : SendConf) (past : List Event) → has_more conf past ≡ false → typed past ≡ primaries (history_sent conf past)
-end_sent conf past h =
-    let n = or_none (has_text (waits_for conf past)) (has_text_in conf.gens (sents (sent_by conf past))) h in
-    all_sent conf past ∙ (ap (λ (xs : List ℕ). primaries (history_sent conf past) ++ xs) (empty (waits_for conf past) n.0) ∙ nil (primaries (history_sent conf past)))
+pub end_sent : (settings : SenderSettings) (past : List Event) → has_more settings past ≡ false → typed past ≡ primaries (history_sent settings past)
+end_sent settings past h =
+    let n = or_none (has_text (waits_for settings past)) (has_text_in settings.generations (sents (sent_by settings past))) h in
+    all_sent settings past ∙ (ap (λ (xs : List ℕ). primaries (history_sent settings past) ++ xs) (empty (waits_for settings past) n.0) ∙ nil (primaries (history_sent settings past)))
 
-pub end_closed : (conf : SendConf) (past : List Event) → IsConf conf → IsScript past → has_more conf past ≡ false → Closed conf.gens (history_sent conf past)
-end_closed conf past k s h =
-    let n = or_none (has_text (waits_for conf past)) (has_text_in conf.gens (sents (sent_by conf past))) h in
-    let p = paced (stream_of conf) conf.interval past k.gens (let l = k.least in omega arith) s in
-    sent_closed (stream_of conf) (sents (sent_by conf past))
-    (λ z i. let q = in_sent_of conf.ssrc (sents (sent_by conf past)) z (subst (λ (zs : List Sent). In z zs) (sym p.own) i) in
-    ap (λ m. has_text_in conf.gens (sent_of m (sents (sent_by conf past)))) q.1 ∙ (ap (λ (zs : List Sent). has_text_in conf.gens zs) p.own ∙ n.1))
+pub end_closed : (settings : SenderSettings) (past : List Event) → AreSettings settings → IsScript past → has_more settings past ≡ false → Closed settings.generations (history_sent settings past)
+end_closed settings past k s h =
+    let n = or_none (has_text (waits_for settings past)) (has_text_in settings.generations (sents (sent_by settings past))) h in
+    let p = paced (stream_of settings) settings.interval past k.generations (let l = k.least in omega arith) s in
+    sent_closed (stream_of settings) (sents (sent_by settings past))
+    (λ z i. let q = in_sent_of settings.ssrc (sents (sent_by settings past)) z (subst (λ (zs : List Sent). In z zs) (sym p.own) i) in
+    ap (λ m. has_text_in settings.generations (sent_of m (sents (sent_by settings past)))) q.1 ∙ (ap (λ (zs : List Sent). has_text_in settings.generations zs) p.own ∙ n.1))
 
 passed_from : (interval : ℕ) (es : List Turned) (m t : ℕ) → next_at interval es ≡ Some m → has_passed interval es t ≡ nat_le m t
 passed_from interval [] m t e = cc e
 passed_from interval (f ∷ es) m t e = let q : f.at + interval ≡ m = cc e in ap (λ k. nat_le k t) q
 
-pub due_from : (conf : SendConf) (past : List Event) (m t : ℕ) → next_due_of conf past ≡ Some m → due_at (stream_of conf) conf.interval past t ≡ nat_le m t
-due_from conf past m t e = go (has_more conf past) e
+pub due_from : (settings : SenderSettings) (past : List Event) (m t : ℕ) → next_due_of settings past ≡ Some m → due_at (stream_of settings) settings.interval past t ≡ nat_le m t
+due_from settings past m t e = go (has_more settings past) e
   where
-    go : (b : Bool) → cond b (next_at conf.interval (sent_by conf past)) None ≡ Some m → (b && has_passed conf.interval (sent_by conf past) t) ≡ nat_le m t
-    go true q = passed_from conf.interval (sent_by conf past) m t q
+    go : (b : Bool) → cond b (next_at settings.interval (sent_by settings past)) None ≡ Some m → (b && has_passed settings.interval (sent_by settings past) t) ≡ nat_le m t
+    go true q = passed_from settings.interval (sent_by settings past) m t q
     go false q = cc q
 
 no_entry : (interval : ℕ) (es : List Turned) → next_at interval es ≡ None → es ≡ []
 no_entry interval [] e = refl
 no_entry interval (f ∷ es) e = cc e
 
-pub none_due : (conf : SendConf) (past : List Event) (t : ℕ) → next_due_of conf (Ask t ∷ past) ≡ None → has_more conf (Ask t ∷ past) ≡ false
-none_due conf past t e = go (has_more conf (Ask t ∷ past)) refl
+pub none_due : (settings : SenderSettings) (past : List Event) (t : ℕ) → next_due_of settings (Ask t ∷ past) ≡ None → has_more settings (Ask t ∷ past) ≡ false
+none_due settings past t e = go (has_more settings (Ask t ∷ past)) refl
   where
     and_true : (b : Bool) → (b && true) ≡ b
     and_true true = refl
     and_true false = refl
 
-    quiet : due_at (stream_of conf) conf.interval past t ≡ false → sent_by conf (Ask t ∷ past) ≡ [] → has_more conf (Ask t ∷ past) ≡ false
+    quiet : due_at (stream_of settings) settings.interval past t ≡ false → sent_by settings (Ask t ∷ past) ≡ [] → has_more settings (Ask t ∷ past) ≡ false
     quiet d q =
-        let c = stream_of conf in
-        let same = entries_same c conf.interval past t d in
-        let none : sent_by conf past ≡ [] = sym same ∙ q in
-        let less : has_more conf past ≡ false = sym (ap (λ (es : List Turned). has_more conf past && has_passed conf.interval es t) none ∙ and_true (has_more conf past)) ∙ d in
-        ap (λ (w : List ℕ). has_text w || has_text_in conf.gens (sents (sent_by conf (Ask t ∷ past)))) (waits_same c conf.interval past t d)
-        ∙ (ap (λ (es : List Turned). has_text (waits_for conf past) || has_text_in conf.gens (sents es)) same ∙ less)
+        let c = stream_of settings in
+        let same = entries_same c settings.interval past t d in
+        let none : sent_by settings past ≡ [] = sym same ∙ q in
+        let less : has_more settings past ≡ false = sym (ap (λ (es : List Turned). has_more settings past && has_passed settings.interval es t) none ∙ and_true (has_more settings past)) ∙ d in
+        ap (λ (w : List ℕ). has_text w || has_text_in settings.generations (sents (sent_by settings (Ask t ∷ past)))) (waits_same c settings.interval past t d)
+        ∙ (ap (λ (es : List Turned). has_text (waits_for settings past) || has_text_in settings.generations (sents es)) same ∙ less)
 
-    by_due : (b : Bool) → due_at (stream_of conf) conf.interval past t ≡ b → sent_by conf (Ask t ∷ past) ≡ [] → has_more conf (Ask t ∷ past) ≡ false
-    by_due true d q = let more = entries_more (stream_of conf) conf.interval past t d in cc (more, q)
+    by_due : (b : Bool) → due_at (stream_of settings) settings.interval past t ≡ b → sent_by settings (Ask t ∷ past) ≡ [] → has_more settings (Ask t ∷ past) ≡ false
+    by_due true d q = let more = entries_more (stream_of settings) settings.interval past t d in cc (more, q)
     by_due false d q = quiet d q
 
-    go : (b : Bool) → has_more conf (Ask t ∷ past) ≡ b → has_more conf (Ask t ∷ past) ≡ false
+    go : (b : Bool) → has_more settings (Ask t ∷ past) ≡ b → has_more settings (Ask t ∷ past) ≡ false
     go false h = h
     go true h =
-        let n : next_at conf.interval (sent_by conf (Ask t ∷ past)) ≡ None = sym (ap (λ b. cond b (next_at conf.interval (sent_by conf (Ask t ∷ past))) None) h) ∙ e in
-        by_due (due_at (stream_of conf) conf.interval past t) refl (no_entry conf.interval (sent_by conf (Ask t ∷ past)) n)
+        let n : next_at settings.interval (sent_by settings (Ask t ∷ past)) ≡ None = sym (ap (λ b. cond b (next_at settings.interval (sent_by settings (Ask t ∷ past))) None) h) ∙ e in
+        by_due (due_at (stream_of settings) settings.interval past t) refl (no_entry settings.interval (sent_by settings (Ask t ∷ past)) n)
 
 pub longest_front : (n k : ℕ) (octets : List ℕ) → IsUtf8 octets → k ≤ n → k ≤ length octets → IsUtf8 (take k octets) → k ≤ length (whole_front n octets)
 longest_front n k octets u l m t =

@@ -12,11 +12,11 @@ use Rattle.aware_output.specs.Speakers.{IsNext, text_of}
 use Rattle.aware_output.specs.Sending.{OfNext, octets_of}
 use Rattle.aware_output.specs.Standing as standing
 use Rattle.aware_output.specs.States as outputs
-use Rattle.text_sender.specs.declared.senders.SendConf.{SendConf}
+use Rattle.text_sender.specs.declared.senders.SenderSettings.{SenderSettings}
 use Rattle.text_sender.specs.declared.senders.Last.{Last}
-use Rattle.text_sender.specs.Confs.{IsConf, stream_of, output_of}
+use Rattle.text_sender.specs.Settings.{AreSettings, stream_of, output_of}
 use Rattle.text_sender.specs.States.{State}
-use Rattle.text_sender.specs.Standing.{StandsFor, sent_by, waits_for, last_of}
+use Rattle.text_sender.specs.Standing.{SenderStandsFor, sent_by, waits_for, last_of}
 use Rattle.text_sender.specs.Scripts.{octets_due}
 use Rattle.rtt_base.specs.declared.limits.TheConstants.{MOST_PACKET_OCTETS, MOST_TEXT_OCTETS}
 
@@ -32,13 +32,13 @@ pub media_now : (g : ℕ) (es : List Turned) (t : ℕ) → has_text_in g (sents 
 media_now g [] t h = refl
 media_now g (f ∷ es) t h = rw h refl
 
-pub more_typed : (conf : SendConf) (past : List Event) (s new : State) (text : List ℕ) → IsUtf8 text → StandsFor conf s past
-    → new ≡ record s { waits = s.waits ++ text } → StandsFor conf new (Text text ∷ past)
-more_typed conf past s new text u r e = record {
+pub more_typed : (settings : SenderSettings) (past : List Event) (s new : State) (text : List ℕ) → IsUtf8 text → SenderStandsFor settings s past
+    → new ≡ record s { waits = s.waits ++ text } → SenderStandsFor settings new (Text text ∷ past)
+more_typed settings past s new text u r e = record {
   script = (u, r.script);
-  conf_is = ap (λ (x : State). x.conf) e ∙ r.conf_is;
-  waits = ap (λ (x : State). x.waits) e ∙ (ap (λ (w : List ℕ). w ++ text) r.waits ∙ sym (waits_more (stream_of conf) conf.interval past text));
-  output = subst (λ (o : outputs.State). standing.StandsFor (output_of conf) (conf.ssrc ∷ []) o (sents (sent_by conf past))) (sym (ap (λ (x : State). x.output) e)) r.output;
+  settings_is = ap (λ (x : State). x.settings) e ∙ r.settings_is;
+  waits = ap (λ (x : State). x.waits) e ∙ (ap (λ (w : List ℕ). w ++ text) r.waits ∙ sym (waits_more (stream_of settings) settings.interval past text));
+  output = subst (λ (o : outputs.State). standing.PacketizerStandsFor (output_of settings) (settings.ssrc ∷ []) o (sents (sent_by settings past))) (sym (ap (λ (x : State). x.output) e)) r.output;
   last = ap (λ (x : State). x.last) e ∙ r.last;
 }
 
@@ -48,39 +48,39 @@ length_sents [] = refl
 length_sents (e ∷ es) = let r = length_sents es in omega arith
 
 -- the entry at `now`
-abbrev pub next_entry : SendConf → List Event → ℕ → Turned
-next_entry conf past now = entry_at (stream_of conf) (sent_by conf past) (waits_for conf past) now
+abbrev pub next_entry : SenderSettings → List Event → ℕ → Turned
+next_entry settings past now = entry_at (stream_of settings) (sent_by settings past) (waits_for settings past) now
 
 -- what is sent at `now` may be sent
-pub may_send : (conf : SendConf) (past : List Event) (now : ℕ) → IsConf conf → IsScript (Ask now ∷ past) → due_at (stream_of conf) conf.interval past now ≡ true
-    → Sendable (stream_of conf) ((next_entry conf past now).sent ∷ sents (sent_by conf past))
-may_send conf past now k s d =
-    let c = stream_of conf in
-    let p = paced c conf.interval (Ask now ∷ past) k.gens (let l = k.least in omega arith) s in
-    subst (λ (es : List Turned). Sendable c (sents es)) (entries_more c conf.interval past now d) p.sendable
+pub may_send : (settings : SenderSettings) (past : List Event) (now : ℕ) → AreSettings settings → IsScript (Ask now ∷ past) → due_at (stream_of settings) settings.interval past now ≡ true
+    → Sendable (stream_of settings) ((next_entry settings past now).sent ∷ sents (sent_by settings past))
+may_send settings past now k s d =
+    let c = stream_of settings in
+    let p = paced c settings.interval (Ask now ∷ past) k.generations (let l = k.least in omega arith) s in
+    subst (λ (es : List Turned). Sendable c (sents es)) (entries_more c settings.interval past now d) p.sendable
 
-pub own_sents : (conf : SendConf) (past : List Event) → IsConf conf → IsScript past → sent_of conf.ssrc (sents (sent_by conf past)) ≡ sents (sent_by conf past)
-own_sents conf past k s = (paced (stream_of conf) conf.interval past k.gens (let l = k.least in omega arith) s).own
+pub own_sents : (settings : SenderSettings) (past : List Event) → AreSettings settings → IsScript past → sent_of settings.ssrc (sents (sent_by settings past)) ≡ sents (sent_by settings past)
+own_sents settings past k s = (paced (stream_of settings) settings.interval past k.generations (let l = k.least in omega arith) s).own
 
 near_last : (g : ℕ) (es : List Turned) (t : ℕ) → has_text_in g (sents es) ≡ true → IfSome (nth 0 (sents es)) (λ last. media_at g es t ≤ last.media + longest_step g)
 near_last g [] t h = tt
 near_last g (f ∷ es) t h = rw h (omega arith)
 
 -- and the output takes it
-pub is_next : (conf : SendConf) (past : List Event) (now : ℕ) → IsConf conf → IsScript (Ask now ∷ past) → due_at (stream_of conf) conf.interval past now ≡ true
-    → IsNext (stream_of conf) (sents (sent_by conf past)) (next_entry conf past now).sent
-is_next conf past now k s d =
-    let m = (may_send conf past now k s d).0 in
-    let near = near_last conf.gens (sent_by conf past) now in
+pub is_next : (settings : SenderSettings) (past : List Event) (now : ℕ) → AreSettings settings → IsScript (Ask now ∷ past) → due_at (stream_of settings) settings.interval past now ≡ true
+    → IsNext (stream_of settings) (sents (sent_by settings past)) (next_entry settings past now).sent
+is_next settings past now k s d =
+    let m = (may_send settings past now k s d).0 in
+    let near = near_last settings.generations (sent_by settings past) now in
     record {
       later = m.later;
-      near = subst (λ (zs : List Sent). has_text_in conf.gens zs ≡ true → IfSome (nth 0 zs) (λ last. media_at conf.gens (sent_by conf past) now ≤ last.media + longest_step conf.gens)) (sym (own_sents conf past k s.2)) near;
+      near = subst (λ (zs : List Sent). has_text_in settings.generations zs ≡ true → IfSome (nth 0 zs) (λ last. media_at settings.generations (sent_by settings past) now ≤ last.media + longest_step settings.generations)) (sym (own_sents settings past k s.2)) near;
       text = m.text;
     }
 
-entry_is : (conf : SendConf) (past : List Event) (now media : ℕ) (text : List ℕ) → media ≡ media_at conf.gens (sent_by conf past) now → text ≡ whole_front MOST_TEXT_OCTETS (waits_for conf past)
-    → text_of (conf.ssrc ∷ []) 0 media text ≡ (next_entry conf past now).sent
-entry_is conf past now media text m t = rw (m, t) refl
+entry_is : (settings : SenderSettings) (past : List Event) (now media : ℕ) (text : List ℕ) → media ≡ media_at settings.generations (sent_by settings past) now → text ≡ whole_front MOST_TEXT_OCTETS (waits_for settings past)
+    → text_of (settings.ssrc ∷ []) 0 media text ≡ (next_entry settings past now).sent
+entry_is settings past now media text m t = rw (m, t) refl
 
 -- octets that are few enough are taken by an empty packet
 taken : {T E P : Type 0} (before after octets : List ℕ) (result : Result T E) → before ≡ [] → length octets ≤ MOST_PACKET_OCTETS → Appends (Some MOST_PACKET_OCTETS) before after octets result → OnOk result P
@@ -92,34 +92,34 @@ taken {T} {E} {P} before after octets result e few a then = go result (a.room.1 
     go (Err v) i p q = cc i
 
 -- the packet at `now` is sent whole
-pub sent_whole : {T E : Type 0} (conf : SendConf) (past : List Event) (now media : ℕ) (text before after : List ℕ) (old new : outputs.State) (result : Result T E) → IsConf conf → IsScript (Ask now ∷ past)
-    → due_at (stream_of conf) conf.interval past now ≡ true → media ≡ media_at conf.gens (sent_by conf past) now → text ≡ whole_front MOST_TEXT_OCTETS (waits_for conf past) → before ≡ []
-    → standing.StandsFor (output_of conf) (conf.ssrc ∷ []) old (sents (sent_by conf past))
+pub sent_whole : {T E : Type 0} (settings : SenderSettings) (past : List Event) (now media : ℕ) (text before after : List ℕ) (old new : outputs.State) (result : Result T E) → AreSettings settings → IsScript (Ask now ∷ past)
+    → due_at (stream_of settings) settings.interval past now ≡ true → media ≡ media_at settings.generations (sent_by settings past) now → text ≡ whole_front MOST_TEXT_OCTETS (waits_for settings past) → before ≡ []
+    → standing.PacketizerStandsFor (output_of settings) (settings.ssrc ∷ []) old (sents (sent_by settings past))
     → OfNext old 0 media text (λ c sources sent e. Appends (Some MOST_PACKET_OCTETS) before after (octets_of c sent e) result)
-    → OfNext old 0 media text (λ c sources sent e. OnOk result (standing.StandsFor c sources new (e ∷ sent)))
-    → (after ≡ octets_due conf past now) × standing.StandsFor (output_of conf) (conf.ssrc ∷ []) new ((next_entry conf past now).sent ∷ sents (sent_by conf past))
-sent_whole conf past now media text before after old new result k s d m t e r packet stands =
-    let es = sents (sent_by conf past) in
-    let c = output_of conf in
-    let sources : List ℕ = conf.ssrc ∷ [] in
-    let entry = entry_is conf past now media text m t in
-    let next = subst (λ (x : Sent). IsNext (stream_of conf) es x) (sym entry) (is_next conf past now k s d) in
-    let few = few_octets conf.pts (stream_of conf) es (next_entry conf past now).sent k.gens (may_send conf past now k s d) in
-    taken before after (octets_due conf past now) result e few
+    → OfNext old 0 media text (λ c sources sent e. OnOk result (standing.PacketizerStandsFor c sources new (e ∷ sent)))
+    → (after ≡ octets_due settings past now) × standing.PacketizerStandsFor (output_of settings) (settings.ssrc ∷ []) new ((next_entry settings past now).sent ∷ sents (sent_by settings past))
+sent_whole settings past now media text before after old new result k s d m t e r packet stands =
+    let es = sents (sent_by settings past) in
+    let c = output_of settings in
+    let sources : List ℕ = settings.ssrc ∷ [] in
+    let entry = entry_is settings past now media text m t in
+    let next = subst (λ (x : Sent). IsNext (stream_of settings) es x) (sym entry) (is_next settings past now k s d) in
+    let few = few_octets settings.payload_types (stream_of settings) es (next_entry settings past now).sent k.generations (may_send settings past now k s d) in
+    taken before after (octets_due settings past now) result e few
     (subst (λ (x : Sent). Appends (Some MOST_PACKET_OCTETS) before after (octets_of c es x) result) entry (packet c sources es r next))
-    (subst (λ (x : Sent). OnOk result (standing.StandsFor c sources new (x ∷ es))) entry (stands c sources es r next))
+    (subst (λ (x : Sent). OnOk result (standing.PacketizerStandsFor c sources new (x ∷ es))) entry (stands c sources es r next))
 
-pub turned : (conf : SendConf) (past : List Event) (now : ℕ) (s new : State) (text : List ℕ) → StandsFor conf s past → last_ask past ≤ now → now < 2 ^ 31
-    → due_at (stream_of conf) conf.interval past now ≡ true → new.conf ≡ s.conf → text ≡ whole_front MOST_TEXT_OCTETS s.waits → new.waits ≡ drop (length text) s.waits
-    → standing.StandsFor (output_of conf) (conf.ssrc ∷ []) new.output ((next_entry conf past now).sent ∷ sents (sent_by conf past))
-    → new.last ≡ Some (record { at = now; media = media_at conf.gens (sent_by conf past) now }) → StandsFor conf new (Ask now ∷ past)
-turned conf past now s new text r l top d cs f w out last =
-    let c = stream_of conf in
-    let more = entries_more c conf.interval past now d in
+pub turned : (settings : SenderSettings) (past : List Event) (now : ℕ) (s new : State) (text : List ℕ) → SenderStandsFor settings s past → last_ask past ≤ now → now < 2 ^ 31
+    → due_at (stream_of settings) settings.interval past now ≡ true → new.settings ≡ s.settings → text ≡ whole_front MOST_TEXT_OCTETS s.waits → new.waits ≡ drop (length text) s.waits
+    → standing.PacketizerStandsFor (output_of settings) (settings.ssrc ∷ []) new.output ((next_entry settings past now).sent ∷ sents (sent_by settings past))
+    → new.last ≡ Some (record { at = now; media = media_at settings.generations (sent_by settings past) now }) → SenderStandsFor settings new (Ask now ∷ past)
+turned settings past now s new text r l top d cs f w out last =
+    let c = stream_of settings in
+    let more = entries_more c settings.interval past now d in
     record {
       script = (l, top, r.script);
-      conf_is = cs ∙ r.conf_is;
-      waits = w ∙ (ap (λ (t : List ℕ). drop (length t) s.waits) f ∙ (ap (λ (v : List ℕ). drop (length (whole_front MOST_TEXT_OCTETS v)) v) r.waits ∙ sym (waits_less c conf.interval past now d)));
-      output = subst (λ (es : List Turned). standing.StandsFor (output_of conf) (conf.ssrc ∷ []) new.output (sents es)) (sym more) out;
+      settings_is = cs ∙ r.settings_is;
+      waits = w ∙ (ap (λ (t : List ℕ). drop (length t) s.waits) f ∙ (ap (λ (v : List ℕ). drop (length (whole_front MOST_TEXT_OCTETS v)) v) r.waits ∙ sym (waits_less c settings.interval past now d)));
+      output = subst (λ (es : List Turned). standing.PacketizerStandsFor (output_of settings) (settings.ssrc ∷ []) new.output (sents es)) (sym more) out;
       last = last ∙ sym (ap last_of more);
     }

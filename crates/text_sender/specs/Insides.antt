@@ -2,10 +2,10 @@
 use Rattle.std.specs.Prelude.{◌≡◌, ◌<◌, ◌^◌, Some, length}
 use Rattle.text_sender.specs.declared.senders.Last.{Last}
 use Rattle.text_sender.specs.declared.senders.Sender.TheInside.{Inside}
-use Rattle.text_sender.specs.Confs.{IsConf}
+use Rattle.text_sender.specs.Settings.{AreSettings}
 
 -- its output has one source, and moments and media times lie below 2^31
-pub record IsSound (s : Inside) : Type 0 where
-  pub conf : IsConf s.conf
+pub record SenderIsSound (s : Inside) : Type 0 where
+  pub settings : AreSettings s.settings
   pub one : length s.output.speakers ≡ 1
   pub last : (l : Last) → s.last ≡ Some l → (l.at < 2 ^ 31) × (l.media < 2 ^ 31)

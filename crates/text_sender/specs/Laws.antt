@@ -4,41 +4,41 @@ use Rattle.stream_spec.specs.Lists.{In}
 use Rattle.stream_spec.specs.History.{Placed, placed}
 use Rattle.stream_spec.specs.Own.{Closed, own_packet}
 use Rattle.stream_spec.specs.Typed.{Event, Ask, typed, whole_front, due_at, packet_at, IsScript, primaries}
-use Rattle.text_sender.specs.declared.senders.SendConf.{SendConf}
-use Rattle.text_sender.specs.Confs.{IsConf, stream_of}
+use Rattle.text_sender.specs.declared.senders.SenderSettings.{SenderSettings}
+use Rattle.text_sender.specs.Settings.{AreSettings, stream_of}
 use Rattle.text_sender.specs.Standing.{sent_by, waits_for, has_more, next_due_of, history_sent}
 
 -- this holds of each configuration and each script
-abbrev pub OfEach : (SendConf → List Event → Type 0) → Type 0
-OfEach P = (conf : SendConf) (past : List Event) → IsConf conf → IsScript past → P conf past
+abbrev pub OfEach : (SenderSettings → List Event → Type 0) → Type 0
+OfEach P = (settings : SenderSettings) (past : List Event) → AreSettings settings → IsScript past → P settings past
 
 -- what was typed is what was sent, in order, and what waits behind it
-abbrev pub IsSentInOrder : SendConf → List Event → Type 0
-IsSentInOrder conf past = typed past ≡ primaries (history_sent conf past) ++ waits_for conf past
+abbrev pub IsSentInOrder : SenderSettings → List Event → Type 0
+IsSentInOrder settings past = typed past ≡ primaries (history_sent settings past) ++ waits_for settings past
 
 -- where a packet is due at this moment, it is that of the last entry of the history with this ask
-abbrev pub IsOfLastEntry : SendConf → List Event → ℕ → Type 0
-IsOfLastEntry conf past t =
-    due_at (stream_of conf) conf.interval past t ≡ true
-    → (x : Placed) × In x (placed (history_sent conf (Ask t ∷ past))) × (x.place ≡ length (sent_by conf past))
-    × (packet_at (stream_of conf) conf.interval past t ≡ Some (own_packet (history_sent conf (Ask t ∷ past)) x))
+abbrev pub IsOfLastEntry : SenderSettings → List Event → ℕ → Type 0
+IsOfLastEntry settings past t =
+    due_at (stream_of settings) settings.interval past t ≡ true
+    → (x : Placed) × In x (placed (history_sent settings (Ask t ∷ past))) × (x.place ≡ length (sent_by settings past))
+    × (packet_at (stream_of settings) settings.interval past t ≡ Some (own_packet (history_sent settings (Ask t ∷ past)) x))
 
 -- where nothing waits and nothing is left to be repeated, all that was typed was sent
-abbrev pub IsSentAtEnd : SendConf → List Event → Type 0
-IsSentAtEnd conf past = has_more conf past ≡ false → typed past ≡ primaries (history_sent conf past)
+abbrev pub IsSentAtEnd : SenderSettings → List Event → Type 0
+IsSentAtEnd settings past = has_more settings past ≡ false → typed past ≡ primaries (history_sent settings past)
 
 -- and each text was repeated as often as it is to be
-abbrev pub IsClosedAtEnd : SendConf → List Event → Type 0
-IsClosedAtEnd conf past = has_more conf past ≡ false → Closed conf.gens (history_sent conf past)
+abbrev pub IsClosedAtEnd : SenderSettings → List Event → Type 0
+IsClosedAtEnd settings past = has_more settings past ≡ false → Closed settings.generations (history_sent settings past)
 
 -- where m is the moment of the next packet, a packet is due at t exactly where t is not before m
-abbrev pub IsDueFrom : SendConf → List Event → ℕ → ℕ → Type 0
-IsDueFrom conf past m t =
-    next_due_of conf past ≡ Some m → due_at (stream_of conf) conf.interval past t ≡ nat_le m t
+abbrev pub IsDueFrom : SenderSettings → List Event → ℕ → ℕ → Type 0
+IsDueFrom settings past m t =
+    next_due_of settings past ≡ Some m → due_at (stream_of settings) settings.interval past t ≡ nat_le m t
 
 -- where there is no such moment, nothing waits and nothing is left to be repeated
-abbrev pub IsOverAtNone : SendConf → List Event → Type 0
-IsOverAtNone conf past = next_due_of conf past ≡ None → has_more conf past ≡ false
+abbrev pub IsOverAtNone : SenderSettings → List Event → Type 0
+IsOverAtNone settings past = next_due_of settings past ≡ None → has_more settings past ≡ false
 
 -- a front of k octets, at most n, that cuts no character is no longer than the longest one
 abbrev pub IsNoLonger : ℕ → ℕ → List ℕ → Type 0

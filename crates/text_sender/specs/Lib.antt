@@ -1,4 +1,4 @@
-pub mod Confs
+pub mod Settings
 pub mod States
 pub mod Insides
 pub mod Standing

@@ -1,12 +1,12 @@
 -- What a sender knows.
 use Rattle.std.specs.Prelude.{ℕ, Option, List}
 use Rattle.aware_output.specs.States as outputs
-use Rattle.text_sender.specs.declared.senders.SendConf.{SendConf}
+use Rattle.text_sender.specs.declared.senders.SenderSettings.{SenderSettings}
 use Rattle.text_sender.specs.declared.senders.Last.{Last}
 
 -- the text that waits, the output of its one source, and the last packet, if there was one
 pub record State : Type 0 where
-  pub conf : SendConf
+  pub settings : SenderSettings
   pub waits : List ℕ
   pub output : outputs.State
   pub last : Option Last

@@ -3,38 +3,39 @@ ghost use Rattle.std.specs.Prelude.{◌≤◌, ◌∷◌, ℕ, List, length, IsU
 ghost use Rattle.stream_spec.specs.History.{Lawful};
 ghost use Rattle.stream_spec.specs.Own.{Own};
 ghost use Rattle.stream_spec.specs.Typed.{Event, Ask, whole_front};
-ghost use Rattle.text_sender.specs.declared.senders.SendConf.{SendConf};
+ghost use Rattle.text_sender.specs.declared.senders.SenderSettings.{SenderSettings};
 ghost use Rattle.text_sender.specs.Standing.{history_sent};
 ghost use Rattle.text_sender.specs.Laws.{OfEach, IsSentInOrder, IsOfLastEntry, IsSentAtEnd, IsClosedAtEnd, IsDueFrom, IsOverAtNone, IsNoLonger};
 
 /// All that was typed is sent in order, up to what waits.
 pub fn all_is_sent_in_order()
-    ensures { (conf : SendConf) (past : List Event) → IsSentInOrder conf past }
+    ensures { (settings : SenderSettings) (past : List Event) → IsSentInOrder settings past }
 {}
 
 /// What is sent is a lawful history, each entry of which has the sender's generations.
 pub fn history_is_lawful()
-    ensures lawful { OfEach (λ conf past. Lawful (history_sent conf past)) }
-    ensures own { (conf : SendConf) (past : List Event) → Own conf.gens (history_sent conf past) }
+    ensures lawful { OfEach (λ settings past. Lawful (history_sent settings past)) }
+    ensures own { (settings : SenderSettings) (past : List Event)
+        → Own settings.generations (history_sent settings past) }
 {}
 
 /// The packet of an ask is that of the last entry of the history with this ask.
 pub fn packets_are_own()
-    ensures { (conf : SendConf) (past : List Event) (t : ℕ) → IsOfLastEntry conf past t }
+    ensures { (settings : SenderSettings) (past : List Event) (t : ℕ) → IsOfLastEntry settings past t }
 {}
 
 /// Where nothing waits and nothing is left to be repeated, all that was typed was sent, and each text was
 /// repeated as often as it is to be.
 pub fn end_is_closed()
-    ensures sent { (conf : SendConf) (past : List Event) → IsSentAtEnd conf past }
-    ensures closed { OfEach (λ conf past. IsClosedAtEnd conf past) }
+    ensures sent { (settings : SenderSettings) (past : List Event) → IsSentAtEnd settings past }
+    ensures closed { OfEach (λ settings past. IsClosedAtEnd settings past) }
 {}
 
 /// From the moment that `next_due` names a packet is due, and not before. Where it names none after an ask, nothing
 /// waits and nothing is left to be repeated.
 pub fn due_from_next()
-    ensures some { (conf : SendConf) (past : List Event) (m t : ℕ) → IsDueFrom conf past m t }
-    ensures none { (conf : SendConf) (past : List Event) (t : ℕ) → IsOverAtNone conf (Ask t ∷ past) }
+    ensures some { (settings : SenderSettings) (past : List Event) (m t : ℕ) → IsDueFrom settings past m t }
+    ensures none { (settings : SenderSettings) (past : List Event) (t : ℕ) → IsOverAtNone settings (Ask t ∷ past) }
 {}
 
 /// A front of whole characters cuts no character, and no longer one fits.

@@ -3,13 +3,13 @@
 
 mod laws;
 mod senders;
-mod waiting;
+mod waiting_text;
 
 pub use laws::{
     all_is_sent_in_order, due_from_next, end_is_closed, front_is_longest, history_is_lawful,
     packets_are_own,
 };
-pub use senders::{SendConf, Sender};
+pub use senders::{SenderSettings, Sender};
 
 #[cfg(test)]
 mod tests;

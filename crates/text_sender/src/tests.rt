@@ -1,29 +1,29 @@
 ghost use Rattle.std.specs.Prelude.{◌≤◌};
-ghost use Rattle.text_sender.specs.Confs.{IsConf};
+ghost use Rattle.text_sender.specs.Settings.{AreSettings};
 
-use crate::{SendConf, Sender};
-use rtt_base::{Packet, Pts};
+use crate::{SenderSettings, Sender};
+use rtt_base::{Packet, PayloadTypes};
 use std::process::Abort;
 use std::test::Fail;
 
-fn conf() -> SendConf
-    ensures { IsConf result }
+fn settings() -> SenderSettings
+    ensures { AreSettings result }
 {
-    conf_of(2)
+    settings_of(2)
 }
 
 /// A sender that repeats so many blocks.
-fn conf_of(gens: u8) -> SendConf
-    requires { gens ≤ 3 }
-    ensures { IsConf result }
+fn settings_of(generations: u8) -> SenderSettings
+    requires { generations ≤ 3 }
+    ensures { AreSettings result }
 {
-    SendConf {
+    SenderSettings {
         ssrc: 1001,
         seq: 0,
-        stamp: 0,
-        pts: Pts { t140: 98, red: 100 },
+        timestamp: 0,
+        payload_types: PayloadTypes { t140: 98, red: 100 },
         interval: 300,
-        gens,
+        generations,
     }
 }
 
@@ -59,7 +59,7 @@ const TWO_LETTERS: [&[u8]; 4] = [
 
 #[test]
 fn two_letters_are_each_repeated_twice(rt: HostRuntime) -> Result<(), Fail> {
-    let mut sender = Sender::new(rt.alloc(), conf())?;
+    let mut sender = Sender::new(rt.alloc(), settings())?;
     assert!(rt; sender.turn(0).is_none());
     assert_eq!(rt; sender.next_due(), None);
     sender.typed("A".as_bytes())?;
@@ -78,7 +78,7 @@ fn two_letters_are_each_repeated_twice(rt: HostRuntime) -> Result<(), Fail> {
 
 #[test]
 fn without_generations_each_text_is_sent_once(rt: HostRuntime) -> Result<(), Fail> {
-    let mut sender = Sender::new(rt.alloc(), conf_of(0))?;
+    let mut sender = Sender::new(rt.alloc(), settings_of(0))?;
     sender.typed("A".as_bytes())?;
     let first = b"\x80\xE2\x00\x00\x00\x00\x00\x00\x00\x00\x03\xE9\x41";
     expect_octets(&rt, &sender.turn(0), first);
@@ -100,7 +100,7 @@ fn times(rt: &HostRuntime, text: &str, count: usize) -> Result<String, Fail> {
 
 #[test]
 fn no_more_than_16384_octets_wait(rt: HostRuntime) -> Result<(), Fail> {
-    let mut sender = Sender::new(rt.alloc(), conf())?;
+    let mut sender = Sender::new(rt.alloc(), settings())?;
     let line = times(&rt, "A", 1023)?;
     let rest = times(&rt, "A", 16)?;
     for _ in 0..16 {
@@ -117,7 +117,7 @@ fn no_more_than_16384_octets_wait(rt: HostRuntime) -> Result<(), Fail> {
 
 #[test]
 fn no_character_is_cut_between_two_packets(rt: HostRuntime) -> Result<(), Fail> {
-    let mut sender = Sender::new(rt.alloc(), conf())?;
+    let mut sender = Sender::new(rt.alloc(), settings())?;
     let euros = times(&rt, "€", 341)?;
     sender.typed("A".as_bytes())?;
     sender.typed(euros.as_str().as_bytes())?;
@@ -134,7 +134,7 @@ fn no_character_is_cut_between_two_packets(rt: HostRuntime) -> Result<(), Fail> 
 fn the_media_time_goes_on_by_8000_at_most_while_text_is_repeated(
     rt: HostRuntime,
 ) -> Result<(), Fail> {
-    let mut sender = Sender::new(rt.alloc(), conf())?;
+    let mut sender = Sender::new(rt.alloc(), settings())?;
     sender.typed("A".as_bytes())?;
     assert!(rt; sender.turn(0).is_some());
     let second =

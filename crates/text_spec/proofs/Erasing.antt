@@ -24,17 +24,17 @@ pub record Passes (k : CharClass) : Type 0 where
   pub stays : is_erasure k ≡ false
   pub passes : is_erasable k ≡ false
 
-pub record Marks (k : CharClass) : Type 0 where
-  pub marks : is_marker k ≡ true
+pub record Markers (k : CharClass) : Type 0 where
+  pub markers : is_marker k ≡ true
   pub stays : is_erasure k ≡ false
   pub passes : is_erasable k ≡ false
 
-pub kinds : (k : CharClass) → Erases k ⊎ (Stands k ⊎ (Passes k ⊎ Marks k))
+pub kinds : (k : CharClass) → Erases k ⊎ (Stands k ⊎ (Passes k ⊎ Markers k))
 kinds Erase = inl (record { unmarked = refl; erases = refl; stays = refl })
 kinds Bell = inr (inr (inl (record { unmarked = refl; stays = refl; passes = refl })))
 kinds NewLine = inr (inl (record { unmarked = refl; stays = refl; stands = refl }))
 kinds Silent = inr (inr (inl (record { unmarked = refl; stays = refl; passes = refl })))
-kinds Marker = inr (inr (inr (record { marks = refl; stays = refl; passes = refl })))
+kinds Marker = inr (inr (inr (record { markers = refl; stays = refl; passes = refl })))
 kinds Print = inr (inl (record { unmarked = refl; stays = refl; stands = refl }))
 
 any_same : (p q : List ℕ → Bool) (h : (x : List ℕ) → p x ≡ q x) (xs : List (List ℕ)) → list_any p xs ≡ list_any q xs
@@ -88,8 +88,8 @@ reach_stands c cs h = rw (h.unmarked, h.stays, h.stands) refl
 pub reach_passes : (c : ℕ) (cs : List ℕ) → Passes (class_of c) → reach (c ∷ cs) ≡ reach cs
 reach_passes c cs h = rw (h.unmarked, h.stays, h.passes) refl
 
-pub reach_marks : (c : ℕ) (cs : List ℕ) → Marks (class_of c) → reach (c ∷ cs) ≡ 0
-reach_marks c cs h = rw h.marks refl
+pub reach_markers : (c : ℕ) (cs : List ℕ) → Markers (class_of c) → reach (c ∷ cs) ≡ 0
+reach_markers c cs h = rw h.markers refl
 
 -- the fronts up to a marker
 no_front : (k : ℕ) → list_any (exceeds k) (fronts []) ≡ nat_lt k 0
@@ -106,7 +106,7 @@ exceeds_reach (c ∷ cs) k = elim (kinds (class_of c)) [
     | inl h ↦ more_fronts k c cs h.unmarked ∙ (at_erasable k c cs h (exceeds_reach cs) ∙ ap (λ n. nat_lt k n) (sym (reach_stands c cs h)))
     | inr q ↦ elim q [
       | inl h ↦ more_fronts k c cs h.unmarked ∙ (at_other k c cs h (exceeds_reach cs) ∙ ap (λ n. nat_lt k n) (sym (reach_passes c cs h)))
-      | inr h ↦ rw h.marks (no_front k)
+      | inr h ↦ rw h.markers (no_front k)
     ]
   ]
 ]
@@ -140,7 +140,7 @@ reach_stays [] x e = elim (kinds (class_of x)) [
     | inl h ↦ reach_stands x [] h ∙ omega arith
     | inr q ↦ elim q [
       | inl h ↦ reach_passes x [] h
-      | inr h ↦ reach_marks x [] h
+      | inr h ↦ reach_markers x [] h
     ]
   ]
 ]
@@ -183,7 +183,7 @@ reach_erased (c ∷ cs) x h =
         ]
         | inr q ↦ elim q [
           | inl k ↦ rw (survivors_without c cs k.unmarked k.passes, reach_passes c cs k, reach_passes c (cs ++ x ∷ []) k) again
-          | inr k ↦ rw (survivors_marked c cs k.marks, reach_marks c cs k, reach_marks c (cs ++ x ∷ []) k) (omega arith)
+          | inr k ↦ rw (survivors_marked c cs k.markers, reach_markers c cs k, reach_markers c (cs ++ x ∷ []) k) (omega arith)
         ]
       ]
     ]
@@ -230,7 +230,7 @@ survivors_erased (c ∷ cs) x h =
         ]
         | inr q ↦ elim q [
           | inl k ↦ rw (survivors_without c cs k.unmarked k.passes, survivors_without c (cs ++ x ∷ []) k.unmarked k.passes) again
-          | inr k ↦ survivors_marked c (cs ++ x ∷ []) k.marks ∙ (ap (λ l. c ∷ l) again ∙ (back_to_marker c (survivors cs) k.marks ∙ ap one_back (sym (survivors_marked c cs k.marks))))
+          | inr k ↦ survivors_marked c (cs ++ x ∷ []) k.markers ∙ (ap (λ l. c ∷ l) again ∙ (back_to_marker c (survivors cs) k.markers ∙ ap one_back (sym (survivors_marked c cs k.markers))))
         ]
       ]
     ]

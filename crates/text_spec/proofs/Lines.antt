@@ -11,7 +11,7 @@ use Rattle.text_spec.specs.declared.classes.CharClass.TheVariants.{Erase, Bell, 
 use Rattle.text_spec.specs.Characters.{class_of, is_new_line, is_bell, is_print, is_silent}
 use Rattle.text_spec.specs.Shown.{begins_with_lf, signs, stays, survivors, lines_of, shown, bells, Display}
 use Rattle.text_spec.proofs.Signs.{not_lf}
-use Rattle.text_spec.proofs.Erasing.{Marks, Stands, reach, reach_marks, reach_stands, survivors_marked, survivors_with}
+use Rattle.text_spec.proofs.Erasing.{Markers, Stands, reach, reach_markers, reach_stands, survivors_marked, survivors_with}
 
 -- how many octets lie on the lines
 abbrev pub octets : List (List ℕ) → ℕ
@@ -64,7 +64,7 @@ never_longer text u =
 
 -- a character that is shown as it is stands or is a marker, and is no new line
 pub record Plain (c : ℕ) : Type 0 where
-  pub stands : Stands (class_of c) ⊎ Marks (class_of c)
+  pub stands : Stands (class_of c) ⊎ Markers (class_of c)
   pub line : is_new_line c ≡ false
   pub bell : is_bell (class_of c) ≡ false
 
@@ -74,9 +74,9 @@ no_new_line true b true s m e = absurd (cc)
 no_new_line false true true s m e = absurd (cc)
 no_new_line false false true s m e = absurd (cc)
 
-stands_print : (k : CharClass) → is_print k ≡ true → Stands k ⊎ Marks k
+stands_print : (k : CharClass) → is_print k ≡ true → Stands k ⊎ Markers k
 stands_print Print e = inl (record { unmarked = refl; stays = refl; stands = refl })
-stands_print Marker e = inr (record { marks = refl; stays = refl; passes = refl })
+stands_print Marker e = inr (record { markers = refl; stays = refl; passes = refl })
 stands_print Erase e = absurd (cc)
 stands_print Bell e = absurd (cc)
 stands_print NewLine e = absurd (cc)
@@ -134,7 +134,7 @@ plain_reach (c ∷ cs) e =
     let p = and_parts _ _ e in
     elim (stands_print (class_of c) p.0) [
       | inl h ↦ reach_stands c cs h ∙ omega (arith, plain_reach cs p.1)
-      | inr h ↦ reach_marks c cs h
+      | inr h ↦ reach_markers c cs h
     ]
 
 pub plain_survivors : (cs : List ℕ) → are_print cs ≡ true → survivors cs ≡ cs
@@ -143,7 +143,7 @@ plain_survivors (c ∷ cs) e =
     let p = and_parts _ _ e in
     let first : survivors (c ∷ cs) ≡ c ∷ survivors cs = elim (stands_print (class_of c) p.0) [
       | inl h ↦ survivors_with c cs h (plain_reach cs p.1)
-      | inr h ↦ survivors_marked c cs h.marks
+      | inr h ↦ survivors_marked c cs h.markers
     ] in
     first ∙ ap (λ l. c ∷ l) (plain_survivors cs p.1)
 

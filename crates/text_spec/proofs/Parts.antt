@@ -9,7 +9,7 @@ use Rattle.std.proofs.lemmas.Bool.Decides.{nat_tests}
 use Rattle.std.proofs.lemmas.Str.{chars-append, chars-encodes, encodes-append, scalars-chars}
 use Rattle.text_spec.specs.declared.classes.CharClass.TheVariants.{Erase, Bell, NewLine, Silent, Marker, Print}
 use Rattle.text_spec.specs.Characters.{class_of, is_bell, is_erasable, is_marker, is_new_line, is_silent}
-use Rattle.text_spec.specs.Shown.{Display, bells, begins_with_lf, ends_with_cr, lines_behind, lines_of, markers, shown, signs, stays, survivors, takes_back, to_marker, with_marker_between}
+use Rattle.text_spec.specs.Shown.{Display, bells, begins_with_lf, ends_with_cr, lines_behind, lines_of, marker_count, shown, signs, stays, survivors, takes_back, to_marker, with_marker_between}
 use Rattle.text_spec.proofs.Erasing.{cond_append, survivors_marked}
 use Rattle.text_spec.proofs.Kept.{all_signs, all_survivors, and_both, lf_is_scalar, scalars_same}
 use Rattle.text_spec.proofs.Lines.{some_line}
@@ -20,8 +20,8 @@ marker_class : class_of 0xFFFD ≡ Marker
 unfolding class_of
 marker_class = refl
 
-marker_marks : is_marker (class_of 0xFFFD) ≡ true
-marker_marks = ap is_marker marker_class
+marker_counts : is_marker (class_of 0xFFFD) ≡ true
+marker_counts = ap is_marker marker_class
 
 marker_char : chars (encode_utf8 0xFFFD) ≡ 0xFFFD ∷ []
 unfolding chars encode_utf8
@@ -35,14 +35,14 @@ signs_parts : (xs ys : List ℕ) → signs (xs ++ 0xFFFD ∷ ys) ≡ signs xs ++
 signs_parts xs ys = signs-append xs (0xFFFD ∷ ys) (and_right (ends_with_cr xs) false refl)
 
 to_marker_parts : (xs ys : List ℕ) → to_marker (xs ++ 0xFFFD ∷ ys) ≡ to_marker xs
-to_marker_parts [] ys = rw marker_marks refl
+to_marker_parts [] ys = rw marker_counts refl
 to_marker_parts (c ∷ xs) ys = ap (λ l. cond (is_marker (class_of c)) [] (c ∷ l)) (to_marker_parts xs ys)
 
 takes_back_parts : (xs ys : List ℕ) → takes_back (xs ++ 0xFFFD ∷ ys) ≡ takes_back xs
 takes_back_parts xs ys = rw (to_marker_parts xs ys) refl
 
 survivors_parts : (xs ys : List ℕ) → survivors (xs ++ 0xFFFD ∷ ys) ≡ survivors xs ++ 0xFFFD ∷ survivors ys
-survivors_parts [] ys = survivors_marked 0xFFFD ys marker_marks
+survivors_parts [] ys = survivors_marked 0xFFFD ys marker_counts
 survivors_parts (c ∷ xs) ys =
     ap₂ (λ b l. cond (is_marker (class_of c) || (is_erasable (class_of c) && not b)) (c ∷ l) l) (takes_back_parts xs ys) (survivors_parts xs ys)
     ∙ cond_append (stays c xs) c (survivors xs) (0xFFFD ∷ survivors ys)
@@ -113,17 +113,17 @@ shown_parts a b u =
     ap₂ (λ (l : List (List ℕ)) (n : ℕ). let d : Display = record { lines = l; bells = n } in d) lines rung
 
 -- ---- how many markers there are
-markers_one : (c : ℕ) (cs : List ℕ) → is_marker (class_of c) ≡ true → markers (c ∷ cs) ≡ suc (markers cs)
+markers_one : (c : ℕ) (cs : List ℕ) → is_marker (class_of c) ≡ true → marker_count (c ∷ cs) ≡ suc (marker_count cs)
 markers_one c cs e = rw e refl
 
-markers_none : (c : ℕ) (cs : List ℕ) → is_marker (class_of c) ≡ false → markers (c ∷ cs) ≡ markers cs
+markers_none : (c : ℕ) (cs : List ℕ) → is_marker (class_of c) ≡ false → marker_count (c ∷ cs) ≡ marker_count cs
 markers_none c cs e = rw e refl
 
 -- with one character more
-markers_more : (c : ℕ) (xs ys : List ℕ) → markers xs ≡ markers ys → markers (c ∷ xs) ≡ markers (c ∷ ys)
+markers_more : (c : ℕ) (xs ys : List ℕ) → marker_count xs ≡ marker_count ys → marker_count (c ∷ xs) ≡ marker_count (c ∷ ys)
 markers_more c xs ys e = go (is_marker (class_of c)) refl
   where
-    go : (b : Bool) → is_marker (class_of c) ≡ b → markers (c ∷ xs) ≡ markers (c ∷ ys)
+    go : (b : Bool) → is_marker (class_of c) ≡ b → marker_count (c ∷ xs) ≡ marker_count (c ∷ ys)
     go true h = markers_one c xs h ∙ (ap suc e ∙ sym (markers_one c ys h))
     go false h = markers_none c xs h ∙ (e ∙ sym (markers_none c ys h))
 
@@ -140,25 +140,25 @@ new_line_unmarked c e = ap (λ n. is_marker (cond (eqb c 0x08) Erase (cond (eqb 
 cr_is_line : (c : ℕ) → eqb c 0x0D ≡ true → is_new_line c ≡ true
 cr_is_line c e = let same : c ≡ 0x0D = grind (arith, nat_tests) in rw same refl
 
-markers_signs : (cs : List ℕ) → markers (signs cs) ≡ markers cs
+markers_signs : (cs : List ℕ) → marker_count (signs cs) ≡ marker_count cs
 markers_signs [] = refl
 markers_signs (c ∷ cs) = go (eqb c 0x0D) (begins_with_lf cs) (is_new_line c) refl refl (markers_signs cs)
   where
-    line : is_new_line c ≡ true → markers (signs cs) ≡ markers cs → markers (0x0A ∷ signs cs) ≡ markers (c ∷ cs)
+    line : is_new_line c ≡ true → marker_count (signs cs) ≡ marker_count cs → marker_count (0x0A ∷ signs cs) ≡ marker_count (c ∷ cs)
     line h e = markers_none 0x0A (signs cs) (new_line_unmarked 0x0A refl) ∙ (e ∙ sym (markers_none c cs (new_line_unmarked c h)))
 
-    go : (r f n : Bool) → eqb c 0x0D ≡ r → is_new_line c ≡ n → markers (signs cs) ≡ markers cs → markers (cond (r && f) (signs cs) (cond n (0x0A ∷ signs cs) (c ∷ signs cs))) ≡ markers (c ∷ cs)
+    go : (r f n : Bool) → eqb c 0x0D ≡ r → is_new_line c ≡ n → marker_count (signs cs) ≡ marker_count cs → marker_count (cond (r && f) (signs cs) (cond n (0x0A ∷ signs cs) (c ∷ signs cs))) ≡ marker_count (c ∷ cs)
     go true true n p q e = e ∙ sym (markers_none c cs (new_line_unmarked c (cr_is_line c p)))
     go true false true p q e = line q e
     go true false false p q e = markers_more c (signs cs) cs e
     go false f true p q e = line q e
     go false f false p q e = markers_more c (signs cs) cs e
 
-markers_survivors : (cs : List ℕ) → markers (survivors cs) ≡ markers cs
+markers_survivors : (cs : List ℕ) → marker_count (survivors cs) ≡ marker_count cs
 markers_survivors [] = refl
 markers_survivors (c ∷ cs) = go (is_marker (class_of c)) (is_erasable (class_of c) && not (takes_back cs)) refl (markers_survivors cs)
   where
-    go : (m b : Bool) → is_marker (class_of c) ≡ m → markers (survivors cs) ≡ markers cs → markers (cond (m || b) (c ∷ survivors cs) (survivors cs)) ≡ markers (c ∷ cs)
+    go : (m b : Bool) → is_marker (class_of c) ≡ m → marker_count (survivors cs) ≡ marker_count cs → marker_count (cond (m || b) (c ∷ survivors cs) (survivors cs)) ≡ marker_count (c ∷ cs)
     go true b h e = markers_more c (survivors cs) cs e
     go false true h e = markers_more c (survivors cs) cs e
     go false false h e = e ∙ sym (markers_none c cs h)
@@ -171,13 +171,13 @@ concat_onto c (line ∷ lines) = refl
 lf_unmarked : (c : ℕ) → eqb c 0x0A ≡ true → is_marker (class_of c) ≡ false
 lf_unmarked c e = let same : c ≡ 0x0A = grind (arith, nat_tests) in new_line_unmarked c (rw same refl)
 
-markers_lines : (cs : List ℕ) → markers (concat (lines_of cs)) ≡ markers cs
+markers_lines : (cs : List ℕ) → marker_count (concat (lines_of cs)) ≡ marker_count cs
 markers_lines [] = refl
 markers_lines (c ∷ cs) = go (eqb c 0x0A) refl (markers_lines cs)
   where
-    go : (b : Bool) → eqb c 0x0A ≡ b → markers (concat (lines_of cs)) ≡ markers cs → markers (concat (cond b ([] ∷ lines_of cs) (onto_first c (lines_of cs)))) ≡ markers (c ∷ cs)
+    go : (b : Bool) → eqb c 0x0A ≡ b → marker_count (concat (lines_of cs)) ≡ marker_count cs → marker_count (concat (cond b ([] ∷ lines_of cs) (onto_first c (lines_of cs)))) ≡ marker_count (c ∷ cs)
     go true h e = e ∙ sym (markers_none c cs (lf_unmarked c h))
-    go false h e = ap markers (concat_onto c (lines_of cs)) ∙ markers_more c (concat (lines_of cs)) cs e
+    go false h e = ap marker_count (concat_onto c (lines_of cs)) ∙ markers_more c (concat (lines_of cs)) cs e
 
 scalar_lines : (cs : List ℕ) → list_all scalar cs ≡ true → list_all scalar (concat (lines_of cs)) ≡ true
 scalar_lines [] e = refl
@@ -193,11 +193,11 @@ encoded_concat : (lines : List (List ℕ)) → concat (map encode_utf8_all lines
 encoded_concat [] = refl
 encoded_concat (line ∷ lines) = ap (λ l. encode_utf8_all line ++ l) (encoded_concat lines) ∙ sym (encodes-append line (concat lines))
 
-pub markers_seen : (text : List ℕ) → IsUtf8 text → markers (chars (concat (shown text).lines)) ≡ markers (chars text)
+pub markers_seen : (text : List ℕ) → IsUtf8 text → marker_count (chars (concat (shown text).lines)) ≡ marker_count (chars text)
 unfolding shown
 markers_seen text u =
     let kept : List ℕ = survivors (signs (chars text)) in
     let scalars : list_all scalar (concat (lines_of kept)) ≡ true =
     scalar_lines kept (all_survivors scalar (signs (chars text)) (all_signs scalar lf_is_scalar (chars text) (sym (scalars_same (chars text)) ∙ scalars-chars text u))) in
-    ap markers (ap chars (encoded_concat (lines_of kept)) ∙ chars-encodes (concat (lines_of kept)) (scalars_same (concat (lines_of kept)) ∙ scalars))
+    ap marker_count (ap chars (encoded_concat (lines_of kept)) ∙ chars-encodes (concat (lines_of kept)) (scalars_same (concat (lines_of kept)) ∙ scalars))
     ∙ (markers_lines kept ∙ (markers_survivors (signs (chars text)) ∙ markers_signs (chars text)))

@@ -23,8 +23,8 @@ erasures cs = length (filter (λ c. is_erasure (class_of c)) cs)
 abbrev pub erasables : List ℕ → ℕ
 erasables cs = length (filter (λ c. is_erasable (class_of c)) cs)
 
-abbrev pub markers : List ℕ → ℕ
-markers cs = length (filter (λ c. is_marker (class_of c)) cs)
+abbrev pub marker_count : List ℕ → ℕ
+marker_count cs = length (filter (λ c. is_marker (class_of c)) cs)
 
 abbrev pub bells : List ℕ → ℕ
 bells cs = length (filter (λ c. is_bell (class_of c)) cs)

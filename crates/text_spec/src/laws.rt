@@ -5,7 +5,7 @@ ghost use Rattle.std.specs.Str.{all_scalars};
 ghost use Rattle.text_spec.specs.declared.classes.CharClass.TheVariants.{Bell, Erase, Marker, NewLine, Print, Silent};
 ghost use Rattle.text_spec.specs.Characters.{class_of, is_bell, is_erasable, is_erasure, is_marker, is_print};
 ghost use Rattle.text_spec.specs.Ends.{from_end};
-ghost use Rattle.text_spec.specs.Shown.{begins_with_lf, bells, ends_with_cr, markers, one_back, shown, signs, survivors, with_marker_between};
+ghost use Rattle.text_spec.specs.Shown.{begins_with_lf, bells, ends_with_cr, marker_count, one_back, shown, signs, survivors, with_marker_between};
 
 /// One more sign at the end of a text: what survives is what a stack holds.
 pub fn one_more_sign()
@@ -81,7 +81,8 @@ pub fn shown_in_parts()
 
 /// As many markers are shown as the text has.
 pub fn markers_are_seen()
-    ensures { (text : List ℕ) → IsUtf8 text → markers (chars (concat (shown text).lines)) ≡ markers (chars text) }
+    ensures { (text : List ℕ) → IsUtf8 text → marker_count (chars (concat (shown text).lines))
+        ≡ marker_count (chars text) }
 {}
 
 /// Read from its end a text in UTF-8 is its characters, the last one first.

@@ -139,21 +139,21 @@ module _ (r : ReadRequest) where
       other : (s : ℕ) → (s == r.source) ≡ false → filter (is_text_of r) (source_lines r.ssrc past s) ≡ []
       other s e = by_source r.ssrc s false (ap (λ b. b && (s == r.source)) (eq-eqb r.ssrc r.ssrc refl) ∙ e) (chunks usual_wait 0 past s)
 
-  of_recording : (items : List Item) → IsTold r items → filter (is_text_of r) (all_lines r.pts items) ≡ source_lines r.ssrc (arrivals_in r.pts items r.ssrc) r.source
+  of_recording : (items : List Item) → IsTold r items → filter (is_text_of r) (all_lines r.payload_types items) ≡ source_lines r.ssrc (arrivals_in r.payload_types items r.ssrc) r.source
   of_recording items t =
-      let kept = (streams r.pts items).kept in
-      let numbers = flat_map (λ y. number_lines y (numbered (arrivals_in r.pts items y))) kept in
-      let texts = flat_map (λ y. text_lines y (arrivals_in r.pts items y) (sources_in r.pts items y)) kept in
+      let kept = (streams r.payload_types items).kept in
+      let numbers = flat_map (λ y. number_lines y (numbered (arrivals_in r.payload_types items y))) kept in
+      let texts = flat_map (λ y. text_lines y (arrivals_in r.payload_types items y) (sources_in r.payload_types items y)) kept in
       filter-append (is_text_of r) numbers texts
-      ∙ (ap (λ xs. xs ++ filter (is_text_of r) texts) (all_away (λ y. number_lines y (numbered (arrivals_in r.pts items y))) kept (λ y. numbers_away y (numbered (arrivals_in r.pts items y))))
-      ∙ (filter_flat (is_text_of r) (λ y. text_lines y (arrivals_in r.pts items y) (sources_in r.pts items y)) kept
-      ∙ (of_one (λ y. filter (is_text_of r) (text_lines y (arrivals_in r.pts items y) (sources_in r.pts items y))) r.ssrc
-      (λ y e. of_other_stream y (arrivals_in r.pts items y) (sources_in r.pts items y) e)
+      ∙ (ap (λ xs. xs ++ filter (is_text_of r) texts) (all_away (λ y. number_lines y (numbered (arrivals_in r.payload_types items y))) kept (λ y. numbers_away y (numbered (arrivals_in r.payload_types items y))))
+      ∙ (filter_flat (is_text_of r) (λ y. text_lines y (arrivals_in r.payload_types items y) (sources_in r.payload_types items y)) kept
+      ∙ (of_one (λ y. filter (is_text_of r) (text_lines y (arrivals_in r.payload_types items y) (sources_in r.payload_types items y))) r.ssrc
+      (λ y e. of_other_stream y (arrivals_in r.payload_types items y) (sources_in r.payload_types items y) e)
       kept
-      (apart (record { kept = []; others = 0 }) (filter_map (λ item. stream_of r.pts (sort_of item)) items) tt)
+      (apart (record { kept = []; others = 0 }) (filter_map (λ item. stream_of r.payload_types (sort_of item)) items) tt)
       t.of_stream
-      ∙ of_stream (arrivals_in r.pts items r.ssrc) (sources_in r.pts items r.ssrc)
-      (apart (record { kept = []; others = 0 }) (filter_map (λ item. source_in (text_at r.ssrc r.pts item)) (stream r.pts r.ssrc items)) tt)
+      ∙ of_stream (arrivals_in r.payload_types items r.ssrc) (sources_in r.payload_types items r.ssrc)
+      (apart (record { kept = []; others = 0 }) (filter_map (λ item. source_in (text_at r.ssrc r.payload_types item)) (stream r.payload_types r.ssrc items)) tt)
       t.of_source)))
 
 -- ---- their order
@@ -184,14 +184,14 @@ scripted : (y s : ℕ) (cs : List Chunk) → flat_map scripted_line (flat_map (c
 scripted y s [] = refl
 scripted y s (c ∷ cs) = as_line y s c (flat_map (chunk_lines y s) cs) (flat_map chunk_line cs) (scripted y s cs) (has_text (escaped c.text)) refl
 
-pub are_scripts : (r : ReadRequest) (octets : List ℕ) → AreGiven r.pts → IsTold r (records_of octets)
-    → flat_map scripted_line (filter (is_text_of r) (in_order (all_lines r.pts (records_of octets)))) ≡ transcript_view r octets
+pub are_scripts : (r : ReadRequest) (octets : List ℕ) → AreGiven r.payload_types → IsTold r (records_of octets)
+    → flat_map scripted_line (filter (is_text_of r) (in_order (all_lines r.payload_types (records_of octets)))) ≡ transcript_view r octets
 unfolding transcript_view in_order
 are_scripts r octets given t =
     let items = records_of octets in
-    let past = arrivals_after r.ssrc r.pts [] (stream r.pts r.ssrc items) in
-    let falls : Falling (numbered past) = items_law (stream r.pts r.ssrc items) r.ssrc r.pts in
+    let past = arrivals_after r.ssrc r.payload_types [] (stream r.payload_types r.ssrc items) in
+    let falls : Falling (numbered past) = items_law (stream r.payload_types r.ssrc items) r.ssrc r.payload_types in
     let rise = lines_rise r.ssrc r.source (chunks usual_wait 0 past r.source) (chunks_rise usual_wait 0 past r.source falls) in
-    ap (flat_map scripted_line) (fewer_ordered moment_of (is_text_of r) (all_lines r.pts items) (source_lines r.ssrc past r.source) (of_recording r items t) rise)
+    ap (flat_map scripted_line) (fewer_ordered moment_of (is_text_of r) (all_lines r.payload_types items) (source_lines r.ssrc past r.source) (of_recording r items t) rise)
     ∙ (scripted r.ssrc r.source (chunks usual_wait 0 past r.source)
-    ∙ ap (λ a. flat_map chunk_line (chunks usual_wait 0 a r.source)) (arrives_alike r.pts r.ssrc items given.0 given.1))
+    ∙ ap (λ a. flat_map chunk_line (chunks usual_wait 0 a r.source)) (arrives_alike r.payload_types r.ssrc items given.0 given.1))

@@ -28,13 +28,13 @@ scripted_line l = as_scripted l.at l.told
 
 -- the stream is one of those that are told of, and the source one of its sources
 pub record IsTold (r : ReadRequest) (items : List Item) : Type 0 where
-  pub of_stream : In r.ssrc (streams r.pts items).kept
-  pub of_source : In r.source (sources r.ssrc r.pts (stream r.pts r.ssrc items)).kept
+  pub of_stream : In r.ssrc (streams r.payload_types items).kept
+  pub of_source : In r.source (sources r.ssrc r.payload_types (stream r.payload_types r.ssrc items)).kept
 
 -- the text lines of a stream and a source are what `script` prints of them, in the same order
 abbrev pub TextLinesAreScripts : Type 0
 TextLinesAreScripts =
     (r : ReadRequest) (octets : List ℕ)
-    → AreGiven r.pts
+    → AreGiven r.payload_types
     → IsTold r (records_of octets)
-    → flat_map scripted_line (filter (is_text_of r) (in_order (all_lines r.pts (records_of octets)))) ≡ transcript_view r octets
+    → flat_map scripted_line (filter (is_text_of r) (in_order (all_lines r.payload_types (records_of octets)))) ≡ transcript_view r octets

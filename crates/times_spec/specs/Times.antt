@@ -3,7 +3,7 @@
 use Rattle.std.specs.Prelude.{ℕ, ◌+◌, ◌*◌, ◌/◌, ◌%◌, ◌==◌, Option, None, Some, List, [], ◌∷◌, ◌++◌, length, drop, map, flat_map, nat_eq, nat_lt, codes, decimal, if◌then◌else◌}
 use Rattle.std.specs.List.{sum, starts_with}
 use Rattle.std.specs.Int.{w32, from_be_bytes}
-use Rattle.rtt_base.specs.declared.text_packets.Pts.{Pts}
+use Rattle.rtt_base.specs.declared.text_packets.PayloadTypes.{PayloadTypes}
 use Rattle.calendar.specs.declared.dates.Date.{Date}
 use Rattle.calendar.specs.Dates.{date_of}
 use Rattle.wire_spec.specs.Packets.{Arrival, has_text}
@@ -93,17 +93,17 @@ text_lines ssrc past named = flat_map (source_lines ssrc past) named
 -- ---- all lines
 
 -- what arrives of a stream, newest first
-abbrev pub arrivals_in : Pts → List Item → ℕ → List Arrival
-arrivals_in pts items ssrc = arrivals_after ssrc pts [] (stream pts ssrc items)
+abbrev pub arrivals_in : PayloadTypes → List Item → ℕ → List Arrival
+arrivals_in payload_types items ssrc = arrivals_after ssrc payload_types [] (stream payload_types ssrc items)
 
-abbrev pub sources_in : Pts → List Item → ℕ → List ℕ
-sources_in pts items ssrc = (sources ssrc pts (stream pts ssrc items)).kept
+abbrev pub sources_in : PayloadTypes → List Item → ℕ → List ℕ
+sources_in payload_types items ssrc = (sources ssrc payload_types (stream payload_types ssrc items)).kept
 
 -- stream after stream what was lost or late, and then the texts
-abbrev pub all_lines : Pts → List Item → List Line
-all_lines pts items =
-    flat_map (λ ssrc. number_lines ssrc (numbered (arrivals_in pts items ssrc))) (streams pts items).kept
-    ++ flat_map (λ ssrc. text_lines ssrc (arrivals_in pts items ssrc) (sources_in pts items ssrc)) (streams pts items).kept
+abbrev pub all_lines : PayloadTypes → List Item → List Line
+all_lines payload_types items =
+    flat_map (λ ssrc. number_lines ssrc (numbered (arrivals_in payload_types items ssrc))) (streams payload_types items).kept
+    ++ flat_map (λ ssrc. text_lines ssrc (arrivals_in payload_types items ssrc) (sources_in payload_types items ssrc)) (streams payload_types items).kept
 
 abbrev pub moment_of : Line → ℕ
 moment_of l = l.at
@@ -151,15 +151,15 @@ began_and_timed None lines = []
 began_and_timed (Some start) lines = began_line start ++ timed start (day_of start) lines
 
 -- how many packets are of sources behind the 64th of their stream, and of streams behind the 64th
-abbrev pub other_sources : Pts → List Item → ℕ
-other_sources pts items = sum (map (λ ssrc. (sources ssrc pts (stream pts ssrc items)).others) (streams pts items).kept)
+abbrev pub other_sources : PayloadTypes → List Item → ℕ
+other_sources payload_types items = sum (map (λ ssrc. (sources ssrc payload_types (stream payload_types ssrc items)).others) (streams payload_types items).kept)
 
-unfoldable pub others_text : Pts → List Item → List ℕ
-others_text pts items =
-    number_line (codes "-- other sources ") (other_sources pts items) ++ number_line (codes "-- more ") (streams pts items).others
+unfoldable pub others_text : PayloadTypes → List Item → List ℕ
+others_text payload_types items =
+    number_line (codes "-- other sources ") (other_sources payload_types items) ++ number_line (codes "-- more ") (streams payload_types items).others
 
-abbrev pub timed_view : Pts → Option ℕ → Recording → List ℕ
-timed_view pts start r = began_and_timed start (in_order (all_lines pts r.items)) ++ others_text pts r.items ++ end_line r.fault
+abbrev pub timed_view : PayloadTypes → Option ℕ → Recording → List ℕ
+timed_view payload_types start r = began_and_timed start (in_order (all_lines payload_types r.items)) ++ others_text payload_types r.items ++ end_line r.fault
 
-unfoldable pub times_view : Pts → List ℕ → List ℕ
-times_view pts octets = timed_view pts (start_of octets) (dump usual_limit octets)
+unfoldable pub times_view : PayloadTypes → List ℕ → List ℕ
+times_view payload_types octets = timed_view payload_types (start_of octets) (dump usual_limit octets)

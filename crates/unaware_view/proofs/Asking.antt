@@ -18,7 +18,7 @@ use Rattle.unaware_view.specs.States.{State}
 use Rattle.std.proofs.lemmas.Str.{chars-encodes}
 use Rattle.mixer_spec.proofs.Texts.{utf8_scalars}
 use Rattle.unaware_view.specs.Choices.{again_by, is_again, is_set, since_at, is_left, begins, choice_after, choice, onward}
-use Rattle.unaware_view.specs.Standing.{StandsFor, IsCurrent, IsSpeaker}
+use Rattle.unaware_view.specs.Standing.{ComposerStandsFor, IsCurrent, IsSpeaker}
 use Rattle.unaware_view.proofs.Firsts.{any_same, round_same}
 
 -- what is given of a choice
@@ -36,7 +36,7 @@ turn_is r text h = λ k. line_of r.ending text h k || sentence_of r.ending text 
 
 -- a composer that has looked, with what waits at its terminal
 pub record Looks (s : Setup) (c : State) (asks : List Asked) (w : ℕ → List Chunk) : Type 0 where
-  pub stands : StandsFor s c asks
+  pub stands : ComposerStandsFor s c asks
   pub legs : length c.waits ≡ s.legs
   pub flags : (i : ℕ) → i < length c.waits → is_set c.waits i ≡ waits_here c.own w i
 

@@ -11,7 +11,7 @@ use Rattle.mixer_spec.specs.Table.{Table}
 use Rattle.mixer_spec.specs.Composed.{Answer, Asked, latest, run_of, since, is_switch, begin_with, answer_after, waits_here}
 use Rattle.unaware_view.specs.declared.composers.Current.{Current}
 use Rattle.unaware_view.specs.States.{State}
-use Rattle.unaware_view.specs.Standing.{IsCurrent, NoneWaits, StandsFor, asked_now, given_now, waiting}
+use Rattle.unaware_view.specs.Standing.{IsCurrent, NoneWaits, ComposerStandsFor, asked_now, given_now, waiting}
 
 -- ---- nobody is found
 none_from : (p : ℕ → Bool) (n low count : ℕ) → low + count ≤ n → ((i : ℕ) → i < n → p i ≡ false) → first_from p low count ≡ None
@@ -40,7 +40,7 @@ none_after legs name relabel own now waits asks s (Some g) (Some x) e f u =
     let stays : is_switch legs own now waits asks g.source ≡ false = and_right (has_chunk (run_of asks)) _ (and_left _ _ none) in
     rw (stays, silent) refl
 
-pub none_given : (s : Setup) (table : Table) (c : State) (media : ℕ) (due : Bool) (asks : List Asked) → StandsFor s c asks → NoneWaits s table c → given_now s table c media due asks ≡ None
+pub none_given : (s : Setup) (table : Table) (c : State) (media : ℕ) (due : Bool) (asks : List Asked) → ComposerStandsFor s c asks → NoneWaits s table c → given_now s table c media due asks ≡ None
 none_given s table c media false asks h f = refl
 none_given s table c media true asks h f = none_after s.legs s.name s.relabel c.own media (waiting table c) asks s (latest asks) c.current refl f h.current
 
@@ -55,12 +55,12 @@ current_then s own a asks None (Some x) e u = absurd u
 current_then s own a asks (Some g) None e u = absurd u
 current_then s own a asks (Some g) (Some x) e u = record { source = u.source; given = rw e u.given; leg = u.leg; other = u.other }
 
-pub passed : (s : Setup) (table : Table) (c : State) (media : ℕ) (due : Bool) (asks : List Asked) → StandsFor s c asks → NoneWaits s table c
-    → StandsFor s (record c { asked = media + 1 }) (asked_now s table c media due asks)
+pub passed : (s : Setup) (table : Table) (c : State) (media : ℕ) (due : Bool) (asks : List Asked) → ComposerStandsFor s c asks → NoneWaits s table c
+    → ComposerStandsFor s (record c { asked = media + 1 }) (asked_now s table c media due asks)
 passed s table c media due asks h f =
     let none = none_given s table c media due asks h f in
     let then : Asked = record { media = media; waiting = λ i. has_chunk (waiting table c i); given = None } in
-    subst (λ (o : Option Answer). StandsFor s (record c { asked = media + 1 }) (record { media = media; waiting = λ i. has_chunk (waiting table c i); given = o } ∷ asks)) (sym none) (record {
+    subst (λ (o : Option Answer). ComposerStandsFor s (record c { asked = media + 1 }) (record { media = media; waiting = λ i. has_chunk (waiting table c i); given = o } ∷ asks)) (sym none) (record {
       legs = h.legs;
       current = current_then s c.own then asks (latest asks) c.current refl h.current;
       waits_since = λ i l o.

@@ -29,7 +29,7 @@ use Rattle.mixer_spec.proofs.Texts.{front_texts, joined_utf8}
 use Rattle.unaware_view.specs.Runs.{GoesAlone, GoesOn as RunGoesOn, Heads, IsAhead, IsRun, behind}
 use Rattle.unaware_view.specs.States.{State}
 use Rattle.unaware_view.specs.Choices.{is_set, since_at, is_again, is_left, begins, choice_after, choice, onward, speaker_of, IsBelow, is_leg, noted}
-use Rattle.unaware_view.specs.Standing.{RunStands, StandsFor, IsAsked, IsCurrent, IsSpeaker, name_at, answered, asked_now, given_now}
+use Rattle.unaware_view.specs.Standing.{RunStands, ComposerStandsFor, IsAsked, IsCurrent, IsSpeaker, name_at, answered, asked_now, given_now}
 use Rattle.unaware_view.specs.Giving.{Gives, GivesLabel, GivesOn, remembered, waits_of}
 use Rattle.unaware_view.proofs.Asking.{Looks, choice_is, given_of, speaker_flag}
 use Rattle.rtt_base.specs.declared.limits.TheConstants.{MOST_TEXT_OCTETS}
@@ -85,7 +85,7 @@ some_is name w asks (Begins i) = refl
 some_is name w asks (GoesOn i) = refl
 
 -- the label of a run is to come as the definition says it
-unlabelled_is : (s : Setup) (c : State) (asks : List Asked) → StandsFor s c asks → is_unlabelled asks ≡ not c.run.labelled
+unlabelled_is : (s : Setup) (c : State) (asks : List Asked) → ComposerStandsFor s c asks → is_unlabelled asks ≡ not c.run.labelled
 unlabelled_is s c asks h = elim h.run.is_run.part [ inl a ↦ ahead a | inr b ↦ and_right (has_chunk (run_of asks)) _ b.seen ∙ sym (ap not b.labelled) ]
   where
     has : began_alone asks ≡ false → has_chunk (run_of asks) ≡ true
@@ -220,22 +220,22 @@ text_is s table c asks names (Begins i) next text after h = begins_text s table 
 text_is s table c asks names (GoesOn i) next text after h = on_text s table c asks names i next text after h
 
 pub slots_are : (s : Setup) (table : Table) (c : State) (asks : List Asked) (names : List (List ℕ)) (k : Choice) (next : Run) (text : List ℕ) (after : List Waiting)
-    → Turns s table c asks names k next text after → slots.StandsFor s after (answered c.own (given_of s.name (waits_of table c.own) asks k) table)
+    → Turns s table c asks names k next text after → slots.SlotsStandFor s after (answered c.own (given_of s.name (waits_of table c.own) asks k) table)
 slots_are s table c asks names Nobody next text after h = h.gives.stands
 slots_are s table c asks names (Begins i) next text after h =
-    subst (λ (n : List ℕ). slots.StandsFor s after (fetched c.own i (room_beside n) table)) (h.names_are i h.below) h.gives.headed.stands
+    subst (λ (n : List ℕ). slots.SlotsStandFor s after (fetched c.own i (room_beside n) table)) (h.names_are i h.below) h.gives.headed.stands
 slots_are s table c asks names (GoesOn i) next text after h = elim h.gives [ inl g ↦ on g | inr g ↦ label g ]
   where
     at : Bool → Type 0
-    at b = slots.StandsFor s after (answered c.own (Some (cond b (headed (waits_of table c.own) (s.name i) (began_behind_cr asks) (is_open asks) (run_of asks) i) (gone_on (waits_of table c.own) (behind_label asks) i))) table)
+    at b = slots.SlotsStandFor s after (answered c.own (Some (cond b (headed (waits_of table c.own) (s.name i) (began_behind_cr asks) (is_open asks) (run_of asks) i) (gone_on (waits_of table c.own) (behind_label asks) i))) table)
 
-    on : GivesOn s table c.own (name_at names i) c.run next (began_alone asks) (began_behind_cr asks) (chars_of (run_of asks)) i text after → slots.StandsFor s after (answered c.own (Some (go_on s.name (waits_of table c.own) asks i)) table)
+    on : GivesOn s table c.own (name_at names i) c.run next (began_alone asks) (began_behind_cr asks) (chars_of (run_of asks)) i text after → slots.SlotsStandFor s after (answered c.own (Some (go_on s.name (waits_of table c.own) asks i)) table)
     on g = subst at (sym (unlabelled_is s c asks h.looks.stands ∙ ap not g.labelled)) g.stands
 
-    label : GivesLabel s table c.own (name_at names i) c.run next (began_alone asks) (began_behind_cr asks) (chars_of (run_of asks)) i text after → slots.StandsFor s after (answered c.own (Some (go_on s.name (waits_of table c.own) asks i)) table)
+    label : GivesLabel s table c.own (name_at names i) c.run next (began_alone asks) (began_behind_cr asks) (chars_of (run_of asks)) i text after → slots.SlotsStandFor s after (answered c.own (Some (go_on s.name (waits_of table c.own) asks i)) table)
     label g =
         subst at (sym (unlabelled_is s c asks h.looks.stands ∙ ap not g.labelled))
-        (subst (λ (n : List ℕ). slots.StandsFor s after (fetched c.own i (room_beside n) table)) (h.names_are i h.below) g.headed.stands)
+        (subst (λ (n : List ℕ). slots.SlotsStandFor s after (fetched c.own i (room_beside n) table)) (h.names_are i h.below) g.headed.stands)
 
 -- ---- what the composer stands for then
 -- with an ask at which this was given
@@ -329,7 +329,7 @@ begins_then s table c asks names i next text after h =
 spoken : (s : Setup) (c : State) (asks : List Asked) (w : ℕ → List Chunk) (media : ℕ) (g : Answer) (i : ℕ) (next : Run) (moments : List (Option ℕ)) → c.relabel ≡ s.relabel → g.source ≡ i → i < s.legs → (i ≡ c.own → ⊥) → length moments ≡ s.legs
     → ((j : ℕ) → j < s.legs → (j ≡ c.own → ⊥) → since_at moments j ≡ since j (asked_more w media asks (Some g)))
     → Then next g.begins (run_of asks) g.chunks (began_alone asks) (is_after_cr asks) (began_behind_cr asks) (is_open asks)
-    → StandsFor s (remembered (record c { run = next; since = moments; asked = media + 1 }) (Some i) media) (asked_more w media asks (Some g))
+    → ComposerStandsFor s (remembered (record c { run = next; since = moments; asked = media + 1 }) (Some i) media) (asked_more w media asks (Some g))
 spoken s c asks w media g i next moments again source below other legs since_are t = record {
   legs = legs;
   current = now_current s c.own asks w media g i source below other;
@@ -341,7 +341,7 @@ spoken s c asks w media g i next moments again source below other legs since_are
 
 pub stands_then : (s : Setup) (table : Table) (c : State) (asks : List Asked) (names : List (List ℕ)) (k : Choice) (next : Run) (text : List ℕ) (after : List Waiting) (media : ℕ) (moments : List (Option ℕ))
     → Turns s table c asks names k next text after → Notes c k media moments
-    → StandsFor s (state_then c k next moments media) (asked_more (waits_of table c.own) media asks (given_of s.name (waits_of table c.own) asks k))
+    → ComposerStandsFor s (state_then c k next moments media) (asked_more (waits_of table c.own) media asks (given_of s.name (waits_of table c.own) asks k))
 stands_then s table c asks names Nobody next text after media moments h n =
     let st = h.looks.stands in
     let w = waits_of table c.own in
@@ -374,8 +374,8 @@ notes_of c k media speaker flags old moments e f o l n =
 pub record Told (s : Setup) (table : Table) (c : State) (asks : List Asked) (flags : List Bool) (due : Bool) (media : ℕ) (k : Choice) (next : Run) (text : List ℕ) (after : List Waiting) (moments : List (Option ℕ)) : Type 0 where
   pub given : is_some (speaker_of k) ≡ is_some (given_now s table c media due asks)
   pub text_is : text ≡ text_given (given_now s table c media due asks)
-  pub stands : StandsFor s (state_then (record c { waits = flags }) k next moments media) (asked_now s table c media due asks)
-  pub slots_stand : slots.StandsFor s after (answered c.own (given_now s table c media due asks) table)
+  pub stands : ComposerStandsFor s (state_then (record c { waits = flags }) k next moments media) (asked_now s table c media due asks)
+  pub slots_stand : slots.SlotsStandFor s after (answered c.own (given_now s table c media due asks) table)
 
 looks_of : (s : Setup) (table : Table) (c : State) (now : List Waiting) (names : List (List ℕ)) (asks : List Asked) (flags : List Bool) → IsAsked s table c now names asks → length flags ≡ length c.since
     → ((i : ℕ) → i < length c.since → is_set flags i ≡ waits_here c.own (waits_of table c.own) i) → Looks s (record c { waits = flags }) asks (waits_of table c.own)
@@ -407,6 +407,6 @@ told s table c asks flags due media k next text after moments now names h l f ch
     record {
       given = some_is s.name w asks k ∙ ap is_some is;
       text_is = text_is s table d asks names k next text after turns ∙ ap text_given is;
-      stands = subst (λ (g : Option Answer). StandsFor s (state_then d k next moments media) (asked_more w media asks g)) is (stands_then s table d asks names k next text after media moments turns n);
-      slots_stand = subst (λ (g : Option Answer). slots.StandsFor s after (answered c.own g table)) is (slots_are s table d asks names k next text after turns);
+      stands = subst (λ (g : Option Answer). ComposerStandsFor s (state_then d k next moments media) (asked_more w media asks g)) is (stands_then s table d asks names k next text after media moments turns n);
+      slots_stand = subst (λ (g : Option Answer). slots.SlotsStandFor s after (answered c.own g table)) is (slots_are s table d asks names k next text after turns);
     }

@@ -29,12 +29,12 @@ waits_of table own i = (table.terminals own).waits i
 pub record GivesNone (s : Setup) (table : Table) (r next : Run) (text : List ℕ) (after : List Waiting) : Type 0 where
   pub run : next ≡ r
   pub text_is : text ≡ []
-  pub stands : slots.StandsFor s after table
+  pub stands : slots.SlotsStandFor s after table
 
 -- what fits beside the label of the run, which is to come
 pub record GivesHeaded (s : Setup) (table : Table) (own : ℕ) (name : List ℕ) (r next : Run) (behind_cr : Bool) (run : List ℕ) (speaker : ℕ) (text : List ℕ) (after : List Waiting) : Type 0 where
   pub heads : Heads name r next behind_cr run (front (room_beside name) (waits_of table own speaker)) text
-  pub stands : slots.StandsFor s after (fetched own speaker (room_beside name) table)
+  pub stands : slots.SlotsStandFor s after (fetched own speaker (room_beside name) table)
 
 -- a run of the speaker begins, behind CR or not
 pub record GivesRun (s : Setup) (table : Table) (own : ℕ) (name : List ℕ) (r next : Run) (behind_cr : Bool) (speaker : ℕ) (text : List ℕ) (after : List Waiting) : Type 0 where
@@ -46,7 +46,7 @@ pub record GivesRun (s : Setup) (table : Table) (own : ℕ) (name : List ℕ) (r
 pub record GivesOn (s : Setup) (table : Table) (own : ℕ) (name : List ℕ) (r next : Run) (alone behind_cr : Bool) (run : List ℕ) (speaker : ℕ) (text : List ℕ) (after : List Waiting) : Type 0 where
   pub labelled : r.labelled ≡ true
   pub goes : RunGoesOn name r next alone behind_cr run (front MOST_TEXT_OCTETS (waits_of table own speaker)) [] text
-  pub stands : slots.StandsFor s after (fetched own speaker MOST_TEXT_OCTETS table)
+  pub stands : slots.SlotsStandFor s after (fetched own speaker MOST_TEXT_OCTETS table)
 
 -- the label of the run is to come
 pub record GivesLabel (s : Setup) (table : Table) (own : ℕ) (name : List ℕ) (r next : Run) (alone behind_cr : Bool) (run : List ℕ) (speaker : ℕ) (text : List ℕ) (after : List Waiting) : Type 0 where

@@ -17,7 +17,7 @@ state_of c = record {
 }
 
 -- There is a flag and a moment for each leg, and the speaker is one of them. Each ask gives at most 1023 characters.
-pub record IsSound (c : Inside) : Type 0 where
+pub record ComposerIsSound (c : Inside) : Type 0 where
   pub legs : length c.waits.items ≡ length c.since.items
   pub own : c.own < length c.since.items
   pub speaker : ForSome c.current (λ x. x.speaker < length c.since.items)

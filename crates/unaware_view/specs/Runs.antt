@@ -5,7 +5,7 @@ use Rattle.text_spec.specs.declared.classes.CharClass.TheVariants.{Erase, Bell, 
 use Rattle.text_spec.specs.Characters.{class_of, is_open_after, is_print, opens}
 use Rattle.text_spec.specs.Shown.{ends_with_cr, loose, signs, survivors}
 use Rattle.text_spec.specs.Views.{is_direction, label_after, without_bracket, without_directions}
-use Rattle.t140_text.specs.declared.ends.Ending.{Ending}
+use Rattle.t140_text.specs.declared.ends.TextEnd.{TextEnd}
 use Rattle.t140_text.specs.Endings.{IsEnding, is_line_end, is_sentence_end, pushed}
 use Rattle.stream_spec.specs.Ready.{Chunk}
 use Rattle.mixer_spec.specs.Chunks.{has_chunk}
@@ -13,7 +13,7 @@ use Rattle.mixer_spec.specs.Composed.{chars_of, cr_last, from_seen, labelled, ow
 use Rattle.unaware_view.specs.declared.runs.Run.{Run}
 
 -- another speaker may follow
-abbrev pub is_turn : Ending → Bool
+abbrev pub is_turn : TextEnd → Bool
 is_turn e = is_line_end e || is_sentence_end e
 
 -- ---- one character

@@ -42,7 +42,7 @@ pub record RunStands (r : Run) (alone behind_cr : Bool) (chunks : List Chunk) (o
   pub line : r.is_open ≡ opened
 
 -- The composer of a terminal of this setup was asked so.
-pub record StandsFor (s : Setup) (c : State) (asks : List Asked) : Type 0 where
+pub record ComposerStandsFor (s : Setup) (c : State) (asks : List Asked) : Type 0 where
   pub legs : length c.since ≡ s.legs
   pub current : IsCurrent s c.own asks (latest asks) c.current
   pub waits_since : (i : ℕ) → i < s.legs → (i ≡ c.own → ⊥) → since_at c.since i ≡ since i asks
@@ -66,8 +66,8 @@ name_at names i = slice_index_or names i []
 
 -- The composer of the terminal `own` was asked so, the slots have what waits there, which are texts, and these are the names.
 pub record IsAsked (s : Setup) (table : Table) (c : State) (now : List Waiting) (called : List (List ℕ)) (asks : List Asked) : Type 0 where
-  pub stands : StandsFor s c asks
-  pub slots_stand : slots.StandsFor s now table
+  pub stands : ComposerStandsFor s c asks
+  pub slots_stand : slots.SlotsStandFor s now table
   pub texts : (i : ℕ) → AreTexts ((table.terminals c.own).waits i)
   pub names : (i : ℕ) → i < s.legs → name_at called i ≡ s.name i
 

@@ -2,7 +2,7 @@
 ghost use Rattle.std.specs.Prelude.{◌≡◌, ℕ, ◌+◌, ◌-◌, ◌<◌, ◌≤◌, ◌&&◌, not, length, IfSome, Some};
 ghost use Rattle.mixer_spec.specs.Rounds.{first_from, first_round};
 ghost use Rattle.mixer_spec.specs.Composed.{is_ago, waits_here};
-ghost use Rattle.slot_table.specs.Standing.{Tells};
+ghost use Rattle.slot_table.specs.Standing.{SlotsTell};
 ghost use Rattle.unaware_view.specs.Choices.{any_long, any_other, is_leg, is_set, noted, since_at};
 
 use slot_table::Slots;
@@ -109,7 +109,7 @@ pub(crate) fn note(since: &mut [Option<u64>], waits: &[bool], given: Option<usiz
 /// Whether the leg waits at the terminal, and is another one than its own.
 fn waits_here(own: usize, leg: usize, slots: &Slots) -> bool
     requires { (own < length slots.now) × (leg < length slots.now) }
-    ensures { Tells slots.now (λ s table. result ≡ waits_here own (table.terminals own).waits leg) }
+    ensures { SlotsTell slots.now (λ s table. result ≡ waits_here own (table.terminals own).waits leg) }
 {
     if leg == own {
         return false;
@@ -122,7 +122,7 @@ pub(crate) fn look(waits: &mut [bool], own: usize, slots: &Slots)
     requires legs { length waits.old ≡ length slots.now }
     requires own { own < length slots.now }
     ensures legs { length waits.new ≡ length waits.old }
-    ensures waits { Tells slots.now (λ s table. (i : ℕ) → i < length waits.old
+    ensures waits { SlotsTell slots.now (λ s table. (i : ℕ) → i < length waits.old
         → is_set waits.new i ≡ waits_here own (table.terminals own).waits i) }
 {
     for i in 0..waits.len() {

@@ -5,16 +5,16 @@ ghost use Rattle.mixer_spec.specs.Chunks.{front, joined};
 ghost use Rattle.mixer_spec.specs.Laws.{AreTexts};
 ghost use Rattle.mixer_spec.specs.Setups.{Setup};
 ghost use Rattle.mixer_spec.specs.Table.{Table};
-ghost use Rattle.slot_table.specs.Standing.{StandsFor as SlotsStandFor, Leads, Tells};
+ghost use Rattle.slot_table.specs.Standing.{SlotsStandFor, LeadsSlots, SlotsTell};
 ghost use Rattle.slot_table.specs.Words.{fetched};
 ghost use Rattle.unaware_view.specs.Runs.{GoesOn, Heads, IsRun, label_room};
 ghost use Rattle.unaware_view.specs.declared.runs.Run.{Run};
 ghost use Rattle.unaware_view.specs.Choices.{IsBelow, begins, choice, is_again, is_left, speaker_of};
-ghost use Rattle.unaware_view.specs.Standing.{IsAsked, NoneWaits, OfAsks, StandsFor, answered, asked_now, given_now, legs_of, next_ask, own_of};
+ghost use Rattle.unaware_view.specs.Standing.{IsAsked, NoneWaits, OfAsks, ComposerStandsFor, answered, asked_now, given_now, legs_of, next_ask, own_of};
 ghost use Rattle.mixer_spec.specs.Composed.{Asked, text_given};
 ghost use Rattle.unaware_view.specs.Giving.{Gives, GivesHeaded, GivesMore, remembered, waits_of};
 ghost use Rattle.unaware_view.specs.States.{State};
-ghost use Rattle.unaware_view.specs.Insides.{state_of, IsSound};
+ghost use Rattle.unaware_view.specs.Insides.{state_of, ComposerIsSound};
 
 use crate::choices::{any_long, any_other, first_round, is_ago, is_paused, look, note};
 use crate::labels::room_beside;
@@ -76,7 +76,7 @@ impl Model for Composer {
 
     ghost view = { state_of };
 
-    ghost invariant = { IsSound };
+    ghost invariant = { ComposerIsSound };
 }
 
 impl Composer {
@@ -138,7 +138,8 @@ impl Composer {
         relabel: Option<u32>,
     ) -> Result<Composer, NoMemory>
         requires { own < legs }
-        ensures stands { IfOk result (λ c. (s : Setup) → s.legs ≡ legs → s.relabel ≡ relabel → StandsFor s c []) }
+        ensures stands { IfOk result (λ c. (s : Setup) → s.legs ≡ legs → s.relabel ≡ relabel
+            → ComposerStandsFor s c []) }
         ensures own { IfOk result (λ c. own_of c ≡ own) }
         ensures legs { IfOk result (λ c. legs_of c ≡ legs) }
         ensures next { IfOk result (λ c. next_ask c ≡ 0) }
@@ -176,7 +177,7 @@ impl Composer {
         ensures text { OfAsks self.old slots.old names.now (λ s table asks.
             text.new ≡ text_given (given_now s table self.old media due asks)) }
         ensures stands { OfAsks self.old slots.old names.now (λ s table asks.
-            StandsFor s self.new (asked_now s table self.old media due asks)) }
+            ComposerStandsFor s self.new (asked_now s table self.old media due asks)) }
         ensures waits { OfAsks self.old slots.old names.now (λ s table asks.
             SlotsStandFor s slots.new (answered (own_of self.old) (given_now s table self.old media due asks) table)) }
         ensures legs { length slots.new ≡ length slots.old }
@@ -206,8 +207,9 @@ impl Composer {
     pub fn pass(&mut self, media: u64)
         requires rises { next_ask self.old ≤ media }
         requires media { media < 2 ^ 54 }
-        ensures stands { (s : Setup) (table : Table) (due : Bool) (asks : List Asked) → StandsFor s self.old asks
-            → NoneWaits s table self.old → StandsFor s self.new (asked_now s table self.old media due asks) }
+        ensures stands { (s : Setup) (table : Table) (due : Bool) (asks : List Asked)
+            → ComposerStandsFor s self.old asks
+            → NoneWaits s table self.old → ComposerStandsFor s self.new (asked_now s table self.old media due asks) }
         ensures same { (own_of self.new ≡ own_of self.old) × (legs_of self.new ≡ legs_of self.old) }
         ensures next { next_ask self.new ≡ media + 1 }
     {
@@ -269,8 +271,8 @@ fn go_on(
     requires labelled { run.old.labelled ≡ true }
     ensures few { run.new.erasable ≤ run.old.erasable + MOST_TEXT_OCTETS }
     ensures legs { length slots.new ≡ length slots.old }
-    ensures slots { Leads slots.old slots.new (fetched own speaker MOST_TEXT_OCTETS) }
-    ensures goes_on { Tells slots.old (λ s table. (alone behind_cr : Bool) (before : List ℕ)
+    ensures slots { LeadsSlots slots.old slots.new (fetched own speaker MOST_TEXT_OCTETS) }
+    ensures goes_on { SlotsTell slots.old (λ s table. (alone behind_cr : Bool) (before : List ℕ)
         → AreTexts (waits_of table own speaker) → IsRun run.old alone behind_cr before
         → GoesOn name.now run.old run.new alone behind_cr before (front MOST_TEXT_OCTETS (waits_of table own speaker)) [] text.new) }
 {
@@ -314,7 +316,7 @@ fn give_headed(
     requires labelled { run.old.labelled ≡ false }
     ensures few { run.new.erasable ≤ run.old.erasable + MOST_TEXT_OCTETS }
     ensures legs { length slots.new ≡ length slots.old }
-    ensures gives { Tells slots.old (λ s table. (behind_cr : Bool) (before : List ℕ)
+    ensures gives { SlotsTell slots.old (λ s table. (behind_cr : Bool) (before : List ℕ)
         → AreTexts (waits_of table own speaker) → IsRun run.old false behind_cr before
         → GivesHeaded s table own name.now run.old run.new behind_cr before speaker text.new slots.new) }
 {
@@ -339,7 +341,7 @@ fn give_more(
     requires text { text.old ≡ [] }
     ensures few { run.new.erasable ≤ run.old.erasable + MOST_TEXT_OCTETS }
     ensures legs { length slots.new ≡ length slots.old }
-    ensures gives { Tells slots.old (λ s table. (alone behind_cr : Bool) (before : List ℕ)
+    ensures gives { SlotsTell slots.old (λ s table. (alone behind_cr : Bool) (before : List ℕ)
         → AreTexts (waits_of table own speaker) → IsRun run.old alone behind_cr before
         → GivesMore s table own name.now run.old run.new alone behind_cr before speaker text.new slots.new) }
 {
@@ -368,7 +370,7 @@ fn give(
     ensures speaker { result ≡ speaker_of choice }
     ensures few { run.new.erasable ≤ run.old.erasable + MOST_TEXT_OCTETS }
     ensures legs { length slots.new ≡ length slots.old }
-    ensures gives { Tells slots.old (λ s table. (alone behind_cr : Bool) (before : List ℕ)
+    ensures gives { SlotsTell slots.old (λ s table. (alone behind_cr : Bool) (before : List ℕ)
         → ((i : ℕ) → AreTexts (waits_of table own i)) → IsRun run.old alone behind_cr before
         → Gives s table own names.now run.old run.new alone behind_cr before choice text.new slots.new) }
 {

@@ -7,7 +7,7 @@ ghost use Rattle.rtt_base.specs.declared.limits.TheConstants.{MOST_TEXT_OCTETS};
 
 use crate::labels::label;
 use rtt_base::Text;
-use t140_text::{Ending, class};
+use t140_text::{TextEnd, class};
 use text_spec::CharClass;
 
 /// What is kept of a run: as much of a long one as of a short one.
@@ -20,7 +20,7 @@ pub(crate) struct Run {
     /// another run's.
     pub(crate) after_cr: bool,
     /// What its text ends with.
-    pub(crate) ending: Ending,
+    pub(crate) ending: TextEnd,
     /// Whether a chunk stands in it.
     pub(crate) has_chunk: bool,
     /// Whether its label was given.
@@ -100,7 +100,7 @@ impl Run {
         Run {
             erasable: 0,
             after_cr: false,
-            ending: Ending::new(),
+            ending: TextEnd::new(),
             has_chunk: false,
             labelled: true,
             is_open: false,
@@ -112,7 +112,7 @@ impl Run {
         ensures { IsBegun self.old self.new }
     {
         self.erasable = 0;
-        self.ending = Ending::new();
+        self.ending = TextEnd::new();
         self.has_chunk = false;
         self.labelled = false;
     }

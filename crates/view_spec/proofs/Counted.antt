@@ -56,22 +56,22 @@ one_arrives at past (Err faults.NotText) = omega arith
 one_arrives at past (Err faults.Foreign) = omega arith
 
 item_arrives : (r : Reception) (at : ℕ) (what : What) (past : List Arrival)
-    → length (arrivals_with r.ssrc r.pts (record { time = at; what = what }) past) ≤ length past + one_if (is_packet (fate_at r (record { time = at; what = what })))
-item_arrives r at (Whole octets) past = one_arrives at past (text_of octets (Some r.ssrc) r.pts)
+    → length (arrivals_with r.ssrc r.payload_types (record { time = at; what = what }) past) ≤ length past + one_if (is_packet (fate_at r (record { time = at; what = what })))
+item_arrives r at (Whole octets) past = one_arrives at past (text_of octets (Some r.ssrc) r.payload_types)
 item_arrives r at Rtcp past = omega arith
 item_arrives r at Cut past = omega arith
 item_arrives r at Large past = omega arith
 
-arrivals_fit : (r : Reception) (past : List Arrival) (came : List Item) → length (arrivals_after r.ssrc r.pts past came) ≤ length past + many is_packet (fate_at r) came
+arrivals_fit : (r : Reception) (past : List Arrival) (came : List Item) → length (arrivals_after r.ssrc r.payload_types past came) ≤ length past + many is_packet (fate_at r) came
 arrivals_fit r past [] = omega arith
 arrivals_fit r past (item ∷ came) =
-    let rest = arrivals_fit r (arrivals_with r.ssrc r.pts item past) came in
+    let rest = arrivals_fit r (arrivals_with r.ssrc r.payload_types item past) came in
     let one = item_arrives r item.time item.what past in
     go (is_packet (fate_at r item)) one rest
   where
-    go : (t : Bool) → length (arrivals_with r.ssrc r.pts item past) ≤ length past + one_if t
-        → length (arrivals_after r.ssrc r.pts (arrivals_with r.ssrc r.pts item past) came) ≤ length (arrivals_with r.ssrc r.pts item past) + many is_packet (fate_at r) came
-        → length (arrivals_after r.ssrc r.pts (arrivals_with r.ssrc r.pts item past) came) ≤ length past + length (cond t (item ∷ filter (λ x. is_packet (fate_at r x)) came) (filter (λ x. is_packet (fate_at r x)) came))
+    go : (t : Bool) → length (arrivals_with r.ssrc r.payload_types item past) ≤ length past + one_if t
+        → length (arrivals_after r.ssrc r.payload_types (arrivals_with r.ssrc r.payload_types item past) came) ≤ length (arrivals_with r.ssrc r.payload_types item past) + many is_packet (fate_at r) came
+        → length (arrivals_after r.ssrc r.payload_types (arrivals_with r.ssrc r.payload_types item past) came) ≤ length past + length (cond t (item ∷ filter (λ x. is_packet (fate_at r x)) came) (filter (λ x. is_packet (fate_at r x)) came))
     go true one rest = omega (arith, one, rest)
     go false one rest = omega (arith, one, rest)
 

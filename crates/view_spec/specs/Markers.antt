@@ -19,13 +19,13 @@ markers_over present first prev (b ∷ bs) =
     (if is_marked present first prev b then 1 else 0) + markers_over present first (Some b) bs
 
 -- how many of the texts in `heard` are markers
-abbrev pub markers : ℕ → List Arrival → ℕ → ℕ
-markers wait a s =
+abbrev pub marker_count : ℕ → List Arrival → ℕ → ℕ
+marker_count wait a s =
     markers_over (has_number (used wait (numbered a))) (first_number 0 (numbered a)) None
     (filter (is_packet_of s) (used wait (numbered a)))
 
 abbrev pub markers_at : Reception → List Item → ℕ → ℕ
-markers_at r came source = markers r.wait (arrivals_at r came) source
+markers_at r came source = marker_count r.wait (arrivals_at r came) source
 
 -- the new texts of these packets of one source, without markers
 abbrev pub new_texts_over : Option Numbered → List Numbered → List (List ℕ)
@@ -36,15 +36,15 @@ new_texts_over prev (b ∷ bs) = new_texts prev b ++ new_texts_over (Some b) bs
 abbrev pub new_texts_heard : ℕ → List Arrival → ℕ → List (List ℕ)
 new_texts_heard wait a s = new_texts_over None (filter (is_packet_of s) (used wait (numbered a)))
 
--- the marks among what places tell of a history
-abbrev pub marks_in : List kept.Item → ℕ
-marks_in [] = 0
-marks_in (kept.Mark ∷ items) = 1 + marks_in items
-marks_in (kept.Block x ∷ items) = marks_in items
+-- the markers among what places tell of a history
+abbrev pub markers_in : List kept.Item → ℕ
+markers_in [] = 0
+markers_in (kept.Marker ∷ items) = 1 + markers_in items
+markers_in (kept.Block x ∷ items) = markers_in items
 
 -- how many U+FFFD these texts have, and how many are shown
-abbrev pub typed_marks : List (List ℕ) → ℕ
-typed_marks texts = text.markers (chars (concat texts))
+abbrev pub typed_markers : List (List ℕ) → ℕ
+typed_markers texts = text.marker_count (chars (concat texts))
 
-abbrev pub marks_seen : Display → ℕ
-marks_seen d = text.markers (chars (concat d.lines))
+abbrev pub shown_markers : Display → ℕ
+shown_markers d = text.marker_count (chars (concat d.lines))

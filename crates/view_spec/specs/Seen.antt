@@ -1,7 +1,7 @@
 -- What is seen at a terminal of what comes to it (profile). What came are items as of a recording, oldest first.
 use Rattle.std.specs.Prelude.{ℕ, Bool, true, false, List, [], length, map, filter, Result, Ok, Err, Some}
 use Rattle.std.specs.List.{concat}
-use Rattle.rtt_base.specs.declared.text_packets.Pts.{Pts}
+use Rattle.rtt_base.specs.declared.text_packets.PayloadTypes.{PayloadTypes}
 use Rattle.wire_spec.specs.declared.faults.TextFault.{TextFault}
 use Rattle.wire_spec.specs.declared.faults.TextFault.TheVariants.{Foreign}
 use Rattle.wire_spec.specs.Packets.{Packet, Arrival}
@@ -17,7 +17,7 @@ use Rattle.view_spec.specs.Views.{Source, text_view, aware_view, unaware_view}
 -- so long, in milliseconds
 pub record Reception : Type 0 where
   pub ssrc : ℕ
-  pub pts : Pts
+  pub payload_types : PayloadTypes
   pub wait : ℕ
 
 -- ---- what becomes of what came
@@ -34,7 +34,7 @@ fate_of (Err Foreign) = Foreigner
 fate_of (Err fault) = Refused
 
 abbrev pub fate_of_what : Reception → What → Fate
-fate_of_what r (Whole octets) = fate_of (text_of octets (Some r.ssrc) r.pts)
+fate_of_what r (Whole octets) = fate_of (text_of octets (Some r.ssrc) r.payload_types)
 fate_of_what r Rtcp = NoPacket
 fate_of_what r Cut = Refused
 fate_of_what r Large = Refused
@@ -70,7 +70,7 @@ counts_over fate_of came used = record {
 -- ---- what is heard, counted and shown
 -- the packets of text that arrive, newest first
 abbrev pub arrivals_at : Reception → List Item → List Arrival
-arrivals_at r came = arrivals_after r.ssrc r.pts [] came
+arrivals_at r came = arrivals_after r.ssrc r.payload_types [] came
 
 -- the text of a source, with its markers
 abbrev pub text_at : Reception → List Item → ℕ → List ℕ

@@ -7,7 +7,7 @@ use Rattle.std.proofs.lemmas.Bool.Decides.{eqb_tells}
 use Rattle.std.proofs.lemmas.List.{take_at, drop_at, length_push}
 use Rattle.std.proofs.lemmas.Str.{is_utf8-from_IsUtf8}
 use Rattle.rtt_base.specs.declared.blocks.TextBlock.{TextBlock}
-use Rattle.rtt_base.specs.declared.text_packets.Pts.{Pts}
+use Rattle.rtt_base.specs.declared.text_packets.PayloadTypes.{PayloadTypes}
 use Rattle.wire_spec.specs.declared.headers.RedHeader.{RedHeader}
 use Rattle.wire_spec.specs.declared.faults.RedFault.{RedFault}
 use Rattle.rtt_base.specs.Steps.{◌>>=◌}
@@ -103,19 +103,19 @@ plain_read : (octets : List ℕ) (blocks : List TextBlock) → PlainText octets 
 plain_read octets blocks h = texts_read [] octets tt h.is_text ∙ ap (λ (bs : List TextBlock). Ok bs) (sym h.all)
 
 -- a payload is read as what it is, and so as one thing only
-pub red_only : (octets : List ℕ) (pt : ℕ) (pts : Pts) (blocks : List TextBlock) → Red octets pt pts blocks → red octets pt pts ≡ Ok blocks
+pub red_only : (octets : List ℕ) (pt : ℕ) (payload_types : PayloadTypes) (blocks : List TextBlock) → Red octets pt payload_types blocks → red octets pt payload_types ≡ Ok blocks
 unfolding red
-red_only octets pt pts blocks h =
-    elim (eqb_tells pt pts.t140) [
+red_only octets pt payload_types blocks h =
+    elim (eqb_tells pt payload_types.t140) [
       | inl yes_ ↦ rw yes_.0 (plain_read octets blocks (h.plain yes_.1))
-      | inr no_ ↦ rw (no_.0, eq-eqb pt pts.red (h.red no_.1).0) (red_read octets pts.t140 blocks (h.red no_.1).1)
+      | inr no_ ↦ rw (no_.0, eq-eqb pt payload_types.red (h.red no_.1).0) (red_read octets payload_types.t140 blocks (h.red no_.1).1)
     ]
 
 -- ---- what is written
 
-pub red_again : (blocks : List TextBlock) (pts : Pts) → FitsRed blocks pts → Red (red_written blocks pts) pts.red pts blocks
-red_again blocks pts fits = record {
-  plain = λ (e : pts.red ≡ pts.t140). absurd (fits.differ (sym e));
+pub red_again : (blocks : List TextBlock) (payload_types : PayloadTypes) → FitsRed blocks payload_types → Red (red_written blocks payload_types) payload_types.red payload_types blocks
+red_again blocks payload_types fits = record {
+  plain = λ (e : payload_types.red ≡ payload_types.t140). absurd (fits.differ (sym e));
   red = λ _. (
     refl,
     record {
@@ -131,8 +131,8 @@ red_again blocks pts fits = record {
   );
 }
 
-pub red_read_back : (blocks : List TextBlock) (pts : Pts) → FitsRed blocks pts → red (red_written blocks pts) pts.red pts ≡ Ok blocks
-red_read_back blocks pts fits = red_only (red_written blocks pts) pts.red pts blocks (red_again blocks pts fits)
+pub red_read_back : (blocks : List TextBlock) (payload_types : PayloadTypes) → FitsRed blocks payload_types → red (red_written blocks payload_types) payload_types.red payload_types ≡ Ok blocks
+red_read_back blocks payload_types fits = red_only (red_written blocks payload_types) payload_types.red payload_types blocks (red_again blocks payload_types fits)
 
 abbrev done : List TextBlock → Result (List TextBlock) RedFault
 done blocks = Ok blocks
@@ -140,5 +140,5 @@ done blocks = Ok blocks
 same_blocks : (blocks others : List TextBlock) → done blocks ≡ done others → blocks ≡ others
 same_blocks blocks others e = cc
 
-pub red_one_reading : (blocks : List TextBlock) (pts : Pts) (others : List TextBlock) → FitsRed blocks pts → Red (red_written blocks pts) pts.red pts others → others ≡ blocks
-red_one_reading blocks pts others fits reads = same_blocks others blocks (sym (red_only (red_written blocks pts) pts.red pts others reads) ∙ red_read_back blocks pts fits)
+pub red_one_reading : (blocks : List TextBlock) (payload_types : PayloadTypes) (others : List TextBlock) → FitsRed blocks payload_types → Red (red_written blocks payload_types) payload_types.red payload_types others → others ≡ blocks
+red_one_reading blocks payload_types others fits reads = same_blocks others blocks (sym (red_only (red_written blocks payload_types) payload_types.red payload_types others reads) ∙ red_read_back blocks payload_types fits)

@@ -9,7 +9,7 @@ use Rattle.std.proofs.lemmas.Bool.Decides.{eqb_tells}
 use Rattle.std.proofs.lemmas.List.{take-append-drop}
 use Rattle.std.proofs.lemmas.Str.{IsUtf8-from_is_utf8}
 use Rattle.rtt_base.specs.declared.blocks.TextBlock.{TextBlock}
-use Rattle.rtt_base.specs.declared.text_packets.Pts.{Pts}
+use Rattle.rtt_base.specs.declared.text_packets.PayloadTypes.{PayloadTypes}
 use Rattle.wire_spec.specs.declared.headers.RedHeader.{RedHeader}
 use Rattle.wire_spec.specs.declared.faults.RedFault.{RedFault}
 use Rattle.wire_spec.specs.declared.faults.RedFault.TheVariants.{WrongType, Cut, Many, Long, NotText}
@@ -201,21 +201,21 @@ red_parts octets t140 hs blocks h e k =
     }
 
 -- a payload that is read is what it was read as
-pub red_found : (octets : List ℕ) (pt : ℕ) (pts : Pts) (blocks : List TextBlock) → IsOctets octets → red octets pt pts ≡ Ok blocks → Red octets pt pts blocks
+pub red_found : (octets : List ℕ) (pt : ℕ) (payload_types : PayloadTypes) (blocks : List TextBlock) → IsOctets octets → red octets pt payload_types ≡ Ok blocks → Red octets pt payload_types blocks
 unfolding red
-red_found octets pt pts blocks h e =
-    let rest : Result (List TextBlock) RedFault = cond (eqb pt pts.red) (headers_at 8 pts.t140 octets >>= λ hs. texts_at hs.headers hs.texts) (Err WrongType) in
-    elim (eqb_tells pt pts.t140) [
+red_found octets pt payload_types blocks h e =
+    let rest : Result (List TextBlock) RedFault = cond (eqb pt payload_types.red) (headers_at 8 payload_types.t140 octets >>= λ hs. texts_at hs.headers hs.texts) (Err WrongType) in
+    elim (eqb_tells pt payload_types.t140) [
       | inl yes_ ↦ record {
         plain = λ _. plain_parts octets blocks (sym (ap (λ (b : Bool). cond b (texts_at [] octets) rest) yes_.0) ∙ e);
         red = λ no_. absurd (no_ yes_.1);
       }
       | inr no_ ↦
           (let a : rest ≡ Ok blocks = sym (ap (λ (b : Bool). cond b (texts_at [] octets) rest) no_.0) ∙ e in
-          let b = guard_else (eqb pt pts.red) WrongType (headers_at 8 pts.t140 octets >>= λ hs. texts_at hs.headers hs.texts) blocks a in
-          let c = bind_ok (headers_at 8 pts.t140 octets) (λ hs. texts_at hs.headers hs.texts) blocks b.1 in
+          let b = guard_else (eqb pt payload_types.red) WrongType (headers_at 8 payload_types.t140 octets >>= λ hs. texts_at hs.headers hs.texts) blocks a in
+          let c = bind_ok (headers_at 8 payload_types.t140 octets) (λ hs. texts_at hs.headers hs.texts) blocks b.1 in
           record {
             plain = λ yes_. absurd (no_.1 yes_);
-            red = λ _. (eqb-true pt pts.red b.0, red_parts octets pts.t140 c.0 blocks h c.1 c.2);
+            red = λ _. (eqb-true pt payload_types.red b.0, red_parts octets payload_types.t140 c.0 blocks h c.1 c.2);
           })
     ]

@@ -5,7 +5,7 @@ use Rattle.std.specs.Str.{is_utf8, chars}
 use Rattle.std.specs.Int.{w32, to_be_bytes}
 use lib.Utf8.{encode}
 use Rattle.rtt_base.specs.declared.blocks.TextBlock.{TextBlock}
-use Rattle.rtt_base.specs.declared.text_packets.Pts.{Pts}
+use Rattle.rtt_base.specs.declared.text_packets.PayloadTypes.{PayloadTypes}
 use Rattle.wire_spec.specs.declared.faults.TextFault.{TextFault}
 use Rattle.wire_spec.specs.declared.faults.TextFault.TheVariants.{Short, Version, Padding, Sources, WrongType, Cut, Many, Long, NotText, Foreign}
 use Rattle.wire_spec.specs.declared.faults.DumpKind.{DumpKind}
@@ -34,7 +34,7 @@ pairs (x ∷ y ∷ rest) = (16 * x + y) ∷ pairs rest
 abbrev hex : List ℕ → List ℕ
 hex text = pairs (digits text)
 
-abbrev types : Pts
+abbrev types : PayloadTypes
 types = record { t140 = 98; red = 100 }
 
 abbrev block : ℕ → List ℕ → TextBlock
@@ -43,14 +43,14 @@ block offset text = record { offset = offset; text = text }
 -- ---- two letters, 300 ms apart, each repeated in the next two packets
 
 abbrev packet : Bool → ℕ → ℕ → List TextBlock → List ℕ → Packet
-packet mark seq stamp older text =
-    record { mark = mark; seq = seq; stamp = stamp; ssrc = 1001; source = 1001; older = older; primary = text }
+packet marker_bit seq timestamp older text =
+    record { marker_bit = marker_bit; seq = seq; timestamp = timestamp; ssrc = 1001; source = 1001; older = older; primary = text }
 
 abbrev head : Bool → ℕ → ℕ → Head
-head mark seq stamp = record { mark = mark; pt = 100; seq = seq; stamp = stamp; ssrc = 1001; csrc = None }
+head marker_bit seq timestamp = record { marker_bit = marker_bit; pt = 100; seq = seq; timestamp = timestamp; ssrc = 1001; csrc = None }
 
 abbrev written : Bool → ℕ → ℕ → List TextBlock → List ℕ → List ℕ
-written mark seq stamp older text = rtp_written (head mark seq stamp) (red_written (older ++ primary text ∷ []) types)
+written marker_bit seq timestamp older text = rtp_written (head marker_bit seq timestamp) (red_written (older ++ primary text ∷ []) types)
 
 abbrev A : List ℕ
 A = 65 ∷ []
@@ -101,7 +101,7 @@ fourth-reads = refl
 -- ---- one letter of the source 1001 in a mixer's stream, at 5000: in red form, and in plain form where nothing is repeated
 
 abbrev mixed : List TextBlock → Packet
-mixed older = record { mark = true; seq = 100; stamp = 5000; ssrc = 9000; source = 1001; older = older; primary = 72 ∷ [] }
+mixed older = record { marker_bit = true; seq = 100; timestamp = 5000; ssrc = 9000; source = 1001; older = older; primary = 72 ∷ [] }
 
 abbrev two_headers : List ℕ
 two_headers = hex (codes "81E4 0064 00001388 00002328 000003E9 E2FFFC00 E2FFFC00 62 48")
@@ -216,7 +216,7 @@ abbrev octets_of : List ℕ → List ℕ → List ℕ
 octets_of front behind = hex front ++ (H ++ hex behind)
 
 abbrev plain : ℕ → List ℕ → Result Packet TextFault
-plain source text = Ok (record { mark = false; seq = 0; stamp = 0; ssrc = 1001; source = source; older = []; primary = text })
+plain source text = Ok (record { marker_bit = false; seq = 0; timestamp = 0; ssrc = 1001; source = source; older = []; primary = text })
 
 abbrev empty : TextBlock
 empty = block 16383 []

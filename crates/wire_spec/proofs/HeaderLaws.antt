@@ -27,11 +27,11 @@ pub bit_test : (b : Bool) → eqb (bit b) 1 ≡ b
 bit_test true = refl
 bit_test false = refl
 
-pub mark_test : (mark : Bool) (pt : ℕ) → pt < 128 → leb 128 (128 * bit mark + pt) ≡ mark
-mark_test true pt h = le-leb 128 (128 * bit true + pt) (omega arith)
-mark_test false pt h = lt-leb 128 (128 * bit false + pt) (omega arith)
+pub marker_bit_test : (marker_bit : Bool) (pt : ℕ) → pt < 128 → leb 128 (128 * bit marker_bit + pt) ≡ marker_bit
+marker_bit_test true pt h = le-leb 128 (128 * bit true + pt) (omega arith)
+marker_bit_test false pt h = lt-leb 128 (128 * bit false + pt) (omega arith)
 
-pub pt_is : (mark : Bool) (pt : ℕ) → pt < 128 → (128 * bit mark + pt) % 128 ≡ pt
+pub pt_is : (marker_bit : Bool) (pt : ℕ) → pt < 128 → (128 * bit marker_bit + pt) % 128 ≡ pt
 pt_is true pt h = omega arith
 pt_is false pt h = omega arith
 
@@ -94,12 +94,12 @@ after_fixed padded extended cc r tail = do
   after_sources ← past (4 * cc) tail
   after_extension ← past_extension extended after_sources
   payload ← unpadded padded after_extension
-  Ok (record { mark = r.mark; pt = r.pt; seq = r.seq; stamp = r.stamp; ssrc = r.ssrc; cc = cc; csrc = first_source cc tail; payload = payload })
+  Ok (record { marker_bit = r.marker_bit; pt = r.pt; seq = r.seq; timestamp = r.timestamp; ssrc = r.ssrc; cc = cc; csrc = first_source cc tail; payload = payload })
 
 pub record FitsFixed (r : Reading) : Type 0 where
   pub pt : r.pt < 2 ^ 7
   pub seq : r.seq < 2 ^ 16
-  pub stamp : r.stamp < 2 ^ 32
+  pub timestamp : r.timestamp < 2 ^ 32
   pub ssrc : r.ssrc < 2 ^ 32
 
 -- the fixed header is read, whatever follows
@@ -111,13 +111,13 @@ header_read padded extended cc r tail few fits =
     let long : ltb (length octets) 12 ≡ false = le-ltb (length octets) 12 (omega arith) in
     let x : eqb ((128 + 32 * bit padded + 16 * bit extended + cc) / 16 % 2) 1 ≡ extended = ap (λ (n : ℕ). eqb n 1) f.extension ∙ bit_test extended in
     let p : eqb ((128 + 32 * bit padded + 16 * bit extended + cc) / 32 % 2) 1 ≡ padded = ap (λ (n : ℕ). eqb n 1) f.padding ∙ bit_test padded in
-    rw (long, f.version, x, p, f.cc_is, mark_test r.mark r.pt fits.pt, pt_is r.mark r.pt fits.pt, from_be_bytes-to_be_bytes_2 r.seq fits.seq, from_be_bytes-to_be_bytes_4 r.stamp fits.stamp, from_be_bytes-to_be_bytes_4 r.ssrc fits.ssrc) refl
+    rw (long, f.version, x, p, f.cc_is, marker_bit_test r.marker_bit r.pt fits.pt, pt_is r.marker_bit r.pt fits.pt, from_be_bytes-to_be_bytes_2 r.seq fits.seq, from_be_bytes-to_be_bytes_4 r.timestamp fits.timestamp, from_be_bytes-to_be_bytes_4 r.ssrc fits.ssrc) refl
 
 -- a packet is read as what it is, and so as one thing only
 pub rtp_only : (octets : List ℕ) (r : Reading) → Rtp octets r → rtp octets ≡ Ok r
 rtp_only octets r h =
     let behind : List ℕ = h.extension ++ (r.payload ++ h.padding) in
-    let fits : FitsFixed r = record { pt = h.pt; seq = h.seq; stamp = h.stamp; ssrc = h.ssrc } in
+    let fits : FitsFixed r = record { pt = h.pt; seq = h.seq; timestamp = h.timestamp; ssrc = h.ssrc } in
     let sources = past_front (4 * length h.sources) (flat_map (to_be_bytes w32) h.sources) behind (sources_size h.sources) in
     let extension = past_extension_is h.extended h.extension (r.payload ++ h.padding) h.is_extension in
     let padding = unpadded_is h.padded r.payload h.padding h.is_padding in

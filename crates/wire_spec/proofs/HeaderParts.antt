@@ -162,10 +162,10 @@ same_parts p q r s t u = cc
 -- the header that these octets have, with this payload
 abbrev header_of : (b0 b1 b2 b3 b4 b5 b6 b7 b8 b9 b10 b11 : ℕ) → List ℕ → List ℕ → Reading
 header_of b0 b1 b2 b3 b4 b5 b6 b7 b8 b9 b10 b11 tail payload = record {
-  mark = leb 128 b1;
+  marker_bit = leb 128 b1;
   pt = b1 % 128;
   seq = from_be_bytes w16 (b2 ∷ b3 ∷ []);
-  stamp = from_be_bytes w32 (b4 ∷ b5 ∷ b6 ∷ b7 ∷ []);
+  timestamp = from_be_bytes w32 (b4 ∷ b5 ∷ b6 ∷ b7 ∷ []);
   ssrc = from_be_bytes w32 (b8 ∷ b9 ∷ b10 ∷ b11 ∷ []);
   cc = b0 % 16;
   csrc = first_source (b0 % 16) tail;
@@ -180,7 +180,7 @@ put_together : (b0 b1 b2 b3 b4 b5 b6 b7 b8 b9 b10 b11 : ℕ) (tail after_sources
 put_together b0 b1 b2 b3 b4 b5 b6 b7 b8 b9 b10 b11 tail after_sources after_extension payload extension padding h version srcs front e_ext is_ext e_pad is_pad =
     let words : List ℕ = flat_map (to_be_bytes w32) srcs.sources in
     let seq = word_2 b2 b3 (h 2) (h 3) in
-    let stamp = word_4 b4 b5 b6 b7 (h 4) (h 5) (h 6) (h 7) in
+    let timestamp = word_4 b4 b5 b6 b7 (h 4) (h 5) (h 6) (h 7) in
     let ssrc = word_4 b8 b9 b10 b11 (h 8) (h 9) (h 10) (h 11) in
     let e_tail : tail ≡ words ++ (extension ++ (payload ++ padding)) =
     front ∙ ap (λ (y : List ℕ). y ++ after_sources) srcs.parts ∙ ap (λ (y : List ℕ). words ++ y) (e_ext ∙ ap (λ (y : List ℕ). extension ++ y) e_pad) in
@@ -193,12 +193,12 @@ put_together b0 b1 b2 b3 b4 b5 b6 b7 b8 b9 b10 b11 tail after_sources after_exte
       sources = srcs.sources;
       extension = extension;
       padding = padding;
-      parts = same_parts e_first e_second seq.1 stamp.1 ssrc.1 e_tail;
+      parts = same_parts e_first e_second seq.1 timestamp.1 ssrc.1 e_tail;
       is_extension = is_ext;
       is_padding = is_pad;
       pt = omega arith;
       seq = seq.0;
-      stamp = stamp.0;
+      timestamp = timestamp.0;
       ssrc = ssrc.0;
       few = omega (arith, srcs.count);
       each = srcs.each;

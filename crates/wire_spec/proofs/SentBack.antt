@@ -4,7 +4,7 @@ use Rattle.std.specs.Prelude.{◌==◌, option_to_list, unwrap_or, IfSome}
 use Rattle.std.proofs.lemmas.Bool.{le-ltb}
 use Rattle.std.proofs.lemmas.Bool.Decides.{nat_tests}
 use Rattle.rtt_base.specs.declared.blocks.TextBlock.{TextBlock}
-use Rattle.rtt_base.specs.declared.text_packets.Pts.{Pts}
+use Rattle.rtt_base.specs.declared.text_packets.PayloadTypes.{PayloadTypes}
 use Rattle.wire_spec.specs.declared.faults.TextFault.{TextFault}
 use Rattle.wire_spec.specs.Packets.{Packet, redundant, primary_text, primary, blocks_of}
 use Rattle.wire_spec.specs.Rtp.{FitsHeader}
@@ -27,9 +27,9 @@ primary_last [] b = refl
 primary_last (x ∷ []) b = refl
 primary_last (x ∷ y ∷ older) b = primary_last (y ∷ older) b
 
-payload_is : (pts : Pts) (p : Packet) → FitsPacket pts p → (older : List TextBlock) → p.older ≡ older → Red (payload_sent pts older p.primary) (type_sent pts older) pts (older ++ primary p.primary ∷ [])
-payload_is pts p f [] e = record { plain = λ q. record { all = refl; is_text = f.primary }; red = λ n. absurd (n refl) }
-payload_is pts p f (b ∷ older) e = record {
+payload_is : (payload_types : PayloadTypes) (p : Packet) → FitsPacket payload_types p → (older : List TextBlock) → p.older ≡ older → Red (payload_sent payload_types older p.primary) (type_sent payload_types older) payload_types (older ++ primary p.primary ∷ [])
+payload_is payload_types p f [] e = record { plain = λ q. record { all = refl; is_text = f.primary }; red = λ n. absurd (n refl) }
+payload_is payload_types p f (b ∷ older) e = record {
   plain = λ q. absurd (f.differ (sym q));
   red = λ n. (
     refl,
@@ -46,13 +46,13 @@ payload_is pts p f (b ∷ older) e = record {
   );
 }
 
-blocks_back : (pts : Pts) (p : Packet) → FitsPacket pts p → red (payload_sent pts p.older p.primary) (type_sent pts p.older) pts ≡ Ok (blocks_of p)
-blocks_back pts p f = red_only (payload_sent pts p.older p.primary) (type_sent pts p.older) pts (blocks_of p) (payload_is pts p f p.older refl)
+blocks_back : (payload_types : PayloadTypes) (p : Packet) → FitsPacket payload_types p → red (payload_sent payload_types p.older p.primary) (type_sent payload_types p.older) payload_types ≡ Ok (blocks_of p)
+blocks_back payload_types p f = red_only (payload_sent payload_types p.older p.primary) (type_sent payload_types p.older) payload_types (blocks_of p) (payload_is payload_types p f p.older refl)
 
 -- ---- the header
-type_fits : (pts : Pts) (older : List TextBlock) → pts.t140 < 2 ^ 7 → pts.red < 2 ^ 7 → type_sent pts older < 2 ^ 7
-type_fits pts [] t r = t
-type_fits pts (b ∷ older) t r = r
+type_fits : (payload_types : PayloadTypes) (older : List TextBlock) → payload_types.t140 < 2 ^ 7 → payload_types.red < 2 ^ 7 → type_sent payload_types older < 2 ^ 7
+type_fits payload_types [] t r = t
+type_fits payload_types (b ∷ older) t r = r
 
 source_fits : (b : Bool) (source : ℕ) → source < 2 ^ 32 → IfSome (cond b None (Some source)) (λ s. s < 2 ^ 32)
 source_fits true source l = tt
@@ -69,19 +69,19 @@ one_source : (csrc : Option ℕ) → length (option_to_list csrc) ≤ 1
 one_source None = omega arith
 one_source (Some source) = omega arith
 
-head_fits : (pts : Pts) (p : Packet) → FitsPacket pts p → FitsHeader (head_of pts p)
-head_fits pts p f = record { pt = type_fits pts p.older f.t140 f.red; seq = f.seq; stamp = f.stamp; ssrc = f.ssrc; csrc = source_fits (p.source == p.ssrc) p.source f.source }
+head_fits : (payload_types : PayloadTypes) (p : Packet) → FitsPacket payload_types p → FitsHeader (head_of payload_types p)
+head_fits payload_types p f = record { pt = type_fits payload_types p.older f.t140 f.red; seq = f.seq; timestamp = f.timestamp; ssrc = f.ssrc; csrc = source_fits (p.source == p.ssrc) p.source f.source }
 
 same_packet : (p : Packet) (source : ℕ) (older : List TextBlock) (text : List ℕ) → source ≡ p.source → older ≡ p.older → text ≡ p.primary
-    → (let r : Result Packet TextFault = Ok (record { mark = p.mark; seq = p.seq; stamp = p.stamp; ssrc = p.ssrc; source = source; older = older; primary = text }) in r) ≡ Ok p
+    → (let r : Result Packet TextFault = Ok (record { marker_bit = p.marker_bit; seq = p.seq; timestamp = p.timestamp; ssrc = p.ssrc; source = source; older = older; primary = text }) in r) ≡ Ok p
 same_packet p source older text a b c = rw (a, b, c) refl
 
-pub sent_back : (pts : Pts) (p : Packet) (asked : Option ℕ) → FitsPacket pts p → is_asked asked p.ssrc ≡ true → length (packet_written pts p) ≤ MOST_PACKET_OCTETS
-    → text_of (packet_written pts p) asked pts ≡ Ok p
+pub sent_back : (payload_types : PayloadTypes) (p : Packet) (asked : Option ℕ) → FitsPacket payload_types p → is_asked asked p.ssrc ≡ true → length (packet_written payload_types p) ≤ MOST_PACKET_OCTETS
+    → text_of (packet_written payload_types p) asked payload_types ≡ Ok p
 unfolding text_of text_of_short
-sent_back pts p asked f its short =
-    let long : ltb MOST_PACKET_OCTETS (length (packet_written pts p)) ≡ false = le-ltb MOST_PACKET_OCTETS (length (packet_written pts p)) short in
+sent_back payload_types p asked f its short =
+    let long : ltb MOST_PACKET_OCTETS (length (packet_written payload_types p)) ≡ false = le-ltb MOST_PACKET_OCTETS (length (packet_written payload_types p)) short in
     let sources : ltb 1 (length (option_to_list (csrc_of p))) ≡ false = le-ltb 1 (length (option_to_list (csrc_of p))) (one_source (csrc_of p)) in
-    let read = rtp_read_back (head_of pts p) (payload_sent pts p.older p.primary) (head_fits pts p f) in
-    rw (long, read, its, sources, blocks_back pts p f)
+    let read = rtp_read_back (head_of payload_types p) (payload_sent payload_types p.older p.primary) (head_fits payload_types p f) in
+    rw (long, read, its, sources, blocks_back payload_types p f)
     (same_packet p _ _ _ (source_back p.source p.ssrc) (redundant_front p.older (primary p.primary)) (primary_last p.older (primary p.primary)))

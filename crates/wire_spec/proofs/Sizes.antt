@@ -4,7 +4,7 @@ use Rattle.std.specs.Prelude.{option_to_list}
 use Rattle.std.specs.List.{flat_map, AllByRecursion}
 use Rattle.std.specs.Int.{w32, to_be_bytes}
 use Rattle.rtt_base.specs.declared.blocks.TextBlock.{TextBlock}
-use Rattle.rtt_base.specs.declared.text_packets.Pts.{Pts}
+use Rattle.rtt_base.specs.declared.text_packets.PayloadTypes.{PayloadTypes}
 use Rattle.wire_spec.specs.Packets.{Packet}
 use Rattle.wire_spec.specs.Rtp.{Head, rtp_written}
 use Rattle.wire_spec.specs.Red.{IsRedundant, red_header, red_spelling}
@@ -40,12 +40,12 @@ head_size h payload = let r = go h.csrc in omega (arith, r)
     go None = omega arith
     go (Some s) = omega arith
 
-payload_size : (pts : Pts) (older : List TextBlock) (text : List ℕ) → AreShortTexts older → length older ≤ 3 → length text ≤ MOST_TEXT_OCTETS → length (payload_sent pts older text) ≤ 4105
-payload_size pts [] text a l t = omega arith
-payload_size pts (b ∷ bs) text a l t = omega (arith, spelling_size pts.t140 (b ∷ bs) text, texts_size (b ∷ bs) a)
+payload_size : (payload_types : PayloadTypes) (older : List TextBlock) (text : List ℕ) → AreShortTexts older → length older ≤ 3 → length text ≤ MOST_TEXT_OCTETS → length (payload_sent payload_types older text) ≤ 4105
+payload_size payload_types [] text a l t = omega arith
+payload_size payload_types (b ∷ bs) text a l t = omega (arith, spelling_size payload_types.t140 (b ∷ bs) text, texts_size (b ∷ bs) a)
 
-pub packet_size : (pts : Pts) (p : Packet) → AreShortTexts p.older → length p.older ≤ 3 → length p.primary ≤ MOST_TEXT_OCTETS → length (packet_written pts p) ≤ MOST_PACKET_OCTETS
-packet_size pts p a l t = omega (arith, head_size (head_of pts p) (payload_sent pts p.older p.primary), payload_size pts p.older p.primary a l t)
+pub packet_size : (payload_types : PayloadTypes) (p : Packet) → AreShortTexts p.older → length p.older ≤ 3 → length p.primary ≤ MOST_TEXT_OCTETS → length (packet_written payload_types p) ≤ MOST_PACKET_OCTETS
+packet_size payload_types p a l t = omega (arith, head_size (head_of payload_types p) (payload_sent payload_types p.older p.primary), payload_size payload_types p.older p.primary a l t)
 
 pub redundant_short : (bs : List TextBlock) → AllByRecursion IsRedundant bs → AreShortTexts bs
 redundant_short [] a = tt

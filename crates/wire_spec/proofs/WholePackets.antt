@@ -2,7 +2,7 @@
 use Rattle.std.proofs.Common.{◌≡◌, ℕ, ◌≤◌, true, false, ltb, List, length, Option, None, Some, option_to_list, Ok, refl, ap, ◌∙◌, arith}
 use Rattle.std.proofs.lemmas.Bool.{le-ltb}
 use Rattle.rtt_base.specs.declared.blocks.TextBlock.{TextBlock}
-use Rattle.rtt_base.specs.declared.text_packets.Pts.{Pts}
+use Rattle.rtt_base.specs.declared.text_packets.PayloadTypes.{PayloadTypes}
 use Rattle.wire_spec.specs.Rtp.{Head, FitsHeader, reading_of, rtp_written}
 use Rattle.wire_spec.specs.Red.{FitsRed, red, red_written}
 use Rattle.wire_spec.specs.Text.{is_asked, text_packet, text_of_short, text_of}
@@ -14,11 +14,11 @@ one_source : (csrc : Option ℕ) → length (option_to_list csrc) ≤ 1
 one_source None = omega arith
 one_source (Some source) = omega arith
 
-pub text_read_back : (h : Head) (blocks : List TextBlock) (asked : Option ℕ) (pts : Pts) → FitsHeader h → h.pt ≡ pts.red → FitsRed blocks pts → is_asked asked h.ssrc ≡ true → length (rtp_written h (red_written blocks pts)) ≤ MOST_PACKET_OCTETS
-    → text_of (rtp_written h (red_written blocks pts)) asked pts ≡ Ok (text_packet (reading_of h (red_written blocks pts)) blocks)
+pub text_read_back : (h : Head) (blocks : List TextBlock) (asked : Option ℕ) (payload_types : PayloadTypes) → FitsHeader h → h.pt ≡ payload_types.red → FitsRed blocks payload_types → is_asked asked h.ssrc ≡ true → length (rtp_written h (red_written blocks payload_types)) ≤ MOST_PACKET_OCTETS
+    → text_of (rtp_written h (red_written blocks payload_types)) asked payload_types ≡ Ok (text_packet (reading_of h (red_written blocks payload_types)) blocks)
 unfolding text_of text_of_short
-text_read_back h blocks asked pts fits type blocks_fit is_its short =
-    let long : ltb MOST_PACKET_OCTETS (length (rtp_written h (red_written blocks pts))) ≡ false = le-ltb MOST_PACKET_OCTETS (length (rtp_written h (red_written blocks pts))) short in
+text_read_back h blocks asked payload_types fits type blocks_fit is_its short =
+    let long : ltb MOST_PACKET_OCTETS (length (rtp_written h (red_written blocks payload_types))) ≡ false = le-ltb MOST_PACKET_OCTETS (length (rtp_written h (red_written blocks payload_types))) short in
     let sources : ltb 1 (length (option_to_list h.csrc)) ≡ false = le-ltb 1 (length (option_to_list h.csrc)) (one_source h.csrc) in
-    let payload = ap (λ (pt : ℕ). red (red_written blocks pts) pt pts) type ∙ red_read_back blocks pts blocks_fit in
-    rw (long, rtp_read_back h (red_written blocks pts) fits, is_its, sources, payload) refl
+    let payload = ap (λ (pt : ℕ). red (red_written blocks payload_types) pt payload_types) type ∙ red_read_back blocks payload_types blocks_fit in
+    rw (long, rtp_read_back h (red_written blocks payload_types) fits, is_its, sources, payload) refl

@@ -2,7 +2,7 @@
 use Rattle.std.specs.Prelude.{ℕ, zero, suc, ◌<◌, ◌≤◌, ◌+◌, ◌-◌, ◌==◌, max, nat_eq, List, [], ◌∷◌, ◌++◌, length, take, drop, Option, None, Some, Result, Ok, Err, nat_lt, if◌then◌else◌, codes}
 use Rattle.std.specs.List.{flat_map, starts_with}
 use Rattle.std.specs.Int.{w16, w32, to_be_bytes, from_be_bytes}
-use Rattle.rtt_base.specs.declared.text_packets.Pts.{Pts}
+use Rattle.rtt_base.specs.declared.text_packets.PayloadTypes.{PayloadTypes}
 use Rattle.wire_spec.specs.declared.faults.TextFault.{TextFault}
 use Rattle.wire_spec.specs.declared.faults.DumpKind.{DumpKind}
 use Rattle.wire_spec.specs.declared.faults.DumpKind.TheVariants.{NotDump, BadLength, EndsInside, TooLong, TooLarge}
@@ -146,17 +146,17 @@ abbrev pub arrived : ℕ → Result Packet TextFault → List Arrival → List A
 arrived time (Err fault) past = past
 arrived time (Ok packet) past = record { time = max time (latest past); packet = packet } ∷ past
 
-abbrev pub arrivals_with : ℕ → Pts → Item → List Arrival → List Arrival
-arrivals_with ssrc pts item past =
-    elim item.what [ Whole octets ↦ arrived item.time (text_of octets (Some ssrc) pts) past | Rtcp ↦ past | Cut ↦ past | Large ↦ past ]
+abbrev pub arrivals_with : ℕ → PayloadTypes → Item → List Arrival → List Arrival
+arrivals_with ssrc payload_types item past =
+    elim item.what [ Whole octets ↦ arrived item.time (text_of octets (Some ssrc) payload_types) past | Rtcp ↦ past | Cut ↦ past | Large ↦ past ]
 
-abbrev pub arrivals_after : ℕ → Pts → List Arrival → List Item → List Arrival
-arrivals_after ssrc pts past [] = past
-arrivals_after ssrc pts past (item ∷ items) = arrivals_after ssrc pts (arrivals_with ssrc pts item past) items
+abbrev pub arrivals_after : ℕ → PayloadTypes → List Arrival → List Item → List Arrival
+arrivals_after ssrc payload_types past [] = past
+arrivals_after ssrc payload_types past (item ∷ items) = arrivals_after ssrc payload_types (arrivals_with ssrc payload_types item past) items
 
 -- the arrivals of a stream out of a recording, newest first
-unfoldable pub arrivals : List ℕ → ℕ → Pts → List Arrival
-arrivals octets ssrc pts = arrivals_after ssrc pts [] (dump usual_limit octets).items
+unfoldable pub arrivals : List ℕ → ℕ → PayloadTypes → List Arrival
+arrivals octets ssrc payload_types = arrivals_after ssrc payload_types [] (dump usual_limit octets).items
 
 -- ---- writing
 

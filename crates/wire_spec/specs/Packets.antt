@@ -5,9 +5,9 @@ use Rattle.rtt_base.specs.declared.text_packets.TextPacket.{TextPacket}
 
 -- a packet: its redundant blocks, oldest first, and its primary text
 pub record Packet : Type 0 where
-  pub mark : Bool
+  pub marker_bit : Bool
   pub seq : ℕ
-  pub stamp : ℕ
+  pub timestamp : ℕ
   pub ssrc : ℕ
   pub source : ℕ
   pub older : List TextBlock
@@ -45,7 +45,7 @@ blocks_of p = p.older ++ primary p.primary ∷ []
 -- what a program's packet stands for
 abbrev pub packet_of : TextPacket → Packet
 packet_of p =
-    record { mark = p.mark; seq = p.seq; stamp = p.stamp; ssrc = p.ssrc; source = p.source; older = redundant p.blocks; primary = primary_text p.blocks }
+    record { marker_bit = p.marker_bit; seq = p.seq; timestamp = p.timestamp; ssrc = p.ssrc; source = p.source; older = redundant p.blocks; primary = primary_text p.blocks }
 
 -- ---- packets whose texts are UTF-8
 abbrev pub AreTextBlocks : List TextBlock → Type 0
@@ -61,12 +61,12 @@ abbrev pub AreTextArrivals : List Arrival → Type 0
 AreTextArrivals [] = Unit {0}
 AreTextArrivals (a ∷ past) = IsTextPacket a.packet × AreTextArrivals past
 
--- ---- texts and stamps of blocks
+-- ---- texts and timestamps of blocks
 -- whether a block has text
 abbrev pub has_text : List ℕ → Bool
 has_text [] = false
 has_text (x ∷ xs) = true
 
--- the stamp of a block that lies this far before the packet's: they go round modulo 2^32
+-- the timestamp of a block that lies this far before the packet's: they go round modulo 2^32
 abbrev pub back : ℕ → ℕ → ℕ
-back stamp offset = (stamp + 2 ^ 32 - offset) % 2 ^ 32
+back timestamp offset = (timestamp + 2 ^ 32 - offset) % 2 ^ 32

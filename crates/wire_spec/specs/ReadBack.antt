@@ -2,7 +2,7 @@
 use Rattle.std.specs.Prelude.{◌≡◌, ℕ, ◌≤◌, true, List, length, map, Option, None, Ok}
 use Rattle.std.specs.List.{AllByRecursion}
 use Rattle.rtt_base.specs.declared.blocks.TextBlock.{TextBlock}
-use Rattle.rtt_base.specs.declared.text_packets.Pts.{Pts}
+use Rattle.rtt_base.specs.declared.text_packets.PayloadTypes.{PayloadTypes}
 use Rattle.wire_spec.specs.Packets.{Packet}
 use Rattle.wire_spec.specs.Rtp.{IsOctets, Reading, Rtp, Head, FitsHeader, rtp, reading_of, rtp_written}
 use Rattle.wire_spec.specs.Red.{Red, FitsRed, red, red_written}
@@ -31,57 +31,57 @@ HeadersReadOneWay =
 -- A payload that is the sum of blocks is read as these.
 abbrev pub SumsAreRead : Type 0
 SumsAreRead =
-    (octets : List ℕ) (pt : ℕ) (pts : Pts) (blocks : List TextBlock)
-    → Red octets pt pts blocks
-    → red octets pt pts ≡ Ok blocks
+    (octets : List ℕ) (pt : ℕ) (payload_types : PayloadTypes) (blocks : List TextBlock)
+    → Red octets pt payload_types blocks
+    → red octets pt payload_types ≡ Ok blocks
 
 -- A payload is the sum of the blocks as which it is read.
 abbrev pub ReadAreSums : Type 0
 ReadAreSums =
-    (octets : List ℕ) (pt : ℕ) (pts : Pts) (blocks : List TextBlock)
+    (octets : List ℕ) (pt : ℕ) (payload_types : PayloadTypes) (blocks : List TextBlock)
     → IsOctets octets
-    → red octets pt pts ≡ Ok blocks
-    → Red octets pt pts blocks
+    → red octets pt payload_types ≡ Ok blocks
+    → Red octets pt payload_types blocks
 
 -- Blocks that are written are read back.
 abbrev pub BlocksAreReadBack : Type 0
 BlocksAreReadBack =
-    (blocks : List TextBlock) (pts : Pts)
-    → FitsRed blocks pts
-    → red (red_written blocks pts) pts.red pts ≡ Ok blocks
+    (blocks : List TextBlock) (payload_types : PayloadTypes)
+    → FitsRed blocks payload_types
+    → red (red_written blocks payload_types) payload_types.red payload_types ≡ Ok blocks
 
 -- They have no other reading.
 abbrev pub BlocksReadOneWay : Type 0
 BlocksReadOneWay =
-    (blocks : List TextBlock) (pts : Pts) (others : List TextBlock)
-    → FitsRed blocks pts
-    → Red (red_written blocks pts) pts.red pts others
+    (blocks : List TextBlock) (payload_types : PayloadTypes) (others : List TextBlock)
+    → FitsRed blocks payload_types
+    → Red (red_written blocks payload_types) payload_types.red payload_types others
     → others ≡ blocks
 
 -- ---- packets of text
 -- the octets of a packet in red form
-abbrev pub red_packet : Head → List TextBlock → Pts → List ℕ
-red_packet h blocks pts = rtp_written h (red_written blocks pts)
+abbrev pub red_packet : Head → List TextBlock → PayloadTypes → List ℕ
+red_packet h blocks payload_types = rtp_written h (red_written blocks payload_types)
 
 -- A packet of text in red form is read back, where its stream is asked for.
 abbrev pub RedPacketsAreReadBack : Type 0
 RedPacketsAreReadBack =
-    (h : Head) (blocks : List TextBlock) (asked : Option ℕ) (pts : Pts)
+    (h : Head) (blocks : List TextBlock) (asked : Option ℕ) (payload_types : PayloadTypes)
     → FitsHeader h
-    → h.pt ≡ pts.red
-    → FitsRed blocks pts
+    → h.pt ≡ payload_types.red
+    → FitsRed blocks payload_types
     → is_asked asked h.ssrc ≡ true
-    → length (red_packet h blocks pts) ≤ MOST_PACKET_OCTETS
-    → text_of (red_packet h blocks pts) asked pts ≡ Ok (text_packet (reading_of h (red_written blocks pts)) blocks)
+    → length (red_packet h blocks payload_types) ≤ MOST_PACKET_OCTETS
+    → text_of (red_packet h blocks payload_types) asked payload_types ≡ Ok (text_packet (reading_of h (red_written blocks payload_types)) blocks)
 
 -- A packet of text that is sent, in red form or in plain form, is read back, where its stream is asked for.
 abbrev pub SentPacketsAreReadBack : Type 0
 SentPacketsAreReadBack =
-    (pts : Pts) (p : Packet) (asked : Option ℕ)
-    → FitsPacket pts p
+    (payload_types : PayloadTypes) (p : Packet) (asked : Option ℕ)
+    → FitsPacket payload_types p
     → is_asked asked p.ssrc ≡ true
-    → length (packet_written pts p) ≤ MOST_PACKET_OCTETS
-    → text_of (packet_written pts p) asked pts ≡ Ok p
+    → length (packet_written payload_types p) ≤ MOST_PACKET_OCTETS
+    → text_of (packet_written payload_types p) asked payload_types ≡ Ok p
 
 -- ---- recordings
 -- What is still to come of a recording is one step and what comes after it.

@@ -4,7 +4,7 @@ use Rattle.std.specs.List.{flat_map, AllByRecursion}
 use Rattle.std.specs.Str.{is_utf8}
 use Rattle.std.specs.Int.{bytes_high_first}
 use Rattle.rtt_base.specs.declared.blocks.TextBlock.{TextBlock}
-use Rattle.rtt_base.specs.declared.text_packets.Pts.{Pts}
+use Rattle.rtt_base.specs.declared.text_packets.PayloadTypes.{PayloadTypes}
 use Rattle.wire_spec.specs.declared.faults.RedFault.{RedFault}
 use Rattle.wire_spec.specs.declared.faults.RedFault.TheVariants.{WrongType, Cut, Many, Long, NotText}
 use Rattle.wire_spec.specs.declared.headers.RedHeader.{RedHeader}
@@ -47,9 +47,9 @@ pub record PlainText (octets : List ℕ) (blocks : List TextBlock) : Type 0 wher
   pub is_text : IsText octets
 
 -- the payload of this type is these blocks
-pub record Red (octets : List ℕ) (pt : ℕ) (pts : Pts) (blocks : List TextBlock) : Type 0 where
-  pub plain : pt ≡ pts.t140 → PlainText octets blocks
-  pub red : pt ≢ pts.t140 → (pt ≡ pts.red) × RedBlocks octets pts.t140 blocks
+pub record Red (octets : List ℕ) (pt : ℕ) (payload_types : PayloadTypes) (blocks : List TextBlock) : Type 0 where
+  pub plain : pt ≡ payload_types.t140 → PlainText octets blocks
+  pub red : pt ≢ payload_types.t140 → (pt ≡ payload_types.red) × RedBlocks octets payload_types.t140 blocks
 
 -- ---- reading, with the first test that fails
 
@@ -111,22 +111,22 @@ texts_at hs octets =
     else (if nat_lt (older_size hs + MOST_TEXT_OCTETS) (length octets) then Err Long
     else checked (blocks_at hs octets))
 
-unfoldable pub red : List ℕ → ℕ → Pts → Result (List TextBlock) RedFault
-red octets pt pts =
-    if pt == pts.t140 then texts_at [] octets
-    else (if pt == pts.red then (headers_at 8 pts.t140 octets >>= λ hs. texts_at hs.headers hs.texts) else Err WrongType)
+unfoldable pub red : List ℕ → ℕ → PayloadTypes → Result (List TextBlock) RedFault
+red octets pt payload_types =
+    if pt == payload_types.t140 then texts_at [] octets
+    else (if pt == payload_types.red then (headers_at 8 payload_types.t140 octets >>= λ hs. texts_at hs.headers hs.texts) else Err WrongType)
 
 -- ---- writing
 
 -- the one spelling in red form: the last block is the primary one
-abbrev pub red_written : List TextBlock → Pts → List ℕ
-red_written blocks pts = red_spelling pts.t140 (redundant blocks) (primary_text blocks)
+abbrev pub red_written : List TextBlock → PayloadTypes → List ℕ
+red_written blocks payload_types = red_spelling payload_types.t140 (redundant blocks) (primary_text blocks)
 
 -- what has a spelling
-pub record FitsRed (blocks : List TextBlock) (pts : Pts) : Type 0 where
+pub record FitsRed (blocks : List TextBlock) (payload_types : PayloadTypes) : Type 0 where
   pub all : HasPrimary blocks
   pub few : length blocks ≤ 9
   pub each : AllByRecursion IsRedundant (redundant blocks)
   pub is_text : IsText (primary_text blocks)
-  pub t140 : pts.t140 < 2 ^ 7
-  pub differ : pts.t140 ≢ pts.red
+  pub t140 : payload_types.t140 < 2 ^ 7
+  pub differ : payload_types.t140 ≢ payload_types.red

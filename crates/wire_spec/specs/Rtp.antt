@@ -8,10 +8,10 @@ use Rattle.rtt_base.specs.Steps.{◌>>=◌}
 
 -- what is read of a packet: cc is the number of CSRCs, csrc the first of them
 pub record Reading : Type 0 where
-  pub mark : Bool
+  pub marker_bit : Bool
   pub pt : ℕ
   pub seq : ℕ
-  pub stamp : ℕ
+  pub timestamp : ℕ
   pub ssrc : ℕ
   pub cc : ℕ
   pub csrc : Option ℕ
@@ -52,7 +52,7 @@ IsPadding true octets = (front : List ℕ) × (octets ≡ front ++ (length front
 
 abbrev pub fixed_header : Bool → Bool → ℕ → Reading → List ℕ
 fixed_header padded extended cc r =
-    (128 + 32 * bit padded + 16 * bit extended + cc) ∷ (128 * bit r.mark + r.pt) ∷ (to_be_bytes w16 r.seq ++ (to_be_bytes w32 r.stamp ++ to_be_bytes w32 r.ssrc))
+    (128 + 32 * bit padded + 16 * bit extended + cc) ∷ (128 * bit r.marker_bit + r.pt) ∷ (to_be_bytes w16 r.seq ++ (to_be_bytes w32 r.timestamp ++ to_be_bytes w32 r.ssrc))
 
 -- the octets are a packet that reads so
 pub record Rtp (octets : List ℕ) (r : Reading) : Type 0 where
@@ -66,7 +66,7 @@ pub record Rtp (octets : List ℕ) (r : Reading) : Type 0 where
   pub is_padding : IsPadding padded padding
   pub pt : r.pt < 2 ^ 7
   pub seq : r.seq < 2 ^ 16
-  pub stamp : r.stamp < 2 ^ 32
+  pub timestamp : r.timestamp < 2 ^ 32
   pub ssrc : r.ssrc < 2 ^ 32
   pub few : length sources < 2 ^ 4
   pub each : AllByRecursion (λ source. source < 2 ^ 32) sources
@@ -109,10 +109,10 @@ rtp_of_header octets =
       after_extension ← past_extension (first / 16 % 2 == 1) after_sources
       payload ← unpadded (first / 32 % 2 == 1) after_extension
       Ok (record {
-        mark = nat_le 128 second;
+        marker_bit = nat_le 128 second;
         pt = second % 128;
         seq = from_be_bytes w16 (drop 2 octets);
-        stamp = from_be_bytes w32 (drop 4 octets);
+        timestamp = from_be_bytes w32 (drop 4 octets);
         ssrc = from_be_bytes w32 (drop 8 octets);
         cc = first % 16;
         csrc = first_source (first % 16) (drop 12 octets);
@@ -128,17 +128,17 @@ rtp octets =
 
 -- what is written of a header: one CSRC or none
 pub record Head : Type 0 where
-  pub mark : Bool
+  pub marker_bit : Bool
   pub pt : ℕ
   pub seq : ℕ
-  pub stamp : ℕ
+  pub timestamp : ℕ
   pub ssrc : ℕ
   pub csrc : Option ℕ
 
 -- what is read of a packet that was written so
 abbrev pub reading_of : Head → List ℕ → Reading
 reading_of h payload =
-    record { mark = h.mark; pt = h.pt; seq = h.seq; stamp = h.stamp; ssrc = h.ssrc; cc = length (option_to_list h.csrc); csrc = h.csrc; payload = payload }
+    record { marker_bit = h.marker_bit; pt = h.pt; seq = h.seq; timestamp = h.timestamp; ssrc = h.ssrc; cc = length (option_to_list h.csrc); csrc = h.csrc; payload = payload }
 
 -- the one spelling, without extension and padding
 abbrev pub rtp_written : Head → List ℕ → List ℕ
@@ -153,6 +153,6 @@ header_size h = 12 + 4 * length (option_to_list h.csrc)
 pub record FitsHeader (h : Head) : Type 0 where
   pub pt : h.pt < 2 ^ 7
   pub seq : h.seq < 2 ^ 16
-  pub stamp : h.stamp < 2 ^ 32
+  pub timestamp : h.timestamp < 2 ^ 32
   pub ssrc : h.ssrc < 2 ^ 32
   pub csrc : IfSome h.csrc (λ source. source < 2 ^ 32)

@@ -4,7 +4,7 @@
 use Rattle.std.specs.Prelude.{ℕ, ◌≢◌, ◌<◌, ◌≤◌, ◌^◌, ◌==◌, Option, None, Some, List, [], ◌∷◌, length, if◌then◌else◌}
 use Rattle.std.specs.List.{AllByRecursion}
 use Rattle.rtt_base.specs.declared.blocks.TextBlock.{TextBlock}
-use Rattle.rtt_base.specs.declared.text_packets.Pts.{Pts}
+use Rattle.rtt_base.specs.declared.text_packets.PayloadTypes.{PayloadTypes}
 use Rattle.wire_spec.specs.Packets.{Packet}
 use Rattle.wire_spec.specs.Rtp.{Head, rtp_written}
 use Rattle.wire_spec.specs.Red.{IsText, IsRedundant, red_spelling}
@@ -14,31 +14,31 @@ abbrev pub csrc_of : Packet → Option ℕ
 csrc_of p = if p.source == p.ssrc then None else Some p.source
 
 -- the payload type of a primary text behind these blocks
-abbrev pub type_sent : Pts → List TextBlock → ℕ
-type_sent pts [] = pts.t140
-type_sent pts (b ∷ bs) = pts.red
+abbrev pub type_sent : PayloadTypes → List TextBlock → ℕ
+type_sent payload_types [] = payload_types.t140
+type_sent payload_types (b ∷ bs) = payload_types.red
 
 -- the payload of a primary text behind these blocks
-abbrev pub payload_sent : Pts → List TextBlock → List ℕ → List ℕ
-payload_sent pts [] text = text
-payload_sent pts (b ∷ bs) text = red_spelling pts.t140 (b ∷ bs) text
+abbrev pub payload_sent : PayloadTypes → List TextBlock → List ℕ → List ℕ
+payload_sent payload_types [] text = text
+payload_sent payload_types (b ∷ bs) text = red_spelling payload_types.t140 (b ∷ bs) text
 
-abbrev pub head_of : Pts → Packet → Head
-head_of pts p =
-    record { mark = p.mark; pt = type_sent pts p.older; seq = p.seq; stamp = p.stamp; ssrc = p.ssrc; csrc = csrc_of p }
+abbrev pub head_of : PayloadTypes → Packet → Head
+head_of payload_types p =
+    record { marker_bit = p.marker_bit; pt = type_sent payload_types p.older; seq = p.seq; timestamp = p.timestamp; ssrc = p.ssrc; csrc = csrc_of p }
 
-abbrev pub packet_written : Pts → Packet → List ℕ
-packet_written pts p = rtp_written (head_of pts p) (payload_sent pts p.older p.primary)
+abbrev pub packet_written : PayloadTypes → Packet → List ℕ
+packet_written payload_types p = rtp_written (head_of payload_types p) (payload_sent payload_types p.older p.primary)
 
 -- what has such octets, in a stream with these payload types
-pub record FitsPacket (pts : Pts) (p : Packet) : Type 0 where
+pub record FitsPacket (payload_types : PayloadTypes) (p : Packet) : Type 0 where
   pub seq : p.seq < 2 ^ 16
-  pub stamp : p.stamp < 2 ^ 32
+  pub timestamp : p.timestamp < 2 ^ 32
   pub ssrc : p.ssrc < 2 ^ 32
   pub source : p.source < 2 ^ 32
   pub few : length p.older ≤ 8
   pub older : AllByRecursion IsRedundant p.older
   pub primary : IsText p.primary
-  pub t140 : pts.t140 < 2 ^ 7
-  pub red : pts.red < 2 ^ 7
-  pub differ : pts.t140 ≢ pts.red
+  pub t140 : payload_types.t140 < 2 ^ 7
+  pub red : payload_types.red < 2 ^ 7
+  pub differ : payload_types.t140 ≢ payload_types.red

@@ -1,7 +1,7 @@
 -- The packet of text that octets are, or why they are none (RFC 4103, section 4; RFC 9071: one source per packet).
 use Rattle.std.specs.Prelude.{ℕ, ◌==◌, Bool, true, Option, None, Some, unwrap_or, List, length, Result, Ok, Err, nat_lt, if◌then◌else◌}
 use Rattle.rtt_base.specs.declared.blocks.TextBlock.{TextBlock}
-use Rattle.rtt_base.specs.declared.text_packets.Pts.{Pts}
+use Rattle.rtt_base.specs.declared.text_packets.PayloadTypes.{PayloadTypes}
 use Rattle.wire_spec.specs.declared.faults.TextFault.{TextFault}
 use Rattle.wire_spec.specs.declared.faults.TextFault.TheVariants.{Sources, Long, Foreign}
 use Rattle.wire_spec.specs.Faults.{header_fault, blocks_fault}
@@ -27,15 +27,15 @@ accepted asked r = if is_asked asked r.ssrc then (if nat_lt 1 r.cc then Err Sour
 -- the packet of these blocks: its source is the only CSRC, or the SSRC
 abbrev pub text_packet : Reading → List TextBlock → Packet
 text_packet r blocks =
-    record { mark = r.mark; seq = r.seq; stamp = r.stamp; ssrc = r.ssrc; source = unwrap_or r.csrc r.ssrc; older = redundant blocks; primary = primary_text blocks }
+    record { marker_bit = r.marker_bit; seq = r.seq; timestamp = r.timestamp; ssrc = r.ssrc; source = unwrap_or r.csrc r.ssrc; older = redundant blocks; primary = primary_text blocks }
 
 -- a packet of at most 4224 octets
-unfoldable pub text_of_short : List ℕ → Option ℕ → Pts → Result Packet TextFault
-text_of_short octets asked pts = do
+unfoldable pub text_of_short : List ℕ → Option ℕ → PayloadTypes → Result Packet TextFault
+text_of_short octets asked payload_types = do
   reading ← refused_as header_fault (rtp octets)
   r ← accepted asked reading
-  blocks ← refused_as blocks_fault (red r.payload r.pt pts)
+  blocks ← refused_as blocks_fault (red r.payload r.pt payload_types)
   Ok (text_packet r blocks)
 
-unfoldable pub text_of : List ℕ → Option ℕ → Pts → Result Packet TextFault
-text_of octets asked pts = if nat_lt MOST_PACKET_OCTETS (length octets) then Err Long else text_of_short octets asked pts
+unfoldable pub text_of : List ℕ → Option ℕ → PayloadTypes → Result Packet TextFault
+text_of octets asked payload_types = if nat_lt MOST_PACKET_OCTETS (length octets) then Err Long else text_of_short octets asked payload_types

@@ -11,7 +11,7 @@ pub const LEGS: usize = 4;
 
 /// A chunk that was taken.
 #[derive(Drop)]
-struct Taken {
+struct TakenChunk {
     text: Text,
     /// Of each terminal, whether it still waits there.
     waits: [bool; LEGS],
@@ -19,20 +19,20 @@ struct Taken {
 
 /// The chunks of one source.
 #[derive(Drop)]
-struct Lane {
+struct PlainLane {
     /// Of each terminal, whether it hears what comes.
     heard: [bool; LEGS],
-    taken: Vec<Taken>,
+    taken: Vec<TakenChunk>,
 }
 
-impl Lane {
+impl PlainLane {
     /// It is heard by each terminal but the source's own.
-    fn new(alloc: Global, own: usize) -> Lane
+    fn new(alloc: Global, own: usize) -> PlainLane
         requires { own < LEGS }
     {
         let mut heard = [true; LEGS];
         heard[own] = false;
-        Lane {
+        PlainLane {
             heard,
             taken: Vec::new(alloc),
         }
@@ -58,7 +58,7 @@ impl Lane {
         }
         let mut text = Text::new();
         let _ = text.append(chunk.text.as_slice());
-        self.taken.push(Taken {
+        self.taken.push(TakenChunk {
             text,
             waits: self.heard,
         })?;
@@ -106,7 +106,7 @@ impl Lane {
 /// The chunks that wait, as `Slots` has them.
 #[derive(Drop)]
 pub struct Plain {
-    lanes: [Lane; LEGS],
+    lanes: [PlainLane; LEGS],
 }
 
 impl Plain {
@@ -114,10 +114,10 @@ impl Plain {
     pub fn new(alloc: Global) -> Plain {
         Plain {
             lanes: [
-                Lane::new(alloc, 0),
-                Lane::new(alloc, 1),
-                Lane::new(alloc, 2),
-                Lane::new(alloc, 3),
+                PlainLane::new(alloc, 0),
+                PlainLane::new(alloc, 1),
+                PlainLane::new(alloc, 2),
+                PlainLane::new(alloc, 3),
             ],
         }
     }

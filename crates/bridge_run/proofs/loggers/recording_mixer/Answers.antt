@@ -1,10 +1,10 @@
 use Rattle.std.proofs.Common.{[], ap, subst, sym, ◌∙◌, length, arith}
 use Rattle.std.proofs.lemmas.List.{length-map}
 use Rattle.mixer_spec.specs.Setups.{setup}
-use Rattle.conference.specs.Conferences.{conf_of}
+use Rattle.conference.specs.Conferences.{meaning_of}
 use Rattle.mixer_turn.specs.States.{State}
-use Rattle.mixer_turn.specs.Standing.{StandsFor}
-use Rattle.mixer_posts.specs.Streams.{pts_at}
+use Rattle.mixer_turn.specs.Standing.{MixerStandsFor}
+use Rattle.mixer_posts.specs.Streams.{payload_types_at}
 use Rattle.sent_log.specs.States as logs
 use Rattle.sent_log.specs.States.{Sending}
 use Rattle.bridge_run.specs.Logs.{HasSent, sources_in}
@@ -12,12 +12,12 @@ use Rattle.bridge_run.proofs.loggers.recording_mixer.Goals as goal
 
 pub returns-clause-stands : goal.returns-clause-stands
 returns-clause-stands c =
-    let conf = conf_of c.args.conf.now in
+    let conference = meaning_of c.args.conference.now in
     let made = c.new-4.ensures in
     let log = c.in-Ok-new-2.ensures in
     record {
-      stands = subst (λ (m : State). StandsFor (setup conf) m []) (sym made.mixer) c.in-Ok.ensures.stands;
-      sent = subst (λ (l : logs.State). HasSent (setup conf) (pts_at conf) l []) (sym made.outbound) log.silent;
+      stands = subst (λ (m : State). MixerStandsFor (setup conference) m []) (sym made.mixer) c.in-Ok.ensures.stands;
+      sent = subst (λ (l : logs.State). HasSent (setup conference) (payload_types_at conference) l []) (sym made.outbound) log.silent;
       all = ap (λ (l : logs.State). length (sources_in l)) made.outbound ∙ (length-map c.in-Ok-new-2.log (λ (x : Sending). length x.sources) ∙ log.terminals);
       early = tt;
       few = omega arith;

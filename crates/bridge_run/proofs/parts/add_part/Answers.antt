@@ -8,5 +8,5 @@ returns-clause-adds c = record {
   views = ap (λ (pieces : List (List ℕ)). concat pieces) c.in_ok-add_pieces.ensures ∙ concat-append c.args.all.now.views.items c.args.part.views.items;
   packets = refl;
   used = refl;
-  marks = refl;
+  markers = refl;
 }

@@ -1,7 +1,7 @@
 use Rattle.std.proofs.Common.{ℕ, ◌+◌, ◌*◌, ap, sym, ◌∙◌, arith}
 use Rattle.std.specs.Prelude.{min}
 use Rattle.std.proofs.lemmas.List.{length-map}
-use Rattle.conference.specs.Conferences.{conf_of}
+use Rattle.conference.specs.Conferences.{meaning_of}
 use Rattle.sent_log.specs.States.{recording_of}
 use Rattle.sent_files.specs.Files.{recordings_of}
 use Rattle.bridge_run.proofs.Joining.{more_parts, part_is}
@@ -18,6 +18,6 @@ returns c =
     let all = length-map log recording_of in
     let first = c.terminals.ensures ∙ sym all in
     let second = c.terminals-2.ensures ∙ sym all in
-    part_is (conf_of c.args.conf.now) (recordings_of log) size number c.begin_of-from.result c.begin_of-to.result c.views_between.result
+    part_is (meaning_of c.args.conference.now) (recordings_of log) size number c.begin_of-from.result c.begin_of-to.result c.views_between.result
     (c.begin_of-from.ensures ∙ ap (λ (n : ℕ). min (number * size) n) first) (c.begin_of-to.ensures ∙ ap (λ (n : ℕ). min ((number + 1) * size) n) second)
-    (omega (arith, all, c.requires.each, c.args.conf.now.kept.legs.most)) c.views_between.ensures.views c.views_between.ensures.numbers
+    (omega (arith, all, c.requires.each, c.args.conference.now.kept.legs.most)) c.views_between.ensures.views c.views_between.ensures.numbers

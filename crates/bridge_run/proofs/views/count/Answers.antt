@@ -10,5 +10,5 @@ returns-clause-with_it c = λ n before.
     record {
       packets = omega (arith, before.packets, few.packets, few.used, packets, used);
       used = omega (arith, before.used, few.packets, few.used, packets, used);
-      marks = omega (arith, before.marks, few.marks, c.marks_of.ensures);
+      markers = omega (arith, before.markers, few.markers, c.markers_of.ensures);
     }

@@ -1,5 +1,5 @@
 use Rattle.std.proofs.Common.{◌<◌, length, get_or, arith}
-use Rattle.conference.specs.Conferences.{conf_of}
+use Rattle.conference.specs.Conferences.{meaning_of}
 use Rattle.command_spec.specs.Mixing.{records_to}
 use Rattle.played.specs.Written.{IsPlayable}
 use Rattle.bridge_run.proofs.Recorded.{sent_within}
@@ -13,17 +13,17 @@ pub loop-own-init : goal.loop-own-init
 loop-own-init c =
     let n = c.nothing_seen-seen.ensures in
     record {
-      seen = λ table a. seen_none (conf_of c.args.conf.now) table c.args.from c.nothing_seen-seen.result n.views n.packets n.used n.marks;
-      numbers = record { packets = omega (arith, n.packets); used = omega (arith, n.used); marks = omega (arith, n.marks) };
+      seen = λ table a. seen_none (meaning_of c.args.conference.now) table c.args.from c.nothing_seen-seen.result n.views n.packets n.used n.markers;
+      numbers = record { packets = omega (arith, n.packets); used = omega (arith, n.used); markers = omega (arith, n.markers) };
     }
 
 pub loop-own-preserved : goal.loop-own-preserved
 loop-own-preserved c =
-    let q = conf_of c.args.conf.now in
+    let q = meaning_of c.args.conference.now in
     let own = c.loop-own.own in
-    let within : own < length c.args.conf.now.legs = omega (arith, c.requires.each) in
+    let within : own < length c.args.conference.now.legs = omega (arith, c.requires.each) in
     let d = no_leg in
-    let leg = get_or c.args.conf.now.legs own d in
+    let leg = get_or c.args.conference.now.legs own d in
     record {
       seen = λ table a. seen_more q table c.args.from own d c.loop-own.seen c.add_view.new.seen within (c.loop-own.invariant.seen table a)
           (c.in_ok-add_view.ensures.adds (records_to q table own leg) d (a own d within));

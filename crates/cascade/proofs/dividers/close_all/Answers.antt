@@ -1,5 +1,5 @@
 use Rattle.std.proofs.Common.{◌<◌, sym, subst, arith}
-use Rattle.cascade.specs.declared.splitters.Splitter.{Splitter}
+use Rattle.cascade.specs.declared.splitters.SourceRecording.{SourceRecording}
 use Rattle.cascade.specs.Splitters.{Closes}
 use Rattle.cascade.proofs.Gathering.{closing_none, closing_one, closing_all, still_typed}
 use Rattle.cascade.proofs.dividers.close_all.Goals as goal
@@ -10,7 +10,7 @@ loop-place-init c = closing_none c.args.splitters.now
 pub close-requires : goal.close-requires
 close-requires c =
     record {
-      t140 = subst (λ (x : Splitter). x.pts.t140 < 128) c.index-splitters-place.is
+      t140 = subst (λ (x : SourceRecording). x.payload_types.t140 < 128) c.index-splitters-place.is
           (still_typed c.args.splitters.now c.loop-place.splitters c.loop-place.place c.index-splitters-place.result c.loop-place.invariant
           (omega (arith, c.loop-place-test.true, c.loop-place.invariant.each)) c.index-splitters-place.is c.requires.t140);
     }
@@ -19,7 +19,7 @@ pub loop-place-preserved : goal.loop-place-preserved
 loop-place-preserved c =
     closing_one c.args.splitters.now c.loop-place.splitters c.loop-place.place c.index-splitters-place.result c.close.new.self c.loop-place.invariant
     (omega (arith, c.loop-place-test.true, c.loop-place.invariant.each)) c.index-splitters-place.is
-    (subst (λ (x : Splitter). Closes x c.close.new.self) (sym c.index-splitters-place.is) c.in_ok-close.ensures.closes)
+    (subst (λ (x : SourceRecording). Closes x c.close.new.self) (sym c.index-splitters-place.is) c.in_ok-close.ensures.closes)
 
 pub returns : goal.returns
 returns c = record { closes = closing_all c.args.splitters.now c.loop-place.splitters c.loop-place.place c.loop-place.invariant c.loop-place-test.false }

@@ -4,7 +4,7 @@ use Rattle.cascade.proofs.dividers.new_splitters.Goals as goal
 
 pub loop-source-preserved : goal.loop-source-preserved
 loop-source-preserved c =
-    started_more c.args.pts c.args.sources.now c.loop-source.splitters.items c.push.new.self.items c.loop-source.source-index c.in_ok-new.field-0
+    started_more c.args.payload_types c.args.sources.now c.loop-source.splitters.items c.push.new.self.items c.loop-source.source-index c.in_ok-new.field-0
     c.in_ok-push.ensures.items c.loop-source.invariant.0 c.loop-source.invariant.1 c.in_ok-new.ensures.splits
 
 pub returns : goal.returns

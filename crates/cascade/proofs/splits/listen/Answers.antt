@@ -24,7 +24,7 @@ loop-item-preserved g c =
       items = i.items ++ told ∷ [];
       read = more_read g.S.Source.tells g.S.Source.left g.S.Source.faults g.S.Source.name c.args.reader.now c.loop-item.reader c.next_record.new.self i.items c.next_record.new.out i.read
           c.in-Some.item c.as_slice.result.now c.as_slice.ensures.value (rw c.in-Some.is at c.in_ok-item.ensures);
-      listens = (r.0, r.1, arrivals_with r.0.ssrc r.0.pts told r.2, c.in_ok-hear_record.ensures.takes r.0 r.1 r.2 r.3);
+      listens = (r.0, r.1, arrivals_with r.0.ssrc r.0.payload_types told r.2, c.in_ok-hear_record.ensures.takes r.0 r.1 r.2 r.3);
       few = omega (arith, c.in_ok-hear_record.ensures.arrivals, i.few, length-append i.items (told ∷ []));
       hears = takes_more c.args.divider.now c.loop-item.divider c.hear_record.new.divider i.items told i.hears c.in_ok-hear_record.ensures.takes;
     }

@@ -7,25 +7,25 @@ use Rattle.cascade.specs.Splits.{trunk_of}
 use Rattle.cascade.proofs.splits.split_from.Goals as goal
 
 pub listen-requires-clause-listens : goal.listen-requires-clause-listens
-listen-requires-clause-listens g c = (trunk_of c.args.ssrc c.args.conf, c.args.sources.now, [], c.in_ok-divider.ensures.listens c.args.conf.limit)
+listen-requires-clause-listens g c = (trunk_of c.args.ssrc c.args.settings, c.args.sources.now, [], c.in_ok-divider.ensures.listens c.args.settings.limit)
 
 pub finish-requires : goal.finish-requires
 finish-requires g c =
-    let t = trunk_of c.args.ssrc c.args.conf in
+    let t = trunk_of c.args.ssrc c.args.settings in
     let all = c.in_ok-listen.ensures.hears in
-    record { listens = (t, c.args.sources.now, arrivals_after t.ssrc t.pts [] all.items, all.so t c.args.sources.now [] (c.in_ok-divider.ensures.listens c.args.conf.limit)) }
+    record { listens = (t, c.args.sources.now, arrivals_after t.ssrc t.payload_types [] all.items, all.so t c.args.sources.now [] (c.in_ok-divider.ensures.listens c.args.settings.limit)) }
 
 pub returns-clause-splits : goal.returns-clause-splits
 returns-clause-splits g c = λ told.
-    let t = trunk_of c.args.ssrc c.args.conf in
+    let t = trunk_of c.args.ssrc c.args.settings in
     let all = c.in_ok-listen.ensures.hears in
-    c.in_ok-splitters.ensures.splits t c.args.sources.now (arrivals_after t.ssrc t.pts [] all.items) (all.so t c.args.sources.now [] (c.in_ok-divider.ensures.listens c.args.conf.limit))
-    ∙ ap (λ (q : Recording). map (split t.pts t.wait (arrivals_after t.ssrc t.pts [] q.items)) c.args.sources.now) (sym (all.is told))
+    c.in_ok-splitters.ensures.splits t c.args.sources.now (arrivals_after t.ssrc t.payload_types [] all.items) (all.so t c.args.sources.now [] (c.in_ok-divider.ensures.listens c.args.settings.limit))
+    ∙ ap (λ (q : Recording). map (split t.payload_types t.wait (arrivals_after t.ssrc t.payload_types [] q.items)) c.args.sources.now) (sym (all.is told))
 
 pub returns-clause-each : goal.returns-clause-each
 returns-clause-each g c =
-    let t = trunk_of c.args.ssrc c.args.conf in
+    let t = trunk_of c.args.ssrc c.args.settings in
     let all = c.in_ok-listen.ensures.hears in
-    let past = arrivals_after t.ssrc t.pts [] all.items in
-    ap (λ (xs : List (List ℕ)). length xs) (c.in_ok-splitters.ensures.splits t c.args.sources.now past (all.so t c.args.sources.now [] (c.in_ok-divider.ensures.listens c.args.conf.limit)))
-    ∙ length-map c.args.sources.now (split t.pts t.wait past)
+    let past = arrivals_after t.ssrc t.payload_types [] all.items in
+    ap (λ (xs : List (List ℕ)). length xs) (c.in_ok-splitters.ensures.splits t c.args.sources.now past (all.so t c.args.sources.now [] (c.in_ok-divider.ensures.listens c.args.settings.limit)))
+    ∙ length-map c.args.sources.now (split t.payload_types t.wait past)

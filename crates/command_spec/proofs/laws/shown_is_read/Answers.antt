@@ -10,6 +10,6 @@ use Rattle.command_spec.proofs.laws.shown_is_read.Goals as goal
 
 pub returns : goal.returns
 returns c = record {
-  shown = λ r octets given. ap (λ (a : List Arrival). shown (concat (heard usual_wait a r.source))) (arrives_alike r.pts r.ssrc (records_of octets) given.0 given.1);
-  used = λ r octets given. ap (λ (a : List Arrival). length (used usual_wait (numbered a))) (arrives_alike r.pts r.ssrc (records_of octets) given.0 given.1);
+  shown = λ r octets given. ap (λ (a : List Arrival). shown (concat (heard usual_wait a r.source))) (arrives_alike r.payload_types r.ssrc (records_of octets) given.0 given.1);
+  used = λ r octets given. ap (λ (a : List Arrival). length (used usual_wait (numbered a))) (arrives_alike r.payload_types r.ssrc (records_of octets) given.0 given.1);
 }

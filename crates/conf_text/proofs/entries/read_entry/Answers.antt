@@ -1,5 +1,5 @@
 use Rattle.std.proofs.Common.{◌∙◌, [], ap}
-use Rattle.file_spec.specs.Conf.{entry}
+use Rattle.file_spec.specs.Conference.{entry}
 use Rattle.conf_text.specs.Lines.{above_of}
 use Rattle.conf_text.proofs.EntryWords.{first_and_others}
 use Rattle.conf_text.proofs.entries.read_entry.Goals as goal

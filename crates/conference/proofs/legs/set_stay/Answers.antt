@@ -1,4 +1,4 @@
-use Rattle.file_spec.specs.Conf.{with_stay}
+use Rattle.file_spec.specs.Conference.{with_stay}
 use Rattle.conference.proofs.Changed.{change_at}
 use Rattle.conference.proofs.legs.set_stay.Goals as goal
 

@@ -3,4 +3,4 @@ use Rattle.gap_tracker.specs.States.{is_finished}
 use Rattle.gap_tracker.proofs.tests.play_at_once.Given as goal
 
 abbrev pub invariant-loop-at : goal.invariant-loop-at
-invariant-loop-at l = is_finished l.tracker ≡ false
+invariant-loop-at l = is_finished l.buffer ≡ false

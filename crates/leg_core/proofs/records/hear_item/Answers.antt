@@ -7,11 +7,11 @@ use Rattle.leg_core.proofs.records.hear_item.Goals as goal
 
 pub returns-in-Packet-clause-becomes : goal.returns-in-Packet-clause-becomes
 returns-in-Packet-clause-becomes c =
-    let P : DumpItem → Type 0 = λ i. Becomes c.args.ear.now c.hear-refused.new.self (λ conf story. after_item conf story i c.args.octets.now) in
-    let Q : ℕ → Type 0 = λ n. Becomes c.args.ear.now c.hear-refused.new.self (λ conf story. told story n (text_of c.args.octets.now (Some conf.ssrc) conf.pts)) in
+    let P : DumpItem → Type 0 = λ i. Becomes c.args.ear.now c.hear-refused.new.self (λ settings story. after_item settings story i c.args.octets.now) in
+    let Q : ℕ → Type 0 = λ n. Becomes c.args.ear.now c.hear-refused.new.self (λ settings story. told story n (text_of c.args.octets.now (Some settings.ssrc) settings.payload_types)) in
     subst P (sym c.in-Packet.is) (subst Q c.from.ensures c.hear-refused.ensures.becomes)
 
 pub returns-in-End-clause-becomes : goal.returns-in-End-clause-becomes
 returns-in-End-clause-becomes c =
-    let P : DumpItem → Type 0 = λ i. Becomes c.args.ear.now c.finish.new.self (λ conf story. after_item conf story i c.args.octets.now) in
+    let P : DumpItem → Type 0 = λ i. Becomes c.args.ear.now c.finish.new.self (λ settings story. after_item settings story i c.args.octets.now) in
     subst P (sym c.in-End.is) c.finish.ensures.becomes

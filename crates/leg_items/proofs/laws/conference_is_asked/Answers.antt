@@ -1,4 +1,4 @@
-use Rattle.leg_items.proofs.OfConfs.{asked_law, stays_law}
+use Rattle.leg_items.proofs.OfConferences.{asked_law, stays_law}
 use Rattle.leg_items.proofs.laws.conference_is_asked.Goals as goal
 
 pub returns-clause-chunks : goal.returns-clause-chunks

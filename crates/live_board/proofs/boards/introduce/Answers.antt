@@ -1,6 +1,6 @@
 use Rattle.std.proofs.Common.{◌≡◌, ◌++◌, ◌∷◌, [], List, drop, false, ap, sym, ◌∙◌, subst}
 use Rattle.live_board.specs.declared.histories.Fresh.{Fresh}
-use Rattle.live_board.specs.declared.histories.Entry.{Entry}
+use Rattle.live_board.specs.declared.histories.BoardEntry.{BoardEntry}
 use Rattle.live_board.specs.declared.pages.Page.{Page}
 use Rattle.live_board.specs.declared.pages.Publish.{Publish}
 use Rattle.live_board.specs.Histories.{changes_of, ended_in, head_of, octets_of}
@@ -20,7 +20,7 @@ next-publish-requires-clause-head g c = c.requires.head ∙ ap (λ (y : Page). h
 pub next-publish-requires-clause-counted : goal.next-publish-requires-clause-counted
 next-publish-requires-clause-counted g c =
     let none = c.new.result.items in
-    sym (ap (λ (y : Page). octets_of (changes_of y.seen.log ++ none)) c.published-page.ensures ∙ (ap (λ (l : List Entry). octets_of (changes_of l ++ none)) c.requires.new ∙ ap octets_of c.new.ensures.items))
+    sym (ap (λ (y : Page). octets_of (changes_of y.seen.log ++ none)) c.published-page.ensures ∙ (ap (λ (l : List BoardEntry). octets_of (changes_of l ++ none)) c.requires.new ∙ ap octets_of c.new.ensures.items))
 
 pub show-requires : goal.show-requires
 show-requires g c =

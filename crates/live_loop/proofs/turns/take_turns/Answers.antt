@@ -17,8 +17,8 @@ loop-k-init g c =
       c.requires.legs,
       c.requires.none,
       (let same = c.clock_now-began.ensures.same_pauses in inl (omega (arith, same))),
-      λ s pts legs v. (v, λ t. at_none c.args.tick c.clock_now-began.result (g.C.TurnClock.moment c.clock_now-began.new.self) v.calls v.turned, order_none g.M.Mixes.stands g.M.Mixes.addresses paused s pts c.args.mixer.now v.calls v.turned),
-      none_grew g.I.Pops.popped g.I.Pops.began c.args.ports.now,
+      λ s payload_types legs v. (v, λ t. at_none c.args.tick c.clock_now-began.result (g.C.TurnClock.moment c.clock_now-began.new.self) v.calls v.turned, order_none g.M.MixerCalls.stands g.M.MixerCalls.addresses paused s payload_types c.args.mixer.now v.calls v.turned),
+      none_grew g.I.Consumer.popped g.I.Consumer.began c.args.ports.now,
       (let is = c.clock_now-began.ensures.is in omega (arith, is)),
       (let is = c.clock_now-began.ensures.is in let rises = c.clock_now-began.ensures.rises in omega (arith, is, rises)),
       λ t early. (let is = c.clock_now-began.ensures.is in omega (arith, is)),
@@ -27,18 +27,18 @@ loop-k-init g c =
       is_told _ c.first_tick-due.result c.first_tick-due.ensures,
       λ early. (let first = first_due c.clock_now-began.result _ c.first_tick-due.result (omega (arith, early)) c.first_tick-due.ensures in omega (arith, first)),
       (let same = c.clock_now-began.ensures.same_pauses in omega (arith, same)),
-      within_later paused (paused + 0) (g.M.Mixes.addresses c.args.mixer.now) (omega arith) c.requires.given,
+      within_later paused (paused + 0) (g.M.MixerCalls.addresses c.args.mixer.now) (omega arith) c.requires.given,
     )
 
 pub returns-then-is_over-clause-ran : goal.returns-then-is_over-clause-ran
-returns-then-is_over-clause-ran g c = λ s pts legs v.
-    let b = c.loop-k.invariant.4 s pts legs v in
+returns-then-is_over-clause-ran g c = λ s payload_types legs v.
+    let b = c.loop-k.invariant.4 s payload_types legs v in
     let here : s.legs ≡ length c.loop-k.ports = omega (arith, legs, c.loop-k.auto.ports) in
-    let w = c.gather_all.ensures.gathered s pts c.loop-k.k here b.0 in
+    let w = c.gather_all.ensures.gathered s payload_types c.loop-k.k here b.0 in
     let v = w.0.serving in
     let paused = g.C.TurnClock.pauses c.args.clock.now in
-    let order = order_same g.M.Mixes.stands g.M.Mixes.addresses paused s pts c.loop-k.mixer c.gather_all.new.mixer b.0.calls v.calls c.gather_all.ensures.keeps.addresses w.1 (v.turned ∙ sym b.0.turned) b.2 in
-    let x = becomes g.I.Pops.popped g.I.Pops.began g.M.Mixes.stands (StandsPaced g.C.TurnClock.tells c.args.tick (g.C.TurnClock.moment c.args.clock.now) (g.C.TurnClock.moment c.loop-k.clock) (AreInTurn g.M.Mixes.stands g.M.Mixes.addresses paused) g.M.Mixes.stands) s pts c.loop-k.k c.gather_all.new.ports c.gather_all.new.mixer c.gather_all.new.mixer v (
+    let order = order_same g.M.MixerCalls.stands g.M.MixerCalls.addresses paused s payload_types c.loop-k.mixer c.gather_all.new.mixer b.0.calls v.calls c.gather_all.ensures.keeps.addresses w.1 (v.turned ∙ sym b.0.turned) b.2 in
+    let x = becomes g.I.Consumer.popped g.I.Consumer.began g.M.MixerCalls.stands (StandsPaced g.C.TurnClock.tells c.args.tick (g.C.TurnClock.moment c.args.clock.now) (g.C.TurnClock.moment c.loop-k.clock) (AreInTurn g.M.MixerCalls.stands g.M.MixerCalls.addresses paused) g.M.MixerCalls.stands) s payload_types c.loop-k.k c.gather_all.new.ports c.gather_all.new.mixer c.gather_all.new.mixer v (
       v.made,
       λ t. let at = subst (λ (ms : List ℕ). AtTicks c.args.tick c.clock_now-began.result ms × RiseTo (g.C.TurnClock.moment c.loop-k.clock) ms) (sym w.1.moments) (b.1 t) in
           record { began = c.clock_now-began.result; behind = c.loop-k.invariant.7; before = c.loop-k.invariant.6; at = at.0; told = at.1 },
@@ -50,7 +50,7 @@ returns-then-is_over-clause-ran g c = λ s pts legs v.
       serving = x.0;
       closed = record {
         ends = all_at is_spent c.gather_all.new.ports (c.is_over.ensures.spent c.if-is_over.true);
-        idle = subst (λ (calls : List Call). is_idle s (after_calls s calls) ≡ true) (sym x.1) (sym (c.is_over.ensures.idle c.if-is_over.true s pts v.calls v.made));
+        idle = subst (λ (calls : List Call). is_idle s (after_calls s calls) ≡ true) (sym x.1) (sym (c.is_over.ensures.idle c.if-is_over.true s payload_types v.calls v.made));
       };
     }
 
@@ -58,7 +58,7 @@ pub loop-k-preserved : goal.loop-k-preserved
 loop-k-preserved g c =
     let keeps = c.gather_all.ensures.keeps in
     let same : length c.gather_all.new.ports ≡ length c.loop-k.ports = c.gather_all.auto.ports in
-    let addresses = g.M.Mixes.addresses in
+    let addresses = g.M.MixerCalls.addresses in
     let paused = g.C.TurnClock.pauses c.args.clock.now in
     let beat = c.clock_beat.result.pauses in
     let is_beat : beat ≡ g.C.TurnClock.pauses c.loop-k.clock = c.clock_beat.ensures ∙ c.clock_now-now.ensures.same_pauses in
@@ -71,23 +71,23 @@ loop-k-preserved g c =
       (let turns = keeps.turns in omega (arith, c.turn.ensures.turns, turns, c.loop-k.invariant.2)),
       paused_more c.loop-k.k (g.C.TurnClock.pauses c.args.clock.now) (g.C.TurnClock.pauses c.loop-k.clock) (g.C.TurnClock.pauses c.sleep_until.new.self) c.loop-k.invariant.3
           (c.sleep_until.ensures.counted ∙ count_same (g.C.TurnClock.pauses c.clock_now-now.new.self) (g.C.TurnClock.pauses c.loop-k.clock) c.clock_now-now.ensures.same_pauses),
-      λ s pts legs v.
-          let b = c.loop-k.invariant.4 s pts legs v in
+      λ s payload_types legs v.
+          let b = c.loop-k.invariant.4 s payload_types legs v in
           let here : s.legs ≡ length c.loop-k.ports = omega (arith, legs, c.loop-k.auto.ports) in
-          let w = c.gather_all.ensures.gathered s pts c.loop-k.k here b.0 in
-          let x = turn_made g.I.Pops.popped g.I.Pops.began g.M.Mixes.stands s pts c.loop-k.k c.clock_now-now.result c.gather_all.new.ports c.gather_all.new.mixer c.turn.new.self (here ∙ sym same) c.in-None.ensures c.in-Ok.ensures.turned (c.is_over.ensures.goes_on c.if-is_over.false) w.0 in
+          let w = c.gather_all.ensures.gathered s payload_types c.loop-k.k here b.0 in
+          let x = turn_made g.I.Consumer.popped g.I.Consumer.began g.M.MixerCalls.stands s payload_types c.loop-k.k c.clock_now-now.result c.gather_all.new.ports c.gather_all.new.mixer c.turn.new.self (here ∙ sym same) c.in-None.ensures c.in-Ok.ensures.turned (c.is_over.ensures.goes_on c.if-is_over.false) w.0 in
           let gathered = w.0.serving in
-          let order = order_same g.M.Mixes.stands addresses paused s pts c.loop-k.mixer c.gather_all.new.mixer b.0.calls gathered.calls keeps.addresses w.1 (gathered.turned ∙ sym b.0.turned) b.2 in
-          let turned = order_turn g.M.Mixes.stands addresses paused s pts c.loop-k.k beat c.gather_all.new.mixer c.turn.new.self gathered.calls gathered.turned counted gives c.clock_now-now.result upper within (c.in-Ok.ensures.turned s pts gathered.calls gathered.made) order in (
+          let order = order_same g.M.MixerCalls.stands addresses paused s payload_types c.loop-k.mixer c.gather_all.new.mixer b.0.calls gathered.calls keeps.addresses w.1 (gathered.turned ∙ sym b.0.turned) b.2 in
+          let turned = order_turn g.M.MixerCalls.stands addresses paused s payload_types c.loop-k.k beat c.gather_all.new.mixer c.turn.new.self gathered.calls gathered.turned counted gives c.clock_now-now.result upper within (c.in-Ok.ensures.turned s payload_types gathered.calls gathered.made) order in (
             x.0,
             λ t. at_more c.args.tick c.clock_now-began.result c.loop-k.k (g.C.TurnClock.moment c.loop-k.clock) c.clock_now-now.result (g.C.TurnClock.moment c.sleep_until.new.self) w.0.serving.calls x.0.calls x.1 w.0.serving.turned
                 (λ early. let s = c.loop-k.invariant.8 t early in let is = c.clock_now-now.ensures.is in let rises = c.clock_now-now.ensures.rises in omega (arith, s, is, rises))
                 (let is = c.clock_now-now.ensures.is in let rises = c.clock_now-now.ensures.rises in omega (arith, is, rises))
                 (let is = c.clock_now-now.ensures.is in let rises = c.sleep_until.ensures.rises in omega (arith, is, rises))
                 (subst (λ (ms : List ℕ). AtTicks c.args.tick c.clock_now-began.result ms × RiseTo (g.C.TurnClock.moment c.loop-k.clock) ms) (sym w.1.moments) (b.1 t)),
-            subst (λ (calls : List Call). AreInTurn g.M.Mixes.stands addresses paused c.turn.new.self s pts calls) (sym x.1) turned,
+            subst (λ (calls : List Call). AreInTurn g.M.MixerCalls.stands addresses paused c.turn.new.self s payload_types calls) (sym x.1) turned,
           ),
-      all_then_grew g.I.Pops.popped g.I.Pops.began c.args.ports.now c.loop-k.ports c.gather_all.new.ports c.loop-k.invariant.5 c.gather_all.ensures.grew,
+      all_then_grew g.I.Consumer.popped g.I.Consumer.began c.args.ports.now c.loop-k.ports c.gather_all.new.ports c.loop-k.invariant.5 c.gather_all.ensures.grew,
       (let before = c.loop-k.invariant.6 in let asked = c.clock_now-now.ensures.rises in let paused = c.sleep_until.ensures.rises in omega (arith, before, asked, paused)),
       c.loop-k.invariant.7,
       λ t early.
@@ -108,9 +108,9 @@ loop-k-preserved g c =
     )
 
 pub returns-then-is_over-2-clause-ran : goal.returns-then-is_over-2-clause-ran
-returns-then-is_over-2-clause-ran g c = λ s pts legs v.
-    let b = c.loop-k.invariant.4 s pts legs v in
-    let x = becomes g.I.Pops.popped g.I.Pops.began g.M.Mixes.stands (StandsPaced g.C.TurnClock.tells c.args.tick (g.C.TurnClock.moment c.args.clock.now) (g.C.TurnClock.moment c.loop-k.clock) (AreInTurn g.M.Mixes.stands g.M.Mixes.addresses (g.C.TurnClock.pauses c.args.clock.now)) g.M.Mixes.stands) s pts c.loop-k.k c.loop-k.ports c.loop-k.mixer c.loop-k.mixer b.0
+returns-then-is_over-2-clause-ran g c = λ s payload_types legs v.
+    let b = c.loop-k.invariant.4 s payload_types legs v in
+    let x = becomes g.I.Consumer.popped g.I.Consumer.began g.M.MixerCalls.stands (StandsPaced g.C.TurnClock.tells c.args.tick (g.C.TurnClock.moment c.args.clock.now) (g.C.TurnClock.moment c.loop-k.clock) (AreInTurn g.M.MixerCalls.stands g.M.MixerCalls.addresses (g.C.TurnClock.pauses c.args.clock.now)) g.M.MixerCalls.stands) s payload_types c.loop-k.k c.loop-k.ports c.loop-k.mixer c.loop-k.mixer b.0
     (b.0.made, λ t. record { began = c.clock_now-began.result; behind = c.loop-k.invariant.7; before = c.loop-k.invariant.6; at = (b.1 t).0; told = (b.1 t).1 }, b.2) in
     record {
       turns = c.loop-k.k;
@@ -118,35 +118,35 @@ returns-then-is_over-2-clause-ran g c = λ s pts legs v.
       serving = x.0;
       closed = record {
         ends = all_at is_spent c.loop-k.ports (c.is_over-2.ensures.spent c.if-is_over-2.true);
-        idle = subst (λ (calls : List Call). is_idle s (after_calls s calls) ≡ true) (sym x.1) (sym (c.is_over-2.ensures.idle c.if-is_over-2.true s pts b.0.calls b.0.made));
+        idle = subst (λ (calls : List Call). is_idle s (after_calls s calls) ≡ true) (sym x.1) (sym (c.is_over-2.ensures.idle c.if-is_over-2.true s payload_types b.0.calls b.0.made));
       };
     }
 
 pub returns-clause-ran : goal.returns-clause-ran
-returns-clause-ran g c = λ s pts legs v.
+returns-clause-ran g c = λ s payload_types legs v.
     let last : c.loop-k.k ≡ c.args.turns = omega (arith, c.loop-k-test.false, c.loop-k.auto.k-end) in
-    let b = c.loop-k.invariant.4 s pts legs v in
-    let meets = StandsPaced g.C.TurnClock.tells c.args.tick (g.C.TurnClock.moment c.args.clock.now) (g.C.TurnClock.moment c.loop-k.clock) (AreInTurn g.M.Mixes.stands g.M.Mixes.addresses (g.C.TurnClock.pauses c.args.clock.now)) g.M.Mixes.stands in
-    let x = becomes g.I.Pops.popped g.I.Pops.began g.M.Mixes.stands meets s pts c.loop-k.k c.loop-k.ports c.loop-k.mixer c.loop-k.mixer b.0
+    let b = c.loop-k.invariant.4 s payload_types legs v in
+    let meets = StandsPaced g.C.TurnClock.tells c.args.tick (g.C.TurnClock.moment c.args.clock.now) (g.C.TurnClock.moment c.loop-k.clock) (AreInTurn g.M.MixerCalls.stands g.M.MixerCalls.addresses (g.C.TurnClock.pauses c.args.clock.now)) g.M.MixerCalls.stands in
+    let x = becomes g.I.Consumer.popped g.I.Consumer.began g.M.MixerCalls.stands meets s payload_types c.loop-k.k c.loop-k.ports c.loop-k.mixer c.loop-k.mixer b.0
     (b.0.made, λ t. record { began = c.clock_now-began.result; behind = c.loop-k.invariant.7; before = c.loop-k.invariant.6; at = (b.1 t).0; told = (b.1 t).1 }, b.2) in
-    subst (λ (k : ℕ). DoneTo g.I.Pops.popped meets s pts k c.loop-k.ports c.loop-k.mixer) last (record {
+    subst (λ (k : ℕ). DoneTo g.I.Consumer.popped meets s payload_types k c.loop-k.ports c.loop-k.mixer) last (record {
       serving = x.0;
       goes_on = λ closed. true≢false (
           sym (subst (λ (calls : List Call). is_idle s (after_calls s calls) ≡ true) x.1 closed.idle)
-          ∙ sym (c.is_over-2.ensures.goes_on c.if-is_over-2.false (all_true is_spent c.loop-k.ports closed.ends) s pts b.0.calls b.0.made)
+          ∙ sym (c.is_over-2.ensures.goes_on c.if-is_over-2.false (all_true is_spent c.loop-k.ports closed.ends) s payload_types b.0.calls b.0.made)
           );
     })
 
 -- a link failed before a turn
 pub returns-in-Some-clause-ran : goal.returns-in-Some-clause-ran
-returns-in-Some-clause-ran g c = λ s pts legs v.
-    let b = c.loop-k.invariant.4 s pts legs v in
+returns-in-Some-clause-ran g c = λ s payload_types legs v.
+    let b = c.loop-k.invariant.4 s payload_types legs v in
     let here : s.legs ≡ length c.loop-k.ports = omega (arith, legs, c.loop-k.auto.ports) in
-    let w = c.gather_all.ensures.gathered s pts c.loop-k.k here b.0 in
+    let w = c.gather_all.ensures.gathered s payload_types c.loop-k.k here b.0 in
     let v = w.0.serving in
     let paused = g.C.TurnClock.pauses c.args.clock.now in
-    let order = order_same g.M.Mixes.stands g.M.Mixes.addresses paused s pts c.loop-k.mixer c.gather_all.new.mixer b.0.calls v.calls c.gather_all.ensures.keeps.addresses w.1 (v.turned ∙ sym b.0.turned) b.2 in
-    let x = becomes g.I.Pops.popped g.I.Pops.began g.M.Mixes.stands (StandsPaced g.C.TurnClock.tells c.args.tick (g.C.TurnClock.moment c.args.clock.now) (g.C.TurnClock.moment c.loop-k.clock) (AreInTurn g.M.Mixes.stands g.M.Mixes.addresses paused) g.M.Mixes.stands) s pts c.loop-k.k c.gather_all.new.ports c.gather_all.new.mixer c.gather_all.new.mixer v (
+    let order = order_same g.M.MixerCalls.stands g.M.MixerCalls.addresses paused s payload_types c.loop-k.mixer c.gather_all.new.mixer b.0.calls v.calls c.gather_all.ensures.keeps.addresses w.1 (v.turned ∙ sym b.0.turned) b.2 in
+    let x = becomes g.I.Consumer.popped g.I.Consumer.began g.M.MixerCalls.stands (StandsPaced g.C.TurnClock.tells c.args.tick (g.C.TurnClock.moment c.args.clock.now) (g.C.TurnClock.moment c.loop-k.clock) (AreInTurn g.M.MixerCalls.stands g.M.MixerCalls.addresses paused) g.M.MixerCalls.stands) s payload_types c.loop-k.k c.gather_all.new.ports c.gather_all.new.mixer c.gather_all.new.mixer v (
       v.made,
       λ t. let at = subst (λ (ms : List ℕ). AtTicks c.args.tick c.clock_now-began.result ms × RiseTo (g.C.TurnClock.moment c.loop-k.clock) ms) (sym w.1.moments) (b.1 t) in
           record { began = c.clock_now-began.result; behind = c.loop-k.invariant.7; before = c.loop-k.invariant.6; at = at.0; told = at.1 },
@@ -156,32 +156,32 @@ returns-in-Some-clause-ran g c = λ s pts legs v.
 
 -- a turn was not sent to its end
 pub returns-in-Err-clause-ran : goal.returns-in-Err-clause-ran
-returns-in-Err-clause-ran g c = λ s pts legs v.
-    let b = c.loop-k.invariant.4 s pts legs v in
+returns-in-Err-clause-ran g c = λ s payload_types legs v.
+    let b = c.loop-k.invariant.4 s payload_types legs v in
     let here : s.legs ≡ length c.loop-k.ports = omega (arith, legs, c.loop-k.auto.ports) in
-    let w = c.gather_all.ensures.gathered s pts c.loop-k.k here b.0 in
+    let w = c.gather_all.ensures.gathered s payload_types c.loop-k.k here b.0 in
     let v = w.0.serving in
     let paused = g.C.TurnClock.pauses c.args.clock.now in
     let beat = c.clock_beat.result.pauses in
     let is_beat : beat ≡ g.C.TurnClock.pauses c.loop-k.clock = c.clock_beat.ensures ∙ c.clock_now-now.ensures.same_pauses in
     let counted : IsPaused c.loop-k.k paused beat = subst (λ (n : ℕ). IsPaused c.loop-k.k paused n) (sym is_beat) c.loop-k.invariant.3 in
-    let order = order_same g.M.Mixes.stands g.M.Mixes.addresses paused s pts c.loop-k.mixer c.gather_all.new.mixer b.0.calls v.calls c.gather_all.ensures.keeps.addresses w.1 (v.turned ∙ sym b.0.turned) b.2 in
-    let x = becomes g.I.Pops.popped g.I.Pops.began g.M.Mixes.stands (StandsPaced g.C.TurnClock.tells c.args.tick (g.C.TurnClock.moment c.args.clock.now) (g.C.TurnClock.moment c.clock_now-now.new.self) (AreInTurn g.M.Mixes.stands g.M.Mixes.addresses paused) (HaltsThen g.M.Mixes.halted)) s pts c.loop-k.k c.gather_all.new.ports c.gather_all.new.mixer c.turn.new.self v (
-      (c.clock_now-now.result, c.in-Err.ensures.halted s pts v.calls v.made),
+    let order = order_same g.M.MixerCalls.stands g.M.MixerCalls.addresses paused s payload_types c.loop-k.mixer c.gather_all.new.mixer b.0.calls v.calls c.gather_all.ensures.keeps.addresses w.1 (v.turned ∙ sym b.0.turned) b.2 in
+    let x = becomes g.I.Consumer.popped g.I.Consumer.began g.M.MixerCalls.stands (StandsPaced g.C.TurnClock.tells c.args.tick (g.C.TurnClock.moment c.args.clock.now) (g.C.TurnClock.moment c.clock_now-now.new.self) (AreInTurn g.M.MixerCalls.stands g.M.MixerCalls.addresses paused) (HaltsThen g.M.MixerCalls.halted)) s payload_types c.loop-k.k c.gather_all.new.ports c.gather_all.new.mixer c.turn.new.self v (
+      (c.clock_now-now.result, c.in-Err.ensures.halted s payload_types v.calls v.made),
       λ t. let at = subst (λ (ms : List ℕ). AtTicks c.args.tick c.clock_now-began.result ms × RiseTo (g.C.TurnClock.moment c.loop-k.clock) ms) (sym w.1.moments) (b.1 t) in
           record { began = c.clock_now-began.result; behind = c.loop-k.invariant.7; before = (let before = c.loop-k.invariant.6 in let rises = c.clock_now-now.ensures.rises in omega (arith, before, rises)); at = at.0; told = rise_on (g.C.TurnClock.moment c.loop-k.clock) (g.C.TurnClock.moment c.clock_now-now.new.self) _ c.clock_now-now.ensures.rises at.1 },
-      order_kept g.M.Mixes.stands g.M.Mixes.addresses paused s pts c.loop-k.k beat c.gather_all.new.mixer c.turn.new.self v.calls v.turned counted c.turn.ensures.addresses order,
+      order_kept g.M.MixerCalls.stands g.M.MixerCalls.addresses paused s payload_types c.loop-k.k beat c.gather_all.new.mixer c.turn.new.self v.calls v.turned counted c.turn.ensures.addresses order,
     ) in
     record { turns = c.loop-k.k; few = omega (arith, c.loop-k-test.true); serving = x.0 }
 
 pub returns-in-Some-clause-grew : goal.returns-in-Some-clause-grew
-returns-in-Some-clause-grew g c = all_then_grew g.I.Pops.popped g.I.Pops.began c.args.ports.now c.loop-k.ports c.gather_all.new.ports c.loop-k.invariant.5 c.gather_all.ensures.grew
+returns-in-Some-clause-grew g c = all_then_grew g.I.Consumer.popped g.I.Consumer.began c.args.ports.now c.loop-k.ports c.gather_all.new.ports c.loop-k.invariant.5 c.gather_all.ensures.grew
 
 pub returns-then-is_over-clause-grew : goal.returns-then-is_over-clause-grew
-returns-then-is_over-clause-grew g c = all_then_grew g.I.Pops.popped g.I.Pops.began c.args.ports.now c.loop-k.ports c.gather_all.new.ports c.loop-k.invariant.5 c.gather_all.ensures.grew
+returns-then-is_over-clause-grew g c = all_then_grew g.I.Consumer.popped g.I.Consumer.began c.args.ports.now c.loop-k.ports c.gather_all.new.ports c.loop-k.invariant.5 c.gather_all.ensures.grew
 
 pub returns-in-Err-clause-grew : goal.returns-in-Err-clause-grew
-returns-in-Err-clause-grew g c = all_then_grew g.I.Pops.popped g.I.Pops.began c.args.ports.now c.loop-k.ports c.gather_all.new.ports c.loop-k.invariant.5 c.gather_all.ensures.grew
+returns-in-Err-clause-grew g c = all_then_grew g.I.Consumer.popped g.I.Consumer.began c.args.ports.now c.loop-k.ports c.gather_all.new.ports c.loop-k.invariant.5 c.gather_all.ensures.grew
 
 pub returns-in-Err-clause-passed : goal.returns-in-Err-clause-passed
 returns-in-Err-clause-passed g c = passed_on g.C.TurnClock c.args.clock.now c.loop-k.clock c.clock_now-now.new.self c.loop-k.invariant.9
@@ -196,7 +196,7 @@ returns-then-is_over-clause-addresses g c = let keeps = c.gather_all.ensures.kee
 pub returns-in-Err-clause-addresses : goal.returns-in-Err-clause-addresses
 returns-in-Err-clause-addresses g c =
     let keeps = c.gather_all.ensures.keeps in
-    same_ports c.clock_beat.result.pauses (g.M.Mixes.addresses c.gather_all.new.mixer) (g.M.Mixes.addresses c.turn.new.self) c.turn.ensures.addresses ∙ (ap ports_of keeps.addresses ∙ c.loop-k.invariant.10)
+    same_ports c.clock_beat.result.pauses (g.M.MixerCalls.addresses c.gather_all.new.mixer) (g.M.MixerCalls.addresses c.turn.new.self) c.turn.ensures.addresses ∙ (ap ports_of keeps.addresses ∙ c.loop-k.invariant.10)
 
 pub returns-clause-paced : goal.returns-clause-paced
 returns-clause-paced g c = λ t done.

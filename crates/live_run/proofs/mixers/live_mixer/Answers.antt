@@ -1,11 +1,11 @@
 use Rattle.std.proofs.Common.{◌∙◌, ◌^◌, ℕ, List, length, ap, subst, sym, arith}
 use Rattle.std.proofs.lemmas.List.{length-map}
 use Rattle.mixer_spec.specs.Setups.{setup}
-use Rattle.conference.specs.Conferences.{conf_of}
+use Rattle.conference.specs.Conferences.{meaning_of}
 use Rattle.mixer_turn.specs.declared.batches.Post.{Post}
-use Rattle.mixer_posts.specs.Streams.{pts_at}
+use Rattle.mixer_posts.specs.Streams.{payload_types_at}
 use Rattle.mixer_turn.specs.States.{State}
-use Rattle.mixer_turn.specs.Standing.{StandsFor}
+use Rattle.mixer_turn.specs.Standing.{MixerStandsFor}
 use Rattle.mixer_posts.specs.Posts.{sent_by}
 use Rattle.live_run.specs.declared.far_ends.FarEnds.{FarEnds}
 use Rattle.live_run.specs.Ends.{packets_in, WereGiven, counts_of}
@@ -15,23 +15,23 @@ use Rattle.live_run.proofs.Writing.{counts_are}
 use Rattle.live_run.proofs.mixers.live_mixer.Goals as goal
 
 pub new-requires-2 : goal.new-requires-2
-new-requires-2 g c = let o = g.O.LinkOut in counts_are o.tells (packets_in o.given) o.faults (conf_of c.args.conf.now) c.args.ends c.requires.none ∙ sym c.in-Ok.ensures.sources
+new-requires-2 g c = let o = g.O.LinkOut in counts_are o.tells (packets_in o.given) o.faults (meaning_of c.args.conference.now) c.args.ends c.requires.none ∙ sym c.in-Ok.ensures.sources
 
 pub returns-clause-stands : goal.returns-clause-stands
 returns-clause-stands g c =
-    let s = setup (conf_of c.args.conf.now) in
-    let pts = pts_at (conf_of c.args.conf.now) in
-    let n = length c.args.conf.now.legs in
+    let s = setup (meaning_of c.args.conference.now) in
+    let payload_types = payload_types_at (meaning_of c.args.conference.now) in
+    let n = length c.args.conference.now.legs in
     let made = c.new-2.ensures in
     let o = g.O.LinkOut in
     record {
-      stands = subst (λ (m : State). StandsFor s m (all_admitted n)) (sym made.mixer) c.in-Ok.ensures.stands;
-      sent = subst (λ (ends : FarEnds g.row.O.Denot). WereGiven o.tells (packets_in o.given) o.faults ends s pts (sent_by s (all_admitted n))) (sym made.outbound)
-          (subst (λ (sent : List (ℕ × Post)). WereGiven o.tells (packets_in o.given) o.faults c.args.ends s pts sent) (sym (none_sent s n)) c.requires.none);
-      all = ap (λ (ends : FarEnds g.row.O.Denot). length (counts_of ends)) made.outbound ∙ (ap (λ (xs : List ℕ). length xs) (counts_are o.tells (packets_in o.given) o.faults (conf_of c.args.conf.now) c.args.ends c.requires.none) ∙ length-map c.args.conf.now.legs _);
+      stands = subst (λ (m : State). MixerStandsFor s m (all_admitted n)) (sym made.mixer) c.in-Ok.ensures.stands;
+      sent = subst (λ (ends : FarEnds g.row.O.Denot). WereGiven o.tells (packets_in o.given) o.faults ends s payload_types (sent_by s (all_admitted n))) (sym made.outbound)
+          (subst (λ (sent : List (ℕ × Post)). WereGiven o.tells (packets_in o.given) o.faults c.args.ends s payload_types sent) (sym (none_sent s n)) c.requires.none);
+      all = ap (λ (ends : FarEnds g.row.O.Denot). length (counts_of ends)) made.outbound ∙ (ap (λ (xs : List ℕ). length xs) (counts_are o.tells (packets_in o.given) o.faults (meaning_of c.args.conference.now) c.args.ends c.requires.none) ∙ length-map c.args.conference.now.legs _);
       early = none_late (2 ^ 47) n;
       few = omega (arith, no_turn n);
     }
 
 pub returns-clause-seats : goal.returns-clause-seats
-returns-clause-seats g c = all_seated (setup (conf_of c.args.conf.now)) (length c.args.conf.now.legs) c.requires.stay (omega arith)
+returns-clause-seats g c = all_seated (setup (meaning_of c.args.conference.now)) (length c.args.conference.now.legs) c.requires.stay (omega arith)

@@ -1,7 +1,7 @@
 use Rattle.std.proofs.Common.{◌<◌, ◌∙◌, ℕ, length, subst, sym, arith, add-one}
 use Rattle.mixer_spec.specs.Setups.{setup}
-use Rattle.conference.specs.Conferences.{conf_of}
-use Rattle.mixer_turn.specs.Standing.{StandsFor}
+use Rattle.conference.specs.Conferences.{meaning_of}
+use Rattle.mixer_turn.specs.Standing.{MixerStandsFor}
 use Rattle.live_run.specs.Mixers.{all_admitted}
 use Rattle.live_run.proofs.Seating.{may_come}
 use Rattle.live_run.proofs.mixers.seated_mixer.Goals as goal
@@ -9,13 +9,13 @@ use Rattle.live_run.proofs.mixers.seated_mixer.Goals as goal
 pub loop-leg-preserved : goal.loop-leg-preserved
 loop-leg-preserved c =
     let i = c.loop-leg.invariant in
-    let s = setup (conf_of c.args.conf.now) in
+    let s = setup (meaning_of c.args.conference.now) in
     let leg = c.loop-leg.leg in
-    let below : leg < length c.args.conf.now.legs = omega (arith, c.loop-leg-test.true, c.len-leg-end.ensures) in
+    let below : leg < length c.args.conference.now.legs = omega (arith, c.loop-leg-test.true, c.len-leg-end.ensures) in
     let stands = c.admit.ensures.stands s (all_admitted leg) i.stands (may_come s leg c.requires below, i.stands.allowed) in
     record {
       legs = c.admit.ensures.legs ∙ i.legs;
       turns = c.admit.ensures.turns ∙ i.turns;
       sources = c.admit.ensures.sources ∙ i.sources;
-      stands = subst (λ (n : ℕ). StandsFor s c.admit.new.self (all_admitted n)) (sym (add-one leg)) stands;
+      stands = subst (λ (n : ℕ). MixerStandsFor s c.admit.new.self (all_admitted n)) (sym (add-one leg)) stands;
     }

@@ -1,16 +1,16 @@
 use Rattle.std.proofs.Common.{◌≡◌, length}
 use Rattle.mixer_spec.specs.Setups.{setup}
-use Rattle.conference.specs.Conferences.{conf_of}
+use Rattle.conference.specs.Conferences.{meaning_of}
 use Rattle.mixer_turn.specs.Making.{source_counts}
 use Rattle.mixer_turn.specs.States.{legs_of, sources_of}
-use Rattle.mixer_turn.specs.Standing.{StandsFor}
+use Rattle.mixer_turn.specs.Standing.{MixerStandsFor}
 use Rattle.live_run.specs.Mixers.{all_admitted}
 use Rattle.live_run.proofs.mixers.seated_mixer.Given as goal
 
 abbrev pub invariant-loop-leg : goal.invariant-loop-leg
 invariant-loop-leg l = record {
-  legs : legs_of l.mixer ≡ length l.conf.legs;
+  legs : legs_of l.mixer ≡ length l.conference.legs;
   turns : l.mixer.turns ≡ 0;
-  sources : sources_of l.mixer ≡ source_counts (conf_of l.conf);
-  stands : StandsFor (setup (conf_of l.conf)) l.mixer (all_admitted l.leg);
+  sources : sources_of l.mixer ≡ source_counts (meaning_of l.conference);
+  stands : MixerStandsFor (setup (meaning_of l.conference)) l.mixer (all_admitted l.leg);
 }

@@ -1,5 +1,5 @@
 use Rattle.std.proofs.Common.{◌≡◌, ◌∙◌, List, get_or, ap, sym}
-use Rattle.file_spec.specs.declared.conf_lines.LegLine.{LegLine}
+use Rattle.file_spec.specs.declared.conference_lines.LegLine.{LegLine}
 use Rattle.terminal.proofs.Listening.{on_ok}
 use Rattle.live_run.proofs.Showing.{read_leg}
 use Rattle.live_run.proofs.views.append_view.Goals as goal
@@ -7,11 +7,11 @@ use Rattle.live_run.proofs.views.append_view.Goals as goal
 pub returns-then-as_slice-own : goal.returns-then-as_slice-own
 returns-then-as_slice-own c = on_ok c.append_aware.result c.append_aware.ensures (λ f leg given at h.
     let shown = c.index-as_slice-own.result in
-    let same : get_or c.as_slice.result.now c.args.own shown ≡ leg = ap (λ (ls : List LegLine). get_or ls c.args.own shown) c.as_slice.ensures ∙ read_leg c.args.conf.now.legs c.args.own shown leg at in
+    let same : get_or c.as_slice.result.now c.args.own shown ≡ leg = ap (λ (ls : List LegLine). get_or ls c.args.own shown) c.as_slice.ensures ∙ read_leg c.args.conference.now.legs c.args.own shown leg at in
     f leg given at (sym (ap (λ (l : LegLine). l.aware) same) ∙ c.if-as_slice-own.true) h)
 
 pub returns-else-as_slice-own : goal.returns-else-as_slice-own
 returns-else-as_slice-own c = on_ok c.append_unaware.result c.append_unaware.ensures (λ f leg given at h.
     let shown = c.index-as_slice-own.result in
-    let same : get_or c.as_slice.result.now c.args.own shown ≡ leg = ap (λ (ls : List LegLine). get_or ls c.args.own shown) c.as_slice.ensures ∙ read_leg c.args.conf.now.legs c.args.own shown leg at in
+    let same : get_or c.as_slice.result.now c.args.own shown ≡ leg = ap (λ (ls : List LegLine). get_or ls c.args.own shown) c.as_slice.ensures ∙ read_leg c.args.conference.now.legs c.args.own shown leg at in
     f leg given at (sym (ap (λ (l : LegLine). l.aware) same) ∙ c.if-as_slice-own.false) h)

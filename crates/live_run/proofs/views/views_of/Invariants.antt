@@ -1,6 +1,6 @@
 use Rattle.std.proofs.Common.{◌≡◌, ◌++◌, length}
 use Rattle.std.specs.Vec.Iter.{into_iter_items, into_iter_len}
-use Rattle.conference.specs.Conferences.{conf_of}
+use Rattle.conference.specs.Conferences.{meaning_of}
 use Rattle.live_run.proofs.Showing.{AreFirst}
 use Rattle.live_run.proofs.views.views_of.Given as goal
 
@@ -9,5 +9,5 @@ invariant-loop-listener l = record {
   all : l.yielded ++ into_iter_items l.listener-iterator ≡ into_iter_items l.initial.listener-iterator;
   left : into_iter_len l.listener-iterator ≡ length (into_iter_items l.listener-iterator);
   number : l.own ≡ length l.yielded;
-  views : AreFirst (conf_of l.conf) (into_iter_items l.initial.listener-iterator) l.own l.views;
+  views : AreFirst (meaning_of l.conference) (into_iter_items l.initial.listener-iterator) l.own l.views;
 }

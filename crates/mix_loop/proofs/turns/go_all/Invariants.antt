@@ -1,5 +1,5 @@
 use Rattle.std.proofs.Common.{ℕ, List}
-use Rattle.rtt_base.specs.declared.text_packets.Pts.{Pts}
+use Rattle.rtt_base.specs.declared.text_packets.PayloadTypes.{PayloadTypes}
 use Rattle.mixer_spec.specs.Setups.{Setup}
 use Rattle.mixer_spec.specs.Table.{Table}
 use Rattle.mixer_spec.specs.Plain.{goes_below}
@@ -10,6 +10,6 @@ use Rattle.mix_loop.proofs.turns.go_all.Given as goal
 abbrev pub invariant-loop-leg : goal.invariant-loop-leg
 invariant-loop-leg g l =
     AreSound g.I.Inlet.good l.ports
-    × Keeps g.M.Mixes.legs g.M.Mixes.turns g.M.Mixes.addresses l.fn.mixer l.mixer
-    × ((s : Setup) (pts : ℕ → Pts) (firsts : List _) (kn : ℕ → Known _) (table : Table) → IsNow g.I.Inlet.stands (Of g.M.Mixes.stands pts) s firsts kn table l.fn.ports l.fn.mixer → Settled kn
-    → GoesBy g.I.Inlet.stands (Of g.M.Mixes.stands pts) s firsts (goes_below s l.now l.leg) kn table l.ports l.mixer)
+    × Keeps g.M.MixerCalls.legs g.M.MixerCalls.turns g.M.MixerCalls.addresses l.fn.mixer l.mixer
+    × ((s : Setup) (payload_types : ℕ → PayloadTypes) (firsts : List _) (kn : ℕ → Known _) (table : Table) → IsNow g.I.Inlet.stands (Of g.M.MixerCalls.stands payload_types) s firsts kn table l.fn.ports l.fn.mixer → Settled kn
+    → GoesBy g.I.Inlet.stands (Of g.M.MixerCalls.stands payload_types) s firsts (goes_below s l.now l.leg) kn table l.ports l.mixer)

@@ -6,4 +6,4 @@ use Rattle.mixer_turn.specs.Looks.{OfTables}
 use Rattle.mixer_turn.proofs.looks.are_free_of.Given as goal
 
 abbrev pub invariant-loop-terminal : goal.invariant-loop-terminal
-invariant-loop-terminal l = OfTables l.outlets l.slots (λ s table. all_below (λ j. (j == l.leg) || not (has_work s j (table.terminals j) l.leg)) l.terminal ≡ true)
+invariant-loop-terminal l = OfTables l.schedulers l.slots (λ s table. all_below (λ j. (j == l.leg) || not (has_work s j (table.terminals j) l.leg)) l.terminal ≡ true)

@@ -6,4 +6,4 @@ use Rattle.mixer_turn.proofs.turns.turn_legs.Given as goal
 
 -- what is turned so far, and no more packets than legs that hold places
 abbrev pub invariant-loop-leg : goal.invariant-loop-leg
-invariant-loop-leg l = Turning l.media l.leg l.fn.outlets l.seating l.fn.slots l.names l.outlets l.slots l.batch × (length l.batch ≤ count_below (has_place l.seating) l.leg)
+invariant-loop-leg l = Turning l.media l.leg l.fn.schedulers l.seating l.fn.slots l.names l.schedulers l.slots l.batch × (length l.batch ≤ count_below (has_place l.seating) l.leg)

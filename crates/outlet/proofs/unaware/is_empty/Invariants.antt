@@ -2,9 +2,9 @@ use Rattle.std.proofs.Common.{◌≡◌, true}
 use Rattle.mixer_spec.specs.Rounds.{all_below}
 use Rattle.mixer_spec.specs.Setups.{Setup}
 use Rattle.mixer_spec.specs.Table.{Table}
-use Rattle.slot_table.specs.Standing.{StandsFor}
+use Rattle.slot_table.specs.Standing.{SlotsStandFor}
 use Rattle.outlet.specs.UnawareStanding.{none_here}
 use Rattle.outlet.proofs.unaware.is_empty.Given as goal
 
 abbrev pub invariant-loop-source : goal.invariant-loop-source
-invariant-loop-source l = (s : Setup) (table : Table) → StandsFor s l.slots table → all_below (none_here l.own (table.terminals l.own)) l.source ≡ true
+invariant-loop-source l = (s : Setup) (table : Table) → SlotsStandFor s l.slots table → all_below (none_here l.own (table.terminals l.own)) l.source ≡ true

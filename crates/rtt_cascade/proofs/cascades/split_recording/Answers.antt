@@ -4,8 +4,8 @@ use Rattle.rtt_io.specs.Counts.{Rose}
 use Rattle.wire_spec.specs.Dump.{dump}
 use Rattle.rtpdump_io.specs.declared.items.RecordingFault.{RecordingFault}
 use Rattle.rtpdump_io.specs.Faults.{FaultOf, IsSourceFault}
-use Rattle.file_spec.specs.declared.conf_lines.LegLine.{LegLine}
-use Rattle.conference.specs.Conferences.{conf_of}
+use Rattle.file_spec.specs.declared.conference_lines.LegLine.{LegLine}
+use Rattle.conference.specs.Conferences.{meaning_of}
 use Rattle.cascade_spec.specs.Splitting.{Trunk, splits}
 use Rattle.command_spec.specs.Cascading.{trunk_limit}
 use Rattle.cascade.specs.declared.splits.Splits.{Splits}
@@ -19,36 +19,36 @@ use Rattle.rtt_cascade.proofs.cascades.split_recording.Goals as goal
 
 pub split-source-requires-clause-t140 : goal.split-source-requires-clause-t140
 split-source-requires-clause-t140 g c =
-    let e : c.trunk_conf.result.pts.t140 ≡ 98 = ap (λ (t : Trunk). t.pts.t140) (c.trunk_conf.ensures c.args.ssrc) in
+    let e : c.demux_settings.result.payload_types.t140 ≡ 98 = ap (λ (t : Trunk). t.payload_types.t140) (c.demux_settings.ensures c.args.ssrc) in
     omega (arith, e)
 
 pub split-source-requires-clause-wait : goal.split-source-requires-clause-wait
 split-source-requires-clause-wait g c =
-    let e : c.trunk_conf.result.wait ≡ c.args.conf.now.wait = ap (λ (t : Trunk). t.wait) (c.trunk_conf.ensures c.args.ssrc) in
-    omega (arith, e, c.args.conf.now.kept.wait)
+    let e : c.demux_settings.result.wait ≡ c.args.conference.now.wait = ap (λ (t : Trunk). t.wait) (c.demux_settings.ensures c.args.ssrc) in
+    omega (arith, e, c.args.conference.now.kept.wait)
 
 pub split-source-requires-clause-limit : goal.split-source-requires-clause-limit
 split-source-requires-clause-limit g c =
-    let e : c.trunk_conf.result.limit ≡ trunk_limit (conf_of c.args.conf.now) = ap (λ (t : Trunk). t.limit) (c.trunk_conf.ensures c.args.ssrc) in
-    subst (λ n. n ≤ 4194304) (sym e) (limit_fits (conf_of c.args.conf.now))
+    let e : c.demux_settings.result.limit ≡ trunk_limit (meaning_of c.args.conference.now) = ap (λ (t : Trunk). t.limit) (c.demux_settings.ensures c.args.ssrc) in
+    subst (λ n. n ≤ 4194304) (sym e) (limit_fits (meaning_of c.args.conference.now))
 
 pub split-source-requires-clause-differ : goal.split-source-requires-clause-differ
 split-source-requires-clause-differ g c =
-    let from : c.as_slice-2.result.now ≡ map (λ (leg : LegLine). leg.ssrc) c.args.conf.now.legs =
+    let from : c.as_slice-2.result.now ≡ map (λ (leg : LegLine). leg.ssrc) c.args.conference.now.legs =
     c.as_slice-2.ensures.value ∙ (c.in-Ok.ensures ∙ ap (λ (ls : List LegLine). map (λ (leg : LegLine). leg.ssrc) ls) c.as_slice.ensures) in
-    subst (λ (xs : List ℕ). AllPairs (λ a b. a ≢ b) xs) (sym from) (ssrcs_differ c.args.conf.now.legs c.args.conf.now.kept.legs.differ)
+    subst (λ (xs : List ℕ). AllPairs (λ a b. a ≢ b) xs) (sym from) (ssrcs_differ c.args.conference.now.legs c.args.conference.now.kept.legs.differ)
 
 pub returns-in-Ok-splits-clause-splits : goal.returns-in-Ok-splits-clause-splits
 returns-in-Ok-splits-clause-splits g c = λ told.
     let octets = g.W.Src.Source.left c.in-Ok-open_source.source in
     let tells = c.in-Ok-open_source.ensures.told told in
-    let from : c.as_slice-2.result.now ≡ map (λ (leg : LegLine). leg.ssrc) c.args.conf.now.legs =
+    let from : c.as_slice-2.result.now ≡ map (λ (leg : LegLine). leg.ssrc) c.args.conference.now.legs =
     c.as_slice-2.ensures.value ∙ (c.in-Ok.ensures ∙ ap (λ (ls : List LegLine). map (λ (leg : LegLine). leg.ssrc) ls) c.as_slice.ensures) in
-    are_splits (g.W.World.contents c.args.world.now) c.args.file.now c.args.ssrc (conf_of c.args.conf.now) c.in-Ok-splits.splits octets (splitting.trunk_of c.args.ssrc c.trunk_conf.result) c.as_slice-2.result.now
-    (c.trunk_conf.ensures c.args.ssrc) (c.in-Ok-open_source.ensures.holds told)
-    (subst (λ (r : Result Splits RecordingFault). OnOk r ((dump c.trunk_conf.result.limit octets).fault ≡ None)) c.in-Ok-splits.is (c.split-source.ensures.whole tells))
+    are_splits (g.W.World.contents c.args.world.now) c.args.file.now c.args.ssrc (meaning_of c.args.conference.now) c.in-Ok-splits.splits octets (splitting.trunk_of c.args.ssrc c.demux_settings.result) c.as_slice-2.result.now
+    (c.demux_settings.ensures c.args.ssrc) (c.in-Ok-open_source.ensures.holds told)
+    (subst (λ (r : Result Splits RecordingFault). OnOk r ((dump c.demux_settings.result.limit octets).fault ≡ None)) c.in-Ok-splits.is (c.split-source.ensures.whole tells))
     from
-    (subst (λ (r : Result Splits RecordingFault). IfOk r (λ s. recordings_of s ≡ splits (splitting.trunk_of c.args.ssrc c.trunk_conf.result) c.as_slice-2.result.now octets)) c.in-Ok-splits.is (c.split-source.ensures.splits tells))
+    (subst (λ (r : Result Splits RecordingFault). IfOk r (λ s. recordings_of s ≡ splits (splitting.trunk_of c.args.ssrc c.demux_settings.result) c.as_slice-2.result.now octets)) c.in-Ok-splits.is (c.split-source.ensures.splits tells))
 
 pub returns-clause-unsplit : goal.returns-clause-unsplit
 returns-clause-unsplit g c =
@@ -65,15 +65,15 @@ returns-clause-unsplit g c =
     subst (λ (r : Result Splits RecordingFault). IfErr r (λ f. IsSourceFault f → Rose (faults c.in-Ok-open_source.source) (faults c.split-source.result.0))) c.in-Err.is c.split-source.ensures.failed in
     record {
       cause =
-          subst (λ (f : CascadeFault). IsUnsplit g.W.World.tells Call Object held file (conf_of c.args.conf.now) f) (sym c.trunk_fault.ensures)
-          (unsplit g.W.World.tells Call Object held file c.args.ssrc (conf_of c.args.conf.now) octets (splitting.trunk_of c.args.ssrc c.trunk_conf.result) c.in-Err.fault
-          (c.trunk_conf.ensures c.args.ssrc) c.in-Ok-open_source.ensures.holds
+          subst (λ (f : CascadeFault). IsUnsplit g.W.World.tells Call Object held file (meaning_of c.args.conference.now) f) (sym c.trunk_fault.ensures)
+          (unsplit g.W.World.tells Call Object held file c.args.ssrc (meaning_of c.args.conference.now) octets (splitting.trunk_of c.args.ssrc c.demux_settings.result) c.in-Err.fault
+          (c.demux_settings.ensures c.args.ssrc) c.in-Ok-open_source.ensures.holds
           (λ of. risen (objects c.args.world.now) (objects c.open_source.new.self) (objects c.done_src.new.self) file (name c.split-source.result.0) (faults c.in-Ok-open_source.source) (faults c.split-source.result.0)
           c.in-Ok-open_source.ensures.same_objects (c.split-source.ensures.same_name ∙ c.in-Ok-open_source.ensures.named) c.in-Ok-open_source.ensures.fresh c.done_src.ensures.added (failed of))
-          (λ told. subst (λ (r : Result Splits RecordingFault). IfErr r (FaultOf (dump c.trunk_conf.result.limit octets))) c.in-Err.is (c.split-source.ensures.fault (c.in-Ok-open_source.ensures.told told))));
+          (λ told. subst (λ (r : Result Splits RecordingFault). IfErr r (FaultOf (dump c.demux_settings.result.limit octets))) c.in-Err.is (c.split-source.ensures.fault (c.in-Ok-open_source.ensures.told told))));
       first =
-          subst (λ (f : CascadeFault). IsFirst g.W.World.tells held file c.args.conf.now.legs (own c.args.world.now) (own c.done_src.new.self) f) (sym c.trunk_fault.ensures)
-          (unsplit_first g.W.World.tells held file c.args.conf.now.legs (own c.args.world.now) (own c.done_src.new.self) c.in-Err.fault
+          subst (λ (f : CascadeFault). IsFirst g.W.World.tells held file c.args.conference.now.legs (own c.args.world.now) (own c.done_src.new.self) f) (sym c.trunk_fault.ensures)
+          (unsplit_first g.W.World.tells held file c.args.conference.now.legs (own c.args.world.now) (own c.done_src.new.self) c.in-Err.fault
           (λ n. c.done_src.ensures.same_own n ∙ c.in-Ok-open_source.ensures.calm n));
     }
 

@@ -1,5 +1,5 @@
 use Rattle.std.proofs.Common.{[], ◌∷◌, ◌++◌, List, ℕ, refl, sym, ap, ◌∙◌, arith, append-nil, length, length-append, flat_map}
-use Rattle.rtt_base.specs.declared.text_packets.Pts.{Pts}
+use Rattle.rtt_base.specs.declared.text_packets.PayloadTypes.{PayloadTypes}
 use Rattle.wire_spec.specs.Dump.{Recording}
 use Rattle.rtpdump_io.specs.Answers.{record_of}
 use Rattle.rtpdump_io.proofs.Records.{all_read, more_read, none_read, read_partly, read_to_end}
@@ -11,7 +11,7 @@ pub loop-item-init : goal.loop-item-init
 loop-item-init g c = record {
   items = [];
   read = none_read g.S.Source.tells g.S.Source.left g.S.Source.faults g.S.Source.name c.args.reader.now;
-  same_pts = c.new-lines.ensures;
+  same_payload_types = c.new-lines.ensures;
   records_are = refl;
   few = omega arith;
   lines = sym (append-nil c.args.out.now);
@@ -25,17 +25,17 @@ loop-item-preserved g c =
     record {
       items = i.items ++ came ∷ [];
       read = read;
-      same_pts = c.make.ensures.same_pts ∙ i.same_pts;
+      same_payload_types = c.make.ensures.same_payload_types ∙ i.same_payload_types;
       records_are = omega (arith, i.records_are, length-append i.items (came ∷ []));
       few = omega (arith, i.records_are, length-append i.items (came ∷ []), read.few);
-      lines = one_listed c.args.pts c.args.out.now c.loop-item.out c.append.new.self i.items came i.lines
-          (c.in_ok-append.ensures.ok ∙ ap (λ (o : List ℕ). c.loop-item.out ++ o) (c.line.ensures ∙ (c.make.ensures.line ∙ ap (λ (p : Pts). record_line p came) i.same_pts)));
+      lines = one_listed c.args.payload_types c.args.out.now c.loop-item.out c.append.new.self i.items came i.lines
+          (c.in_ok-append.ensures.ok ∙ ap (λ (o : List ℕ). c.loop-item.out ++ o) (c.line.ensures ∙ (c.make.ensures.line ∙ ap (λ (p : PayloadTypes). record_line p came) i.same_payload_types)));
     }
 
 pub returns-clause-lines : goal.returns-clause-lines
 returns-clause-lines g c = λ t.
     let whole = all_read g.S.Source.tells g.S.Source.left g.S.Source.faults g.S.Source.name c.args.reader.now c.loop-item.reader c.next_record.new.self c.loop-item.invariant.items c.next_record.new.out c.loop-item.invariant.read (rw c.in_default.is at c.in_ok-item.ensures) t in
-    c.loop-item.invariant.lines ∙ ap (λ (r : Recording). c.args.out.now ++ flat_map (record_line c.args.pts) r.items) (sym whole)
+    c.loop-item.invariant.lines ∙ ap (λ (r : Recording). c.args.out.now ++ flat_map (record_line c.args.payload_types) r.items) (sym whole)
 
 pub returns-clause-records : goal.returns-clause-records
 returns-clause-records g c = λ t.

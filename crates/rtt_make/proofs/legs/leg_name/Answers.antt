@@ -1,5 +1,5 @@
 use Rattle.std.proofs.Common.{List, ℕ, IsTrue, ◌∙◌, sym, subst}
-use Rattle.file_spec.specs.Conf.{is_name}
+use Rattle.file_spec.specs.Conference.{is_name}
 use Rattle.command_spec.proofs.Generating.{named}
 use Rattle.rtt_make.proofs.legs.leg_name.Goals as goal
 

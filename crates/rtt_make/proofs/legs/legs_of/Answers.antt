@@ -1,6 +1,6 @@
 use Rattle.std.proofs.Common.{◌≡◌, ◌+◌, ◌-◌, List, map, ◌++◌, sym, subst, arith}
 use Rattle.std.specs.List.{range_with_len}
-use Rattle.file_spec.specs.declared.conf_lines.LegLine.{LegLine}
+use Rattle.file_spec.specs.declared.conference_lines.LegLine.{LegLine}
 use Rattle.command_spec.specs.Generated.{leg}
 use Rattle.rtt_make.proofs.Times.{range_step}
 use Rattle.rtt_make.proofs.legs.legs_of.Goals as goal

@@ -1,5 +1,5 @@
 use Rattle.std.proofs.Common.{◌≡◌, ◌-◌, List}
-use Rattle.file_spec.specs.declared.conf_lines.PlanLine.{PlanLine}
+use Rattle.file_spec.specs.declared.conference_lines.PlanLine.{PlanLine}
 use Rattle.command_spec.specs.Draws.{times}
 use Rattle.command_spec.specs.Generated.{plan_line, without_repeats}
 use Rattle.rtt_make.proofs.Times.{and_more}

@@ -8,9 +8,9 @@ use Rattle.rtt_script.proofs.recordings.print_packet.Goals as goal
 
 pub print_heard-requires : goal.print_heard-requires
 print_heard-requires c =
-    let P : Ear → Type 0 = λ e. Becomes e c.hear-refused.new.self (λ conf story. told story c.args.at (text_for conf c.args.octets.now)) in
+    let P : Ear → Type 0 = λ e. Becomes e c.hear-refused.new.self (λ settings story. told story c.args.at (text_for settings c.args.octets.now)) in
     let becomes = subst P (c.hear_plain_chunk.ensures.unchanged c.in-NotPlain.is) c.hear-refused.ensures.becomes in
-    record { giving = ∥∥₁_map c.requires.giving (becomes_giving c.args.ear.now c.hear-refused.new.self (λ conf story. told story c.args.at (text_for conf c.args.octets.now)) becomes) }
+    record { giving = ∥∥₁_map c.requires.giving (becomes_giving c.args.ear.now c.hear-refused.new.self (λ settings story. told story c.args.at (text_for settings c.args.octets.now)) becomes) }
 
 pub returns-in-Chunk-clause-prints : goal.returns-in-Chunk-clause-prints
 returns-in-Chunk-clause-prints c =
@@ -32,7 +32,7 @@ returns-in-Nothing-clause-giving c =
 
 pub returns-in-NotPlain-clause-prints : goal.returns-in-NotPlain-clause-prints
 returns-in-NotPlain-clause-prints c =
-    let P : Ear → Type 0 = λ e. Becomes e c.hear-refused.new.self (λ conf story. told story c.args.at (text_for conf c.args.octets.now)) in
+    let P : Ear → Type 0 = λ e. Becomes e c.hear-refused.new.self (λ settings story. told story c.args.at (text_for settings c.args.octets.now)) in
     let becomes = subst P (c.hear_plain_chunk.ensures.unchanged c.in-NotPlain.is) c.hear-refused.ensures.becomes in
     on_ok c.print_heard.result (prints_told c.args.ear.now c.hear-refused.new.self c.print_heard.new.ear c.args.at c.args.octets.now c.args.out.now c.print_heard.new.out becomes)
     c.print_heard.ensures.prints

@@ -5,7 +5,7 @@ use Rattle.rtt_script.proofs.recordings.print_rest.Goals as goal
 
 pub print_heard-requires : goal.print_heard-requires
 print_heard-requires c =
-    record { giving = ∥∥₁_map c.requires.giving (becomes_giving c.args.ear.now c.finish.new.self (λ conf story. ended story) c.finish.ensures.becomes) }
+    record { giving = ∥∥₁_map c.requires.giving (becomes_giving c.args.ear.now c.finish.new.self (λ settings story. ended story) c.finish.ensures.becomes) }
 
 pub returns : goal.returns
 returns c =

@@ -6,6 +6,6 @@ use Rattle.rtt_script.proofs.recordings.script_recording.Goals as goal
 
 pub returns-clause-printed : goal.returns-clause-printed
 returns-clause-printed g c = λ t octets e.
-    let P : List ℕ → Type 0 = λ printed. HasPrinted c.args.conf [] c.in_ok-ear.ear printed in
-    whole_printed c.args.conf octets g.S.Source.tells (to_come g.S.Source.left c.args.reader.now) c.in_ok-ear.ear c.print_records.new.ear c.new-out.result c.print_records.new.out c.print_rest.new.out t e
+    let P : List ℕ → Type 0 = λ printed. HasPrinted c.args.request [] c.in_ok-ear.ear printed in
+    whole_printed c.args.request octets g.S.Source.tells (to_come g.S.Source.left c.args.reader.now) c.in_ok-ear.ear c.print_records.new.ear c.new-out.result c.print_records.new.out c.print_rest.new.out t e
     (subst P (sym c.new-out.ensures) c.in_ok-ear.ensures.printed) c.in_ok-print_records.ensures.prints c.in_ok-print_rest.ensures

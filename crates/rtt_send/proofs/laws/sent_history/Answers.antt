@@ -4,4 +4,4 @@ use Rattle.rtt_send.proofs.Typed.{lawful_sent, closed_sent, texts_sent}
 use Rattle.rtt_send.proofs.laws.sent_history.Goals as goal
 
 pub returns : goal.returns
-returns c = record { lawful = lawful_sent; own = λ conf lines t. own conf (events_through lines t); closed = closed_sent; texts = texts_sent }
+returns c = record { lawful = lawful_sent; own = λ settings lines t. own settings (events_through lines t); closed = closed_sent; texts = texts_sent }

@@ -2,4 +2,4 @@ use Rattle.rtt_send.proofs.ReadBack.{items_back, packets_back}
 use Rattle.rtt_send.proofs.laws.sent_is_read_back.Goals as goal
 
 pub returns : goal.returns
-returns c = record { records = λ conf lines t r. items_back conf lines t r.conf_is r.ssrc r.lines_are r.until r.moments r.size; packets = packets_back }
+returns c = record { records = λ settings lines t r. items_back settings lines t r.settings_is r.ssrc r.lines_are r.until r.moments r.size; packets = packets_back }

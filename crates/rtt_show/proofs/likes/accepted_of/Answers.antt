@@ -9,7 +9,7 @@ use Rattle.rtt_show.proofs.likes.accepted_of.Goals as goal
 pub loop-octets-init : goal.loop-octets-init
 loop-octets-init c = record {
   left = record { back = c.requires.0; left = c.requires.1; few = omega (arith, c.requires.1.few) };
-  found = λ all a. front_none (λ came. 0 ≡ length (accepted c.args.ssrc c.args.pts came)) c.args.records.now all refl a;
+  found = λ all a. front_none (λ came. 0 ≡ length (accepted c.args.ssrc c.args.payload_types came)) c.args.records.now all refl a;
 }
 
 pub overflow_add-number : goal.overflow_add-number
@@ -23,18 +23,18 @@ loop-octets-preserved c =
     let octets = c.in-Some.octets.now in
     let more = c.in-Some.more.now in
     let old = c.loop-octets.number in
-    let Counts : ℕ → List Item → Type 0 = λ n came. n ≡ length (accepted c.args.ssrc c.args.pts came) in
+    let Counts : ℕ → List Item → Type 0 = λ n came. n ≡ length (accepted c.args.ssrc c.args.payload_types came) in
     record {
       left = left_less rest at octets more old (old + c.one_if-number.result) c.in-Some.ensures.record c.in-Some.ensures.shorter (omega (arith, c.one_if-number.ensures.small)) i.left;
       found = λ all a.
           front_more (Counts old) (Counts (old + c.one_if-number.result)) rest at octets more all c.in-Some.ensures.record c.in-Some.ensures.shorter
-          (λ came e. accepted_more c.args.ssrc c.args.pts old (old + c.one_if-number.result) came (sent_item (at, octets)) e (ap (λ n. old + n) (c.one_if-number.ensures.value ∙ ap one_if c.is_accepted-accepted.ensures)))
+          (λ came e. accepted_more c.args.ssrc c.args.payload_types old (old + c.one_if-number.result) came (sent_item (at, octets)) e (ap (λ n. old + n) (c.one_if-number.ensures.value ∙ ap one_if c.is_accepted-accepted.ensures)))
           (i.found all a);
     }
 
 pub returns-clause-number : goal.returns-clause-number
 returns-clause-number c = λ all a.
-    front_all (λ came. c.loop-octets.number ≡ length (accepted c.args.ssrc c.args.pts came)) c.loop-octets.rest.now all c.in_default.ensures.record (c.loop-octets.invariant.found all a)
+    front_all (λ came. c.loop-octets.number ≡ length (accepted c.args.ssrc c.args.payload_types came)) c.loop-octets.rest.now all c.in_default.ensures.record (c.loop-octets.invariant.found all a)
 
 pub returns-clause-few : goal.returns-clause-few
 returns-clause-few c = omega (arith, c.loop-octets.invariant.left.few)

@@ -6,7 +6,7 @@ use Rattle.rtt_show.proofs.likes.all_near_text.Given as goal
 
 abbrev pub invariant-loop-octets : goal.invariant-loop-octets
 invariant-loop-octets l =
-    (all : List (ℕ × List ℕ)) → AreRecords l.fn.records all → Front (λ came. l.near ≡ are_like_text l.fn.ssrc l.fn.pts came) l.rest all
+    (all : List (ℕ × List ℕ)) → AreRecords l.fn.records all → Front (λ came. l.near ≡ are_like_text l.fn.ssrc l.fn.payload_types came) l.rest all
 
 abbrev pub decreases-loop-octets : goal.decreases-loop-octets
 decreases-loop-octets l = length l.rest

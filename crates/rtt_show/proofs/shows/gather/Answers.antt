@@ -11,7 +11,7 @@ pub loop-item-init : goal.loop-item-init
 loop-item-init g c = record {
   items = [];
   not_ended = c.requires.open;
-  pts = refl;
+  payload_types = refl;
   is_found = c.requires.nothing;
   small = c.requires.small;
   few = omega (arith, most_few c.args.reader.now.stage c.args.reader.now.offset);
@@ -32,7 +32,7 @@ loop-item-preserved g c =
     record {
       items = i.items ++ told ∷ [];
       not_ended = c.in-Ok.ensures.ended ∙ not_last item more;
-      pts = c.take.ensures.pts ∙ i.pts;
+      payload_types = c.take.ensures.payload_types ∙ i.payload_types;
       is_found = c.in-Ok-take.ensures.more i.items i.is_found;
       small = subst (λ n. IsSmall n c.take.new.self) (sym longer) (c.in-Ok-take.ensures.small (length i.items) i.small);
       few = omega (arith, longer, c.in-Ok.ensures.nearer, i.few);

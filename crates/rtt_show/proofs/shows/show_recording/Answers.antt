@@ -1,5 +1,5 @@
 use Rattle.std.proofs.Common.{◌∙◌, ap, sym}
-use Rattle.rtt_base.specs.declared.text_packets.Pts.{Pts}
+use Rattle.rtt_base.specs.declared.text_packets.PayloadTypes.{PayloadTypes}
 use Rattle.rtt_show.specs.Whole.{ends}
 use Rattle.show_spec.specs.Showing.{recording_view}
 use Rattle.rtt_show.proofs.shows.show_recording.Goals as goal
@@ -8,5 +8,5 @@ pub returns-in-Ok-show_found-clause-shown : goal.returns-in-Ok-show_found-clause
 returns-in-Ok-show_found-clause-shown g c = λ t.
     let q = c.in-Ok.ensures.gathered in
     c.in-Ok-show_found.ensures q.items q.few q.is_found
-    ∙ (ap (λ (p : Pts). recording_view p c.args.start (record { items = q.items; fault = ends c.in-Ok.end })) (c.gather.ensures.pts ∙ c.new-found.ensures.pts)
-    ∙ ap (recording_view c.args.pts c.args.start) (sym (q.is t)))
+    ∙ (ap (λ (p : PayloadTypes). recording_view p c.args.start (record { items = q.items; fault = ends c.in-Ok.end })) (c.gather.ensures.payload_types ∙ c.new-found.ensures.payload_types)
+    ∙ ap (recording_view c.args.payload_types c.args.start) (sym (q.is t)))

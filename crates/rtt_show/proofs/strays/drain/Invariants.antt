@@ -5,10 +5,10 @@ use Rattle.rtt_show.proofs.strays.drain.Given as goal
 
 abbrev pub invariant-loop-due : goal.invariant-loop-due
 invariant-loop-due l = record {
-  drains : Drains l.initial.tracker l.tracker;
-  arrivals : arrival_count l.tracker ≡ arrival_count l.initial.tracker;
+  drains : Drains l.initial.buffer l.buffer;
+  arrivals : arrival_count l.buffer ≡ arrival_count l.initial.buffer;
 }
 
 -- each turn takes a packet out of the tracker
 abbrev pub decreases-loop-due : goal.decreases-loop-due
-decreases-loop-due l = length (packets_in l.tracker)
+decreases-loop-due l = length (packets_in l.buffer)

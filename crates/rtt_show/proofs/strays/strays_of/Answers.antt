@@ -11,7 +11,7 @@ use Rattle.rtt_show.proofs.strays.strays_of.Goals as goal
 pub loop-at-init : goal.loop-at-init
 loop-at-init c = record {
   few = (0, record { back = c.requires.0; left = c.requires.1; few = omega (arith, c.requires.1.few) }, (c.in_ok-follower.ensures.short, c.new-strays.ensures.few));
-  found = λ all a. front_none (λ came. Strayed c.in_ok-follower.follower c.new-strays.result (arrivals_after c.args.ssrc c.args.pts [] came)) c.args.records.now all (record { follows = c.in_ok-follower.ensures.nothing; strays = c.new-strays.ensures.nothing }) a;
+  found = λ all a. front_none (λ came. Strayed c.in_ok-follower.follower c.new-strays.result (arrivals_after c.args.ssrc c.args.payload_types [] came)) c.args.records.now all (record { follows = c.in_ok-follower.ensures.nothing; strays = c.new-strays.ensures.nothing }) a;
 }
 
 pub take_packet-requires : goal.take_packet-requires
@@ -31,12 +31,12 @@ loop-at-preserved c =
     let s = c.loop-at.strays in
     let g = c.take_packet.new.follower in
     let t = c.take_packet.new.strays in
-    let past : List Item → List Arrival = arrivals_after c.args.ssrc c.args.pts [] in
+    let past : List Item → List Arrival = arrivals_after c.args.ssrc c.args.payload_types [] in
     record {
       few = (i.few.0 + 1, left_less rest at octets more i.few.0 (i.few.0 + 1) c.in-Some.ensures.record c.in-Some.ensures.shorter (omega arith) i.few.1, c.in_ok-take_packet.ensures.few i.few.0 i.few.2);
       found = λ all a.
           front_more (λ came. Strayed f s (past came)) (λ came. Strayed g t (past came)) rest at octets more all c.in-Some.ensures.record c.in-Some.ensures.shorter
-          (λ came h. subst (Strayed g t) (sym (arrives_more c.args.pts c.args.ssrc came at octets)) (strayed_arrived f g s t at (text_of octets (Some c.args.ssrc) c.args.pts) (past came) c.in_ok-take_packet.ensures.more h))
+          (λ came h. subst (Strayed g t) (sym (arrives_more c.args.payload_types c.args.ssrc came at octets)) (strayed_arrived f g s t at (text_of octets (Some c.args.ssrc) c.args.payload_types) (past came) c.in_ok-take_packet.ensures.more h))
           (i.found all a);
     }
 
@@ -44,5 +44,5 @@ pub returns : goal.returns
 returns c = λ all a.
     let f = c.loop-at.follower in
     let s = c.loop-at.strays in
-    missed_strayed c.args.pts c.args.ssrc f s (record { lost = c.missing.result; late = s.packets }) (map sent_item all) c.missing.ensures refl
-    (front_all (λ came. Strayed f s (arrivals_after c.args.ssrc c.args.pts [] came)) c.loop-at.rest.now all c.in_default.ensures.record (c.loop-at.invariant.found all a))
+    missed_strayed c.args.payload_types c.args.ssrc f s (record { lost = c.missing.result; late = s.packets }) (map sent_item all) c.missing.ensures refl
+    (front_all (λ came. Strayed f s (arrivals_after c.args.ssrc c.args.payload_types [] came)) c.loop-at.rest.now all c.in_default.ensures.record (c.loop-at.invariant.found all a))

@@ -22,11 +22,11 @@ returns c =
     let t = c.args.terminal.now in
     let m = c.in_ok-missed.missed in
     let title = title_of c.args.ssrc s.from s.to m.lost m.late in
-    let missed : (records : List (ℕ × List ℕ)) → AreRecords c.args.records.now records → IsMissed c.args.pts c.args.ssrc m (map sent_item records) = λ records a.
-    used_is c.args.pts c.args.ssrc s t (asked c.args.ssrc s.sources.kept.items) m (map sent_item records) (c.requires.found records a) (c.requires.heard records a)
-    (subst (λ (n : Counts). IsMissedOf c.args.pts c.args.ssrc s.spread n.used m (map sent_item records)) c.counts-used.ensures (c.in_ok-missed.ensures records a)) in
+    let missed : (records : List (ℕ × List ℕ)) → AreRecords c.args.records.now records → IsMissed c.args.payload_types c.args.ssrc m (map sent_item records) = λ records a.
+    used_is c.args.payload_types c.args.ssrc s t (asked c.args.ssrc s.sources.kept.items) m (map sent_item records) (c.requires.found records a) (c.requires.heard records a)
+    (subst (λ (n : Counts). IsMissedOf c.args.payload_types c.args.ssrc s.spread n.used m (map sent_item records)) c.counts-used.ensures (c.in_ok-missed.ensures records a)) in
     on_ok c.append_heard.result (λ e records a.
     e ∙ (ap (λ xs. xs ++ heard_text s t) c.in_ok-append_title.ensures
     ∙ (append_assoc c.args.out.now title (heard_text s t)
-    ∙ ap (λ xs. c.args.out.now ++ xs) (stream_shown c.args.pts c.args.ssrc s t m (map sent_item records) (c.requires.found records a) (c.requires.heard records a) (missed records a)))))
+    ∙ ap (λ xs. c.args.out.now ++ xs) (stream_shown c.args.payload_types c.args.ssrc s t m (map sent_item records) (c.requires.found records a) (c.requires.heard records a) (missed records a)))))
     c.append_heard.ensures

@@ -10,7 +10,7 @@ use Rattle.rtt_show.proofs.surveys.survey_of.Goals as goal
 pub loop-at-init : goal.loop-at-init
 loop-at-init c = record {
   few = (0, record { back = c.requires.0; left = c.requires.1; few = omega (arith, c.requires.1.few) }, c.new-found.ensures.few);
-  found = λ all a. front_none (IsSurvey c.args.pts c.args.ssrc c.new-found.result) c.args.records.now all (c.new-found.ensures.nothing c.args.pts c.args.ssrc) a;
+  found = λ all a. front_none (IsSurvey c.args.payload_types c.args.ssrc c.new-found.result) c.args.records.now all (c.new-found.ensures.nothing c.args.payload_types c.args.ssrc) a;
 }
 
 pub take-requires : goal.take-requires
@@ -31,11 +31,11 @@ loop-at-preserved c =
     record {
       few = (i.few.0 + 1, left_less rest at octets more i.few.0 (i.few.0 + 1) c.in-Some.ensures.record c.in-Some.ensures.shorter (omega arith) i.few.1, c.in_ok-take.ensures.few i.few.0 i.few.2);
       found = λ all a.
-          front_more (IsSurvey c.args.pts c.args.ssrc old) (IsSurvey c.args.pts c.args.ssrc new) rest at octets more all c.in-Some.ensures.record c.in-Some.ensures.shorter
-          (λ came s. survey_more c.args.pts c.args.ssrc old new came at octets s (subst (λ (read : Result Origin TextFault). SurveysMore old at read new) c.read_source-read.ensures c.in_ok-take.ensures.more))
+          front_more (IsSurvey c.args.payload_types c.args.ssrc old) (IsSurvey c.args.payload_types c.args.ssrc new) rest at octets more all c.in-Some.ensures.record c.in-Some.ensures.shorter
+          (λ came s. survey_more c.args.payload_types c.args.ssrc old new came at octets s (subst (λ (read : Result Origin TextFault). SurveysMore old at read new) c.read_source-read.ensures c.in_ok-take.ensures.more))
           (i.found all a);
     }
 
 pub returns : goal.returns
 returns c = λ all a.
-    front_all (IsSurvey c.args.pts c.args.ssrc c.loop-at.found) c.loop-at.rest.now all c.in_default.ensures.record (c.loop-at.invariant.found all a)
+    front_all (IsSurvey c.args.payload_types c.args.ssrc c.loop-at.found) c.loop-at.rest.now all c.in_default.ensures.record (c.loop-at.invariant.found all a)

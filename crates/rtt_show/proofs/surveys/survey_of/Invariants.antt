@@ -7,7 +7,7 @@ use Rattle.rtt_show.proofs.surveys.survey_of.Given as goal
 abbrev pub invariant-loop-at : goal.invariant-loop-at
 invariant-loop-at l = record {
   few : (n : ℕ) × Left l.rest n × IsFew n l.found;
-  found : (all : List (ℕ × List ℕ)) → AreRecords l.fn.records all → Front (IsSurvey l.fn.pts l.fn.ssrc l.found) l.rest all;
+  found : (all : List (ℕ × List ℕ)) → AreRecords l.fn.records all → Front (IsSurvey l.fn.payload_types l.fn.ssrc l.found) l.rest all;
 }
 
 abbrev pub decreases-loop-at : goal.decreases-loop-at

@@ -18,7 +18,7 @@ bounds-rows-index c = let each = rows_each c.args.streams.now c.args.rows.now c.
 
 pub loop-index-preserved : goal.loop-index-preserved
 loop-index-preserved c =
-    rows_added c.args.pts c.args.streams.now c.loop-index.index c.index-streams-index.result c.args.lines.now c.loop-index.lines c.add_row.new.lines (omega arith) c.index-streams-index.is (c.in_ok-add_row.ensures c.if-not-branch.false) c.loop-index.invariant
+    rows_added c.args.payload_types c.args.streams.now c.loop-index.index c.index-streams-index.result c.args.lines.now c.loop-index.lines c.add_row.new.lines (omega arith) c.index-streams-index.is (c.in_ok-add_row.ensures c.if-not-branch.false) c.loop-index.invariant
 
 pub returns : goal.returns
-returns c = λ whole. rows_all c.args.pts c.args.streams.now c.loop-index.index c.args.lines.now c.loop-index.lines (omega arith) c.loop-index.invariant
+returns c = λ whole. rows_all c.args.payload_types c.args.streams.now c.loop-index.index c.args.lines.now c.loop-index.lines (omega arith) c.loop-index.invariant

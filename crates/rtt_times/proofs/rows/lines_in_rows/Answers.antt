@@ -22,5 +22,5 @@ pub returns : goal.returns
 returns c =
     let found = c.args.found.now in
     rows_told found c.new-lines.result c.add_rows.new.lines c.sort.new.self c.new-lines.ensures
-    (subst (λ (gs : List Group). AddsRows found.pts gs c.new-lines.result c.add_rows.new.lines) c.as_slice-streams.ensures.value (c.in_ok-add_rows.ensures c.if-not-branch.false))
+    (subst (λ (gs : List Group). AddsRows found.payload_types gs c.new-lines.result c.add_rows.new.lines) c.as_slice-streams.ensures.value (c.in_ok-add_rows.ensures c.if-not-branch.false))
     c.in_ok-sort.ensures

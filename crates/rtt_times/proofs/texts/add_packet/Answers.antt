@@ -8,9 +8,9 @@ use Rattle.rtt_times.proofs.texts.add_packet.Goals as goal
 
 pub add_heard-requires : goal.add_heard-requires
 add_heard-requires c =
-    let P : Ear → Type 0 = λ e. Becomes e c.hear-refused.new.self (λ conf story. told story c.args.at (text_for conf c.args.octets.now)) in
+    let P : Ear → Type 0 = λ e. Becomes e c.hear-refused.new.self (λ settings story. told story c.args.at (text_for settings c.args.octets.now)) in
     let becomes = subst P (c.hear_plain_chunk.ensures.unchanged c.in-NotPlain.is) c.hear-refused.ensures.becomes in
-    record { giving = ∥∥₁_map c.requires.giving (becomes_giving c.args.ear.now c.hear-refused.new.self (λ conf story. told story c.args.at (text_for conf c.args.octets.now)) becomes) }
+    record { giving = ∥∥₁_map c.requires.giving (becomes_giving c.args.ear.now c.hear-refused.new.self (λ settings story. told story c.args.at (text_for settings c.args.octets.now)) becomes) }
 
 pub returns-in-Chunk-clause-writes : goal.returns-in-Chunk-clause-writes
 returns-in-Chunk-clause-writes c =
@@ -32,7 +32,7 @@ returns-in-Nothing-clause-giving c =
 
 pub returns-in-NotPlain-clause-writes : goal.returns-in-NotPlain-clause-writes
 returns-in-NotPlain-clause-writes c =
-    let P : Ear → Type 0 = λ e. Becomes e c.hear-refused.new.self (λ conf story. told story c.args.at (text_for conf c.args.octets.now)) in
+    let P : Ear → Type 0 = λ e. Becomes e c.hear-refused.new.self (λ settings story. told story c.args.at (text_for settings c.args.octets.now)) in
     let becomes = subst P (c.hear_plain_chunk.ensures.unchanged c.in-NotPlain.is) c.hear-refused.ensures.becomes in
     on_ok c.add_heard.result (λ writes r e. writes_told r c.args.ear.now c.hear-refused.new.self c.add_heard.new.ear c.args.at c.args.octets.now c.args.lines.now c.add_heard.new.lines becomes (writes r e))
     c.add_heard.ensures.writes

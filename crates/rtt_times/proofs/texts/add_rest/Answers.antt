@@ -4,7 +4,7 @@ use Rattle.rtt_times.proofs.Writing.{on_ok, becomes_giving, writes_end}
 use Rattle.rtt_times.proofs.texts.add_rest.Goals as goal
 
 pub add_heard-requires : goal.add_heard-requires
-add_heard-requires c = record { giving = ∥∥₁_map c.requires.giving (becomes_giving c.args.ear.now c.finish.new.self (λ conf story. ended story) c.finish.ensures.becomes) }
+add_heard-requires c = record { giving = ∥∥₁_map c.requires.giving (becomes_giving c.args.ear.now c.finish.new.self (λ settings story. ended story) c.finish.ensures.becomes) }
 
 pub returns : goal.returns
 returns c =

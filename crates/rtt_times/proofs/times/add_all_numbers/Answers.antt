@@ -13,8 +13,8 @@ loop-index-preserved c =
     let more = c.in_ok-sources.sources in
     let is = c.in_ok-push.ensures.items in
     record {
-      so_far = subst (λ (ns : List FirstSources). NumberedSoFar c.args.pts c.args.streams.now (c.loop-index.index + 1) ns c.args.lines.now c.add_stream_numbers.new.lines) (sym is)
-          (numbered_more c.args.pts c.args.streams.now c.loop-index.index c.index-streams-index.result named more c.args.lines.now c.loop-index.lines c.add_stream_numbers.new.lines (omega arith) c.index-streams-index.is c.in_ok-sources.ensures.numbers c.in_ok-sources.ensures.sources i.so_far);
+      so_far = subst (λ (ns : List FirstSources). NumberedSoFar c.args.payload_types c.args.streams.now (c.loop-index.index + 1) ns c.args.lines.now c.add_stream_numbers.new.lines) (sym is)
+          (numbered_more c.args.payload_types c.args.streams.now c.loop-index.index c.index-streams-index.result named more c.args.lines.now c.loop-index.lines c.add_stream_numbers.new.lines (omega arith) c.index-streams-index.is c.in_ok-sources.ensures.numbers c.in_ok-sources.ensures.sources i.so_far);
       each = ap length is ∙ (length-append named (more ∷ []) ∙ omega (arith, i.each));
       few = subst (All AreFew) (sym is) (All-push AreFew named more i.few c.in_ok-sources.ensures.few);
     }

@@ -6,7 +6,7 @@ use Rattle.rtt_times.proofs.times.add_all_numbers.Given as goal
 
 abbrev pub invariant-loop-index : goal.invariant-loop-index
 invariant-loop-index l = record {
-  so_far : NumberedSoFar l.fn.pts l.fn.streams l.index l.named.items l.fn.lines l.lines;
+  so_far : NumberedSoFar l.fn.payload_types l.fn.streams l.index l.named.items l.fn.lines l.lines;
   each : length l.named.items ≡ l.index;
   few : All AreFew l.named.items;
 }

@@ -25,8 +25,8 @@ returns-clause-told c =
     let three = c.add_all_texts.new.lines in
     let streams = c.as_slice-streams.ensures.value in
     all_told found named c.others_of.result one two three c.sort.new.self c.new-lines.ensures
-    (subst (λ (gs : List Group). AreNumbered found.pts gs named one two) streams c.in_ok-named.ensures.numbers)
-    (subst (λ (gs : List Group). AreTexted found.pts gs named two three) streams (subst (λ (ns : List FirstSources). AreTexted found.pts c.as_slice-streams.result.now ns two three) c.as_slice.ensures.value c.in_ok-add_all_texts.ensures))
+    (subst (λ (gs : List Group). AreNumbered found.payload_types gs named one two) streams c.in_ok-named.ensures.numbers)
+    (subst (λ (gs : List Group). AreTexted found.payload_types gs named two three) streams (subst (λ (ns : List FirstSources). AreTexted found.payload_types c.as_slice-streams.result.now ns two three) c.as_slice.ensures.value c.in_ok-add_all_texts.ensures))
     c.in_ok-sort.ensures (c.others_of.ensures ∙ ap sum_others c.as_slice-2.ensures.value)
 
 pub returns-clause-early : goal.returns-clause-early
@@ -39,7 +39,7 @@ returns-clause-early c =
     let streams = c.as_slice-streams.ensures.value in
     lines_early found c.sort.new.self c.others_of.result
     (all_told found named c.others_of.result one two three c.sort.new.self c.new-lines.ensures
-    (subst (λ (gs : List Group). AreNumbered found.pts gs named one two) streams c.in_ok-named.ensures.numbers)
-    (subst (λ (gs : List Group). AreTexted found.pts gs named two three) streams (subst (λ (ns : List FirstSources). AreTexted found.pts c.as_slice-streams.result.now ns two three) c.as_slice.ensures.value c.in_ok-add_all_texts.ensures))
+    (subst (λ (gs : List Group). AreNumbered found.payload_types gs named one two) streams c.in_ok-named.ensures.numbers)
+    (subst (λ (gs : List Group). AreTexted found.payload_types gs named two three) streams (subst (λ (ns : List FirstSources). AreTexted found.payload_types c.as_slice-streams.result.now ns two three) c.as_slice.ensures.value c.in_ok-add_all_texts.ensures))
     c.in_ok-sort.ensures (c.others_of.ensures ∙ ap sum_others c.as_slice-2.ensures.value))
     c.requires

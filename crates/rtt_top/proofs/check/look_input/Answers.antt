@@ -24,10 +24,10 @@ returns-in-Ok-leg_told-clause-looks g c = λ before same.
     let old = g.W.World.contents c.args.world.now in
     let octets = c.in-Ok.octets in
     let leg = c.args.leg.now in
-    let conf = c.args.conf.now in
-    looked_at g.W.World.tells (g.W.World.contents before) c.args.limit conf leg octets c.in-Ok-leg_told.found
+    let conference = c.args.conference.now in
+    looked_at g.W.World.tells (g.W.World.contents before) c.args.limit conference leg octets c.in-Ok-leg_told.found
     (λ t. subst (λ held. IsReadOf MOST_CHECKED_OCTETS held octets) (ap old c.as_str.ensures ∙ same.0 t leg.input) (c.in-Ok.ensures.given t))
-    (c.in-Ok-leg_told.ensures ∙ ap (leg_told c.args.limit conf leg) c.as_slice.ensures)
+    (c.in-Ok-leg_told.ensures ∙ ap (leg_told c.args.limit conference leg) c.as_slice.ensures)
 
 pub returns-in-Ok-leg_told-clause-same : goal.returns-in-Ok-leg_told-clause-same
 returns-in-Ok-leg_told-clause-same g c = (c.read_input.ensures.same_contents, c.in-Ok.ensures.opened, c.in-Ok.ensures.calm)

@@ -1,6 +1,6 @@
 use Rattle.std.proofs.Common.{Some, Err, refl, ap, sym, ◌∙◌}
 use Rattle.std.specs.Prelude.{Ok, option_map}
-use Rattle.conference.specs.Conferences.{conf_of}
+use Rattle.conference.specs.Conferences.{meaning_of}
 use Rattle.command_spec.specs.declared.faults.Fault.TheVariants.{NoMemory}
 use Rattle.command_spec.specs.Outcomes.{Same}
 use Rattle.check_spec.specs.Checking as checking
@@ -52,11 +52,11 @@ returns-in-Some-clause-runs g c =
     let res = c.print_found-printed.result in
     let told = told_of c.in-Ok-ports_told.found (as_told begun.told) in
     let finish = c.finish_look-in-Some in
-    let is = sym c.in-Ok.ensures.links ∙ ap (option_map conf_of) c.in-Some.is in
+    let is = sym c.in-Ok.ensures.links ∙ ap (option_map meaning_of) c.in-Some.is in
     runs (ending_of res) w.file
-    (status_found w g.W.World.tells held res finish.result (taken_none w g.W.World.tells held res (tried_alone g.W.World old w.file begun.octets (as_told begun.told) begun.legs (conf_of c.in-Some.conf) c.in-Ok.ensures.begun is)) finish.ensures.status)
-    (tried_ends w g.W.World.tells g.K.Sink.tells (outside_at g.W.World g.K.Sink old c.args.out.now) (outside_at g.W.World g.K.Sink c.begin_look.new.world c.print_found-printed.new.out) told.text res (conf_of c.in-Some.conf)
-    (tried_outcome g.W.World old w.file begun.octets (as_told begun.told) begun.legs (conf_of c.in-Some.conf) c.in-Ok.ensures.begun is) c.begin_look.ensures.same_contents
+    (status_found w g.W.World.tells held res finish.result (taken_none w g.W.World.tells held res (tried_alone g.W.World old w.file begun.octets (as_told begun.told) begun.legs (meaning_of c.in-Some.conference) c.in-Ok.ensures.begun is)) finish.ensures.status)
+    (tried_ends w g.W.World.tells g.K.Sink.tells (outside_at g.W.World g.K.Sink old c.args.out.now) (outside_at g.W.World g.K.Sink c.begin_look.new.world c.print_found-printed.new.out) told.text res (meaning_of c.in-Some.conference)
+    (tried_outcome g.W.World old w.file begun.octets (as_told begun.told) begun.legs (meaning_of c.in-Some.conference) c.in-Ok.ensures.begun is) c.begin_look.ensures.same_contents
     c.print_found-printed.ensures.fault c.print_found-printed.ensures.cause c.print_found-printed.ensures.printed c.print_found-printed.ensures.partly)
     finish.ensures.silent finish.ensures.front finish.ensures.told
 
@@ -66,16 +66,16 @@ returns-in-Some-clause-looks g c =
     let old = c.args.world.now in
     let begun = c.in-Ok.begun in
     let octets = c.as_slice.result.now in
-    let conf = conf_of c.in-Some.conf in
+    let conference = meaning_of c.in-Some.conference in
     let answers = g.P.Ports.answers c.args.ports.now in
     let told = told_of c.in-Ok-ports_told.found (as_told begun.told) in
     let finish = c.finish_look-in-Some in
     let before = output_at g.K.Sink c.args.out.now in
     let after = output_at g.K.Sink c.print_found-printed.new.out in
-    let is = sym c.in-Ok.ensures.links ∙ ap (option_map conf_of) c.in-Some.is in
+    let is = sym c.in-Ok.ensures.links ∙ ap (option_map meaning_of) c.in-Some.is in
     told_so w g.W.World.tells g.K.Sink.tells g.P.Ports.tells answers (g.W.World.contents old) before after told finish.result
-    (λ t p. tried_told g.W.World old w.file begun.octets (as_told begun.told) begun.legs conf answers c.in-Ok.ensures.begun is t
-    ∙ ap (λ (r : checking.Report). Some r) (sym (c.in-Ok-ports_told.ensures.told p (as_told begun.told) ∙ ap (λ o. ports_told answers o conf (as_told begun.told)) c.as_slice.ensures)))
+    (λ t p. tried_told g.W.World old w.file begun.octets (as_told begun.told) begun.legs conference answers c.in-Ok.ensures.begun is t
+    ∙ ap (λ (r : checking.Report). Some r) (sym (c.in-Ok-ports_told.ensures.told p (as_told begun.told) ∙ ap (λ o. ports_told answers o conference (as_told begun.told)) c.as_slice.ensures)))
     (is_told told g.K.Sink.tells before after c.print_found-printed.result finish.result finish.ensures.status c.print_found-printed.ensures.taken c.print_found-printed.ensures.printed c.print_found-printed.ensures.partly)
 
 pub returns-in_default-ports_told-clause-looks : goal.returns-in_default-ports_told-clause-looks
@@ -93,7 +93,7 @@ returns-in-Ok-look_inputs-clause-runs g c =
     let old = c.args.world.now in
     let held = g.W.World.contents old in
     let begun = c.in-Ok.begun in
-    let none = sym c.in-Ok.ensures.links ∙ ap (option_map conf_of) c.in_default.is in
+    let none = sym c.in-Ok.ensures.links ∙ ap (option_map meaning_of) c.in_default.is in
     let told = told_of c.in-Ok-look_inputs.found (as_told begun.told) in
     let res = c.print_found-printed-in-Ok-look_inputs.result in
     let is = told_all g.W.World old c.begin_look.new.world w.file begun.octets c.as_slice-2.result.now (as_told begun.told) begun.legs c.as_slice-legs.result.now c.most_of_input-limit.result c.in-Ok-look_inputs.found
@@ -111,7 +111,7 @@ returns-in-Ok-look_inputs-clause-looks g c =
     let old = c.args.world.now in
     let begun = c.in-Ok.begun in
     let answers = g.P.Ports.answers c.args.ports.now in
-    let none = sym c.in-Ok.ensures.links ∙ ap (option_map conf_of) c.in_default.is in
+    let none = sym c.in-Ok.ensures.links ∙ ap (option_map meaning_of) c.in_default.is in
     let told = told_of c.in-Ok-look_inputs.found (as_told begun.told) in
     let printed = c.print_found-printed-in-Ok-look_inputs in
     let finish = c.finish_look-in-Ok-look_inputs in
@@ -128,7 +128,7 @@ returns-clause-runs g c =
     let w = checked c.args.words.now in
     let old = c.args.world.now in
     let begun = c.in-Ok.begun in
-    let none = sym c.in-Ok.ensures.links ∙ ap (option_map conf_of) c.in_default.is in
+    let none = sym c.in-Ok.ensures.links ∙ ap (option_map meaning_of) c.in_default.is in
     let unread = c.in-Err-look_inputs.unread in
     let kept : g.W.World.tells → Same (g.W.World.contents old) (g.W.World.contents c.look_inputs.new.world) = λ t n. c.look_inputs.ensures.same_contents t n ∙ c.begin_look.ensures.same_contents t n in
     runs (Err unread.fault) unread.name.now

@@ -12,7 +12,7 @@ use Rattle.rtt_top.proofs.make.line_of.Goals as goal
 
 pub mix_held-requires : goal.mix_held-requires
 mix_held-requires g c =
-    let each : length c.in-Ok-recordings_of.inputs.items ≡ length c.in-Ok.made.conf.legs =
+    let each : length c.in-Ok-recordings_of.inputs.items ≡ length c.in-Ok.made.conference.legs =
     as_many (made_of c.in-Ok.made) c.in-Ok-recordings_of.inputs.items (is_made c.in-Ok.made (c.args.number, c.in-Ok.ensures)).each_script c.in-Ok-recordings_of.ensures in
     search rules
 

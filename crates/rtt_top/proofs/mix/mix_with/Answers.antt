@@ -2,7 +2,7 @@ use Rattle.std.proofs.Common.{◌≡◌, ◌++◌, ℕ, List, [], ◌∷◌, Err
 use Rattle.std.proofs.lemmas.List.{append-nil}
 use Rattle.std.proofs.lemmas.List.Folds.{concat-append}
 use Rattle.std.specs.List.{concat}
-use Rattle.conference.specs.Conferences.{conf_of}
+use Rattle.conference.specs.Conferences.{meaning_of}
 use Rattle.command_spec.specs.declared.faults.Fault.{Fault}
 use Rattle.sent_files.specs.Files.{recordings_of}
 use Rattle.bridge_run.specs.Mixes.{outputs_of}
@@ -17,16 +17,16 @@ pub returns-in-Err : goal.returns-in-Err
 returns-in-Err g c = λ counts file command m.
     let old = outside_at g.W.World g.K.Sink c.args.world.now c.args.out.now in
     let new = outside_at g.W.World g.K.Sink c.mix.new.world c.args.out.now in
-    let P : Fault → Type 0 = λ f. Ends command g.W.World.tells g.K.Sink.tells old new (ending_name file c.args.conf.now.legs (Err f)) (Err f) in
+    let P : Fault → Type 0 = λ f. Ends command g.W.World.tells g.K.Sink.tells old new (ending_name file c.args.conference.now.legs (Err f)) (Err f) in
     subst P (sym c.fault_of_mixing.ensures)
-    (stopped_mixing g.W.World.tells g.K.Sink.tells old new file command (conf_of c.args.conf.now) c.in-Err.fault m c.in-Err.ensures.stops c.in-Err.ensures.none_failed c.in-Err.ensures.first ((λ shown. refl), c.in-Err.ensures.same_contents))
+    (stopped_mixing g.W.World.tells g.K.Sink.tells old new file command (meaning_of c.args.conference.now) c.in-Err.fault m c.in-Err.ensures.stops c.in-Err.ensures.none_failed c.in-Err.ensures.first ((λ shown. refl), c.in-Err.ensures.same_contents))
 
 pub returns : goal.returns
 returns g c = λ counts file command m.
     let old = outside_at g.W.World g.K.Sink c.args.world.now c.args.out.now in
     let mid = outside_at g.W.World g.K.Sink c.mix.new.world c.args.out.now in
     let new = outside_at g.W.World g.K.Sink c.make_outputs.new.world c.make_outputs.new.out in
-    let legs = c.args.conf.now.legs in
+    let legs = c.args.conference.now.legs in
     let mixed = c.in-Ok.mixed in
     let more = c.in-Ok-with_lines.more in
     let lines = c.args.lines in
@@ -35,7 +35,7 @@ returns g c = λ counts file command m.
     let recordings = recordings_of mixed.outs in
     let ends = subst (λ ls. OutputsEnd g.W.World g.K.Sink c.mix.new.world c.args.out.now c.make_outputs.new.world c.make_outputs.new.out ls more c.make_outputs.result) c.as_slice.ensures c.make_outputs.ensures in
     let made = makes_since g.W.World.tells old.contents mid.contents command legs printed (outputs_of legs recordings) c.mix.ensures.same_contents
-    (mixing_makes g.W.World.tells old.contents command (conf_of c.args.conf.now) (concat mixed.views.items) lines recordings m (λ told. let made = c.in-Ok.ensures.made told in (made.lie, made.makes)) counts) in
+    (mixing_makes g.W.World.tells old.contents command (meaning_of c.args.conference.now) (concat mixed.views.items) lines recordings m (λ told. let made = c.in-Ok.ensures.made told in (made.lie, made.makes)) counts) in
     let Of : List ℕ → List (List ℕ) → Type 0 = λ p os. MakesOutputs g.W.World.tells mid.contents command legs p (outputs_of legs os) in
     ends_since command g.W.World.tells g.K.Sink.tells old mid new (ending_name file legs c.make_outputs.result) c.make_outputs.result
     (record { same = c.mix.ensures.same_contents; calls_rise = c.mix.ensures.calls_never_fall; objects_rise = c.mix.ensures.objects_never_fall }) refl refl c.in-Ok.ensures.none_failed c.in-Ok.ensures.opened

@@ -1,5 +1,5 @@
 use Rattle.std.proofs.Common.{◌<◌, length, ap, sym, subst, ◌∙◌, arith}
-use Rattle.file_spec.specs.declared.conf_lines.LegLine.{LegLine}
+use Rattle.file_spec.specs.declared.conference_lines.LegLine.{LegLine}
 use Rattle.sent_log.specs.States.{State}
 use Rattle.sent_files.specs.Files.{recording_at, recordings_of}
 use Rattle.command_spec.specs.Outcomes.{AllStored}

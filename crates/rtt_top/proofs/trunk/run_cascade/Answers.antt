@@ -14,9 +14,9 @@ use Rattle.rtt_top.proofs.trunk.run_cascade.Goals as goal
 pub returns-in-Err : goal.returns-in-Err
 returns-in-Err g c =
     let old = outside_at g.W.World g.K.Sink c.args.world.now c.args.out.now in
-    let new = outside_at g.W.World g.K.Sink c.conf_under.new.world c.args.out.now in
+    let new = outside_at g.W.World g.K.Sink c.conference_under.new.world c.args.out.now in
     let asked = c.args.words.now in
-    let name = asked.conf.now in
+    let name = asked.conference.now in
     let command = words.Cascade (cascaded asked) in
     let ending : Ending = Err c.in-Err.fault in
     runs ending name c.finish_with.ensures.status
@@ -27,16 +27,16 @@ returns-in-Err g c =
 pub returns : goal.returns
 returns g c =
     let old = outside_at g.W.World g.K.Sink c.args.world.now c.args.out.now in
-    let new = outside_at g.W.World g.K.Sink c.cascade_conf-ending.new.world c.cascade_conf-ending.new.out in
+    let new = outside_at g.W.World g.K.Sink c.cascade_conference-ending.new.world c.cascade_conference-ending.new.out in
     let asked = c.args.words.now in
-    let conference = asked.conf.now in
+    let conference = asked.conference.now in
     let command = words.Cascade (cascaded asked) in
-    let ending = c.cascade_conf-ending.result in
+    let ending = c.cascade_conference-ending.result in
     let read = c.in-Ok.ensures.read in
     let named = c.name_behind-name.ensures ∙ ap (λ legs. ending_behind conference asked.file.now legs ending) c.as_slice.ensures in
     runs ending c.name_behind-name.result.now c.finish_with-2.ensures.status
     (subst (λ n. Ends command g.W.World.tells g.K.Sink.tells old new n ending) (sym named)
-    (ends_since command g.W.World.tells g.K.Sink.tells old (outside_at g.W.World g.K.Sink c.conf_under.new.world c.args.out.now) new (ending_behind conference asked.file.now c.in-Ok.conf.legs ending) ending
+    (ends_since command g.W.World.tells g.K.Sink.tells old (outside_at g.W.World g.K.Sink c.conference_under.new.world c.args.out.now) new (ending_behind conference asked.file.now c.in-Ok.conference.legs ending) ending
     (record { same = c.in-Ok.ensures.same_contents; calls_rise = c.in-Ok.ensures.calls_never_fall; objects_rise = c.in-Ok.ensures.objects_never_fall }) refl refl c.in-Ok.ensures.calm c.in-Ok.ensures.opened
-    (c.cascade_conf-ending.ensures conference read.0 (λ told. c.in-Ok.ensures.same_contents told conference ∙ read.1 told) read.2)))
+    (c.cascade_conference-ending.ensures conference read.0 (λ told. c.in-Ok.ensures.same_contents told conference ∙ read.1 told) read.2)))
     c.finish_with-2.ensures.silent c.finish_with-2.ensures.front c.finish_with-2.ensures.told

@@ -10,7 +10,7 @@ pub loop-number-init : goal.loop-number-init
 loop-number-init c = record {
   pen = c.in_ok-pen.ensures;
   octets = λ x at lawful. c.in_ok-write_opening.ensures.ok ∙ (ap (λ (xs : List ℕ). xs ++ dump_opening) c.new-octets.ensures
-      ∙ (sym (append-nil dump_opening) ∙ ap (λ (s : List (ℕ × Sent)). dump_opening ++ written_of x.conf s) (sym (none_first x.sent))));
+      ∙ (sym (append-nil dump_opening) ∙ ap (λ (s : List (ℕ × Sent)). dump_opening ++ written_of x.settings s) (sym (none_first x.sent))));
 }
 
 pub loop-number-preserved : goal.loop-number-preserved
@@ -25,12 +25,12 @@ loop-number-preserved c =
           c.in_ok-write_record.ensures.ok
           ∙ (ap (λ (xs : List ℕ). c.loop-number.octets ++ record_written (c.packet-at.result, xs)) c.as_slice.ensures.value
           ∙ (ap (λ (xs : List ℕ). xs ++ last) (before.octets x at lawful)
-          ∙ (append_assoc dump_opening (written_of x.conf (first_sent n x.sent)) last
-          ∙ ap (λ (xs : List ℕ). dump_opening ++ xs) (one_more x.conf n x.sent m.0 c.packet-at.result c.packet-at.new.packet m.1 m.2 m.3))));
+          ∙ (append_assoc dump_opening (written_of x.settings (first_sent n x.sent)) last
+          ∙ ap (λ (xs : List ℕ). dump_opening ++ xs) (one_more x.settings n x.sent m.0 c.packet-at.result c.packet-at.new.packet m.1 m.2 m.3))));
     }
 
 pub returns : goal.returns
 returns c = λ x at lawful.
     let all = c.count-number-end.ensures x at in
     c.loop-number.invariant.octets x at lawful
-    ∙ ap (λ (s : List (ℕ × Sent)). dump_opening ++ written_of x.conf s) (all_first c.loop-number.number x.sent (omega (arith, all, c.loop-number-test.false)))
+    ∙ ap (λ (s : List (ℕ × Sent)). dump_opening ++ written_of x.settings s) (all_first c.loop-number.number x.sent (omega (arith, all, c.loop-number-test.false)))

@@ -8,5 +8,5 @@ use Rattle.sent_files.proofs.memory.in_memory.Given as goal
 abbrev pub invariant-loop-number : goal.invariant-loop-number
 invariant-loop-number l = record {
   pen : OfTerminal l.log l.terminal (λ x. IsPenOf x l.number l.pen);
-  octets : OfTerminal l.log l.terminal (λ x. IsLawful x → l.octets ≡ dump_opening ++ written_of x.conf (first_sent l.number x.sent));
+  octets : OfTerminal l.log l.terminal (λ x. IsLawful x → l.octets ≡ dump_opening ++ written_of x.settings (first_sent l.number x.sent));
 }

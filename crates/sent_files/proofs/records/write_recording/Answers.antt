@@ -17,7 +17,7 @@ loop-number-init g c =
       pen = c.restart.ensures;
       calm = refl;
       named = refl;
-      held = λ told x at. subst (λ (s : List (ℕ × Sent)). HoldsRest took took page (dump_opening ++ written_of x.conf s)) (sym (none_first x.sent))
+      held = λ told x at. subst (λ (s : List (ℕ × Sent)). HoldsRest took took page (dump_opening ++ written_of x.settings s)) (sym (none_first x.sent))
           (subst (λ (xs : List ℕ). HoldsRest took took page xs) (c.begin.ensures ∙ sym (append-nil dump_opening)) (nothing_taken took page));
     }
 
@@ -32,7 +32,7 @@ returns-then-is_err-clause-prefix g c = λ told x at.
     let now = took c.turn_page-turned.new.sink in
     let page = c.loop-number.page in
     err_then (TakesFront middle now page) (TakesFront before now (recording_of x)) c.turn_page-turned.result
-    (front_of_all x.conf c.loop-number.number x.sent before middle now page dump_opening (c.loop-number.invariant.held told x at))
+    (front_of_all x.settings c.loop-number.number x.sent before middle now page dump_opening (c.loop-number.invariant.held told x at))
     (c.turn_page-turned.ensures.prefix told)
 
 pub returns-then-is_err-clause-partly : goal.returns-then-is_err-clause-partly
@@ -42,7 +42,7 @@ returns-then-is_err-clause-partly g c = λ told x at.
     let now = g.K.Sink.stored c.turn_page-turned.new.sink in
     let page = c.loop-number.page in
     err_then (TakesFront middle now page) (TakesFront before now (recording_of x)) c.turn_page-turned.result
-    (front_of_all x.conf c.loop-number.number x.sent before middle now page dump_opening (c.loop-number.invariant.held told x at))
+    (front_of_all x.settings c.loop-number.number x.sent before middle now page dump_opening (c.loop-number.invariant.held told x at))
     (c.turn_page-turned.ensures.partly told)
 
 pub loop-number-preserved : goal.loop-number-preserved
@@ -59,7 +59,7 @@ loop-number-preserved g c =
       named = c.turn_page-turned.ensures.same_name ∙ c.loop-number.invariant.named;
       held = λ told x at.
           let m = c.packet-at.ensures.made x at (c.requires.lawful x at) in
-          next_held x.conf n x.sent m.0 c.packet-at.result c.packet-at.new.packet m.1 m.2 m.3
+          next_held x.settings n x.sent m.0 c.packet-at.result c.packet-at.new.packet m.1 m.2 m.3
           (took c.args.sink.now) middle now c.loop-number.page c.turn_page-turned.new.page c.put_record.new.page dump_opening
           (c.loop-number.invariant.held told x at)
           (ok_gives (HoldsRest middle now c.turn_page-turned.new.page c.loop-number.page) turned went (c.turn_page-turned.ensures.held told))

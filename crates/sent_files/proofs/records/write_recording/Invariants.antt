@@ -11,5 +11,5 @@ invariant-loop-number g l = record {
   pen : OfTerminal l.log l.terminal (λ x. IsPenOf x l.number l.pen);
   calm : g.K.Sink.faults l.sink ≡ g.K.Sink.faults l.fn.sink;
   named : g.K.Sink.name l.sink ≡ g.K.Sink.name l.fn.sink;
-  held : g.K.Sink.tells → OfTerminal l.log l.terminal (λ x. HoldsRest (g.K.Sink.took l.fn.sink) (g.K.Sink.took l.sink) l.page (dump_opening ++ written_of x.conf (first_sent l.number x.sent)));
+  held : g.K.Sink.tells → OfTerminal l.log l.terminal (λ x. HoldsRest (g.K.Sink.took l.fn.sink) (g.K.Sink.took l.sink) l.page (dump_opening ++ written_of x.settings (first_sent l.number x.sent)));
 }

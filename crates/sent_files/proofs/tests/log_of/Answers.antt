@@ -21,4 +21,4 @@ returns-clause-one c = ap (λ (s : State). length s) c.loop-number.invariant
 
 pub returns-clause-lawful : goal.returns-clause-lawful
 returns-clause-lawful c =
-    subst (λ (s : State). AreLawful s) (sym c.loop-number.invariant) (counted_is_lawful c.args.stream c.requires.gens c.loop-number.number (omega arith))
+    subst (λ (s : State). AreLawful s) (sym c.loop-number.invariant) (counted_is_lawful c.args.stream c.requires.generations c.loop-number.number (omega arith))

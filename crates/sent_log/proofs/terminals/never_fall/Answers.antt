@@ -1,17 +1,17 @@
 use Rattle.std.proofs.Common.{◌≡◌, ◌+◌, ◌-◌, ℕ, List, get_or, ap, subst, ◌∙◌, arith}
 use Rattle.std.specs.List.Sorted.{IsNonDecreasingBy}
 use Rattle.std.proofs.lemmas.List.{get_or_default, take_all}
-use Rattle.sent_log.specs.declared.terminals.Entry.{Entry}
+use Rattle.sent_log.specs.declared.terminals.LoggedPacket.{LoggedPacket}
 use Rattle.sent_log.specs.Insides.{turn_at}
 use Rattle.sent_log.proofs.Rendering.{rises_more}
 use Rattle.sent_log.proofs.terminals.never_fall.Goals as goal
 
 pub loop-entry-preserved : goal.loop-entry-preserved
 loop-entry-preserved c =
-    let moment = λ (e : Entry). (turn_at c.args.turns.now e.turn).now in
+    let moment = λ (e : LoggedPacket). (turn_at c.args.turns.now e.turn).now in
     let entries = c.args.entries.now in
     let i = c.loop-entry.entry-index in
-    let none : Entry = record { turn = 0; place = 0; len = 0; source = 0 } in
+    let none : LoggedPacket = record { turn = 0; place = 0; len = 0; source = 0 } in
     let entry = get_or entries i none in
     let l = c.loop-entry-test.true in
     record {
@@ -24,4 +24,4 @@ loop-entry-preserved c =
 
 pub returns : goal.returns
 returns c = λ _.
-    subst (λ (xs : List Entry). IsNonDecreasingBy (λ (e : Entry). (turn_at c.args.turns.now e.turn).now) xs) (take_all c.loop-entry.entry-index c.args.entries.now c.loop-entry-test.false) c.loop-entry.invariant.rises
+    subst (λ (xs : List LoggedPacket). IsNonDecreasingBy (λ (e : LoggedPacket). (turn_at c.args.turns.now e.turn).now) xs) (take_all c.loop-entry.entry-index c.args.entries.now c.loop-entry-test.false) c.loop-entry.invariant.rises

@@ -4,4 +4,4 @@ use Rattle.source_receiver.specs.Steps.{older_since}
 use Rattle.source_receiver.proofs.receivers.append_older.Given as goal
 
 abbrev pub invariant-loop-block : goal.invariant-loop-block
-invariant-loop-block l = l.out ≡ l.initial.out ++ concat (older_since l.seen l.stamp (take l.block-index l.older))
+invariant-loop-block l = l.out ≡ l.initial.out ++ concat (older_since l.seen l.timestamp (take l.block-index l.older))

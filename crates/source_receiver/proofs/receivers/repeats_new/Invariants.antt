@@ -5,7 +5,7 @@ use Rattle.source_receiver.specs.Plain.{any_gives_since}
 use Rattle.source_receiver.proofs.receivers.repeats_new.Given as goal
 
 abbrev pub invariant-loop-place : goal.invariant-loop-place
-invariant-loop-place l = (l.place ≤ l.view.count) × (any_gives_since l.seen l.view.stamp (headers_of (l.view.count - l.place) (drop (4 * l.place) l.view.headers.now)) ≡ any_gives_since l.seen l.view.stamp (headers_in l.view))
+invariant-loop-place l = (l.place ≤ l.view.count) × (any_gives_since l.seen l.view.timestamp (headers_of (l.view.count - l.place) (drop (4 * l.place) l.view.headers.now)) ≡ any_gives_since l.seen l.view.timestamp (headers_in l.view))
 
 abbrev pub decreases-loop-place : goal.decreases-loop-place
 decreases-loop-place l = l.view.count - l.place

@@ -15,10 +15,10 @@ returns-in_ok-append_older-in-Some-clause-text c =
     let text = c.in-Some.primary.now.text in
     let parts = sym c.as_slice.ensures.value ∙ c.in-Some.ensures.cases.0 in
     let before : redundant p.blocks ≡ older = ap redundant parts ∙ redundant_is older c.in-Some.primary.now in
-    let marked : c.is_marked.result ≡ is_marked_since c.args.seen c.args.missing p.stamp (redundant p.blocks) = c.is_marked.ensures ∙ ap (is_marked_since c.args.seen c.args.missing p.stamp) (sym before) in
+    let marked : c.is_marked.result ≡ is_marked_since c.args.seen c.args.missing p.timestamp (redundant p.blocks) = c.is_marked.ensures ∙ ap (is_marked_since c.args.seen c.args.missing p.timestamp) (sym before) in
     on_ok_then c.append.result
     (λ e. octets_told c.args.heard.now.text c.put_marker.new.heard.text c.append_older.new.out c.append.new.self text
-    (if is_marked_since c.args.seen c.args.missing p.stamp (redundant p.blocks) then marker ∷ [] else []) (older_since c.args.seen p.stamp older) (texts_since c.args.seen p)
+    (if is_marked_since c.args.seen c.args.missing p.timestamp (redundant p.blocks) then marker ∷ [] else []) (older_since c.args.seen p.timestamp older) (texts_since c.args.seen p)
     (c.in_ok-put_marker-in-Some.ensures.text ∙ ap (λ (b : Bool). c.args.heard.now.text ++ concat (if b then marker ∷ [] else [])) marked)
     c.in_ok-append_older-in-Some.ensures
     (e ∙ ap (λ (t : List ℕ). c.append_older.new.out ++ t) c.as_slice-in-Some.ensures.value)

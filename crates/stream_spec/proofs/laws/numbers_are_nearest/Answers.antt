@@ -1,5 +1,5 @@
 use Rattle.stream_spec.proofs.laws.numbers_are_nearest.Goals as goal
-use Rattle.stream_spec.proofs.Stamps.{nearest_mod, nearest_is, lower_is}
+use Rattle.stream_spec.proofs.Timestamps.{nearest_mod, nearest_is, lower_is}
 
 pub returns-clause-congruent : goal.returns-clause-congruent
 returns-clause-congruent c = nearest_mod

@@ -9,4 +9,4 @@ returns-clause-ok c =
     let lines = YieldsList-from_str_split 0x0A c.joined.result.now (lit< tt) (cc) (cc) (cc) in
     let end = YieldsList-end lines c.loop-line.yielded _ c.loop-line.yielded_by _ _ c.in-None.is c.next.ensures.steps in
     c.loop-line.invariant
-    ∙ ap (λ ls. c.args.out.now ++ printed_lines (c.args.name.now ++ c.args.mark.now) ls) (end.0 ∙ c.joined.ensures.lines)
+    ∙ ap (λ ls. c.args.out.now ++ printed_lines (c.args.name.now ++ c.args.sign.now) ls) (end.0 ∙ c.joined.ensures.lines)

@@ -3,7 +3,7 @@ use Rattle.std.proofs.Common.{ℕ, ◌≡◌, ◌++◌, List, true, length, subs
 use Rattle.text_spec.specs.Views.{label_after}
 use Rattle.mixer_spec.specs.Chunks.{joined, front}
 use Rattle.mixer_spec.proofs.Texts.{front_texts}
-use Rattle.slot_table.specs.Standing.{StandsFor as SlotsStandFor}
+use Rattle.slot_table.specs.Standing.{SlotsStandFor}
 use Rattle.slot_table.specs.Words.{fetched}
 use Rattle.unaware_view.specs.Runs.{Heads}
 

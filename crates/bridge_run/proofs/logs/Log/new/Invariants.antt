@@ -1,10 +1,10 @@
 use Rattle.std.proofs.Common.{◌≡◌, length}
-use Rattle.conference.specs.Conferences.{conf_of}
+use Rattle.conference.specs.Conferences.{meaning_of}
 use Rattle.bridge_run.proofs.Noting.{AreNew}
 use Rattle.bridge_run.proofs.logs.Log.new.Given as goal
 
 abbrev pub invariant-loop-own : goal.invariant-loop-own
 invariant-loop-own l = record {
   many : length l.sent ≡ l.own;
-  all : AreNew (conf_of l.conf) l.sent;
+  all : AreNew (meaning_of l.conference) l.sent;
 }

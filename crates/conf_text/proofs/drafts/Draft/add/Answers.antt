@@ -1,13 +1,13 @@
 use Rattle.std.proofs.Common.{length, ap, arith}
-use Rattle.file_spec.specs.Conf.{with_follow, with_gens, with_stay}
+use Rattle.file_spec.specs.Conference.{with_follow, with_generations, with_stay}
 use Rattle.file_spec.proofs.KeptLines.{length-change}
 use Rattle.conf_text.proofs.drafts.Draft.add.Goals as goal
 
-pub invariant_of-self-in-Gens : goal.invariant_of-self-in-Gens
-invariant_of-self-in-Gens c =
-    let n = ap length c.set_gens.ensures in
+pub invariant_of-self-in-Generations : goal.invariant_of-self-in-Generations
+invariant_of-self-in-Generations c =
+    let n = ap length c.set_generations.ensures in
     let few = c.args.self.now.seats in
-    record { seats = omega (arith, length-change (with_gens c.in-Gens.line.gens) c.from.result c.args.self.now.legs) }
+    record { seats = omega (arith, length-change (with_generations c.in-Generations.line.generations) c.from.result c.args.self.now.legs) }
 
 pub invariant_of-self-in-Stays : goal.invariant_of-self-in-Stays
 invariant_of-self-in-Stays c =

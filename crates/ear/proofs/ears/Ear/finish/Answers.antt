@@ -7,4 +7,4 @@ pub returns-clause-becomes : goal.returns-clause-becomes
 returns-clause-becomes c = moves c.args.self.now c.finish.new.self ended c.requires.quiet c.finish.ensures.stands (λ story. (refl, refl, refl))
 
 pub returns-clause-all : goal.returns-clause-all
-returns-clause-all c conf sources story h = record { packets = c.finish.ensures.all story h.tracks; chunks = λ source. end_chunks conf source story h.wait (c.finish.ensures.all story h.tracks) }
+returns-clause-all c settings sources story h = record { packets = c.finish.ensures.all story h.tracks; chunks = λ source. end_chunks settings source story h.wait (c.finish.ensures.all story h.tracks) }

@@ -8,4 +8,4 @@ invariant-loop-due l = GatheringEach l.initial.self l.self l.used l.initial.hear
 
 -- each turn takes a packet out of the tracker
 abbrev pub decreases-loop-due : goal.decreases-loop-due
-decreases-loop-due l = length (packets_in l.self.tracker)
+decreases-loop-due l = length (packets_in l.self.buffer)

@@ -30,4 +30,4 @@ returns-clause-some c = λ ok.
     (texts_one c.give_at_once-ready.result c.in-Some.view.primary.now (chunk_of c.write_chunk.new.chunk) c.write_chunk.ensures some)
 
 pub returns-clause-utf8 : goal.returns-clause-utf8
-returns-clause-utf8 c = λ ok. subst IsUtf8 (sym (ap (λ (k : Chunk). k.text) c.write_chunk.ensures)) (primary_utf8 c.args.self.now.conf c.args.octets.now c.in-Some.view c.in-Some.ensures.packet)
+returns-clause-utf8 c = λ ok. subst IsUtf8 (sym (ap (λ (k : Chunk). k.text) c.write_chunk.ensures)) (primary_utf8 c.args.self.now.settings c.args.octets.now c.in-Some.view c.in-Some.ensures.packet)

@@ -34,11 +34,11 @@ pub take_piece-self-requires : goal.take_piece-self-requires
 take_piece-self-requires c = rises_next c.args.self.now c.loop-chunk.self c.next-in-loop-chunk.new.self c.in-Some.due c.next-in-loop-chunk.new.self.current c.loop-chunk.invariant c.requires.gave c.in-Some.ensures.some
 
 pub returns-then-next-clause-text : goal.returns-then-next-clause-text
-returns-then-next-clause-text c = λ ok. (given_texts c.args.self.now c.loop-chunk.self c.next.new.out (left_of c.next.new.self c.loop-chunk.self.tracker.current) c.loop-chunk.invariant c.requires.gave
+returns-then-next-clause-text c = λ ok. (given_texts c.args.self.now c.loop-chunk.self c.next.new.out (left_of c.next.new.self c.loop-chunk.self.buffer.current) c.loop-chunk.invariant c.requires.gave
     (subst (λ (p : TextPacket). left_of c.loop-chunk.self.piece p ≡ c.next.new.out ∷ left_of c.next.new.self p) c.packet.ensures (c.next.ensures.some c.if-next.true))).0
 
 pub returns-then-next-clause-utf8 : goal.returns-then-next-clause-utf8
-returns-then-next-clause-utf8 c = λ ok. (given_texts c.args.self.now c.loop-chunk.self c.next.new.out (left_of c.next.new.self c.loop-chunk.self.tracker.current) c.loop-chunk.invariant c.requires.gave
+returns-then-next-clause-utf8 c = λ ok. (given_texts c.args.self.now c.loop-chunk.self c.next.new.out (left_of c.next.new.self c.loop-chunk.self.buffer.current) c.loop-chunk.invariant c.requires.gave
     (subst (λ (p : TextPacket). left_of c.loop-chunk.self.piece p ≡ c.next.new.out ∷ left_of c.next.new.self p) c.packet.ensures (c.next.ensures.some c.if-next.true))).1
 
 pub loop-chunk-preserved : goal.loop-chunk-preserved
@@ -49,7 +49,7 @@ loop-chunk-preserved c = record {
       (λ sources us time s. subst (λ (p : TextPacket). Stands c.take_piece-self.new.self sources (us ++ used_packet time c.in-Some.due.number p ∷ [])) c.packet-in-loop-chunk.ensures (c.take_piece-self.ensures.stands sources us time s))
       c.take_piece-self.ensures.latest
       (λ source us time s. subst (λ (p : TextPacket). heard_by (us ++ used_packet time c.in-Some.due.number p ∷ []) source ≡ heard_by us source ++ left_of c.take_piece-self.result p) c.packet-in-loop-chunk.ensures (c.take_piece-self.ensures.heard source us time s));
-  conf = c.loop-chunk.invariant.conf;
+  settings = c.loop-chunk.invariant.settings;
   arrivals = c.in-Some.ensures.arrivals ∙ c.loop-chunk.invariant.arrivals;
   finished = c.in-Some.ensures.finished ∙ c.loop-chunk.invariant.finished;
 }

@@ -8,4 +8,4 @@ invariant-loop-chunk l = Going l.initial.self l.self
 
 -- each turn takes a packet out of the tracker
 abbrev pub decreases-loop-chunk : goal.decreases-loop-chunk
-decreases-loop-chunk l = length (packets_in l.self.tracker)
+decreases-loop-chunk l = length (packets_in l.self.buffer)

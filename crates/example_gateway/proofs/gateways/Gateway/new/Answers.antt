@@ -1,6 +1,6 @@
 use Rattle.std.proofs.Common.{◌≡◌, ◌<◌, ◌∙◌, ◌+◌, List, ap, arith, length}
 use Rattle.std.proofs.lemmas.List.{length-map, length_push}
-use Rattle.conference.specs.Conferences.{conf_of}
+use Rattle.conference.specs.Conferences.{meaning_of}
 use Rattle.mixer_turn.specs.Making.{source_counts}
 use Rattle.example_gateway.specs.declared.legs.Leg.{Leg}
 use Rattle.example_gateway.specs.Outputs.{counts_of}
@@ -11,8 +11,8 @@ pub loop-leg-preserved : goal.loop-leg-preserved
 loop-leg-preserved c =
     let i = c.loop-leg.invariant in
     let leg = c.loop-leg.leg in
-    let counts = source_counts (conf_of c.args.conf.now) in
-    let many : length counts ≡ length c.args.conf.now.legs = length-map c.args.conf.now.legs _ in
+    let counts = source_counts (meaning_of c.args.conference.now) in
+    let many : length counts ≡ length c.args.conference.now.legs = length-map c.args.conference.now.legs _ in
     let low : leg < length counts = omega (arith, many, c.loop-leg-test.true, c.len-leg-end.ensures) in
     record {
       legs = c.admit.ensures.legs ∙ i.legs;

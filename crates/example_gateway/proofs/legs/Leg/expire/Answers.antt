@@ -7,6 +7,6 @@ pub invariant_of-self : goal.invariant_of-self
 invariant_of-self c =
     let leg = c.offer_all.new.self in
     record {
-      giving = ∥∥₁_map leg.giving (becomes_giving leg.ear c.expire.new.self (λ conf story. went story c.args.now) c.expire.ensures.becomes);
+      giving = ∥∥₁_map leg.giving (becomes_giving leg.ear c.expire.new.self (λ settings story. went story c.args.now) c.expire.ensures.becomes);
       text = leg.text;
     }

@@ -26,8 +26,8 @@ invariant_of-self-in-Nothing g c = record {
 pub invariant_of-self-in-NotPlain : goal.invariant_of-self-in-NotPlain
 invariant_of-self-in-NotPlain g c =
     let same = c.hear_plain_item.ensures.unchanged c.in-NotPlain.is in record {
-      giving = ∥∥₁_map c.args.self.now.giving (becomes_giving c.args.self.now.ear c.hear_item.new.ear (λ conf story. after_item conf story c.in-Ok.item c.as_slice-octets.result.now)
-          (subst (λ (e : Ear). Becomes e c.hear_item.new.ear (λ conf story. after_item conf story c.in-Ok.item c.as_slice-octets.result.now)) same c.hear_item.ensures.becomes));
+      giving = ∥∥₁_map c.args.self.now.giving (becomes_giving c.args.self.now.ear c.hear_item.new.ear (λ settings story. after_item settings story c.in-Ok.item c.as_slice-octets.result.now)
+          (subst (λ (e : Ear). Becomes e c.hear_item.new.ear (λ settings story. after_item settings story c.in-Ok.item c.as_slice-octets.result.now)) same c.hear_item.ensures.becomes));
       few = reads_few c.args.self.now.reader c.next.new.self c.args.self.now.ear c.hear_item.new.ear c.args.self.now.few c.in-Ok.ensures.nearer
           (subst (λ (e : Ear). arrival_count c.hear_item.new.ear ≤ arrival_count e + 1) same c.hear_item.ensures.arrivals);
       open_still = reads_ends c.next.new.self c.hear_item.new.ear c.in-Ok.item c.in-Ok.ensures.ended c.hear_item.ensures.finished;
@@ -48,7 +48,7 @@ returns-in-Nothing-clause-steps g c = λ t past s.
 pub returns-in-NotPlain-clause-steps : goal.returns-in-NotPlain-clause-steps
 returns-in-NotPlain-clause-steps g c = λ t past s.
     let same = c.hear_plain_item.ensures.unchanged c.in-NotPlain.is in
-    let P : List ℕ → Type 0 = λ o. Becomes c.args.self.now.ear c.hear_item.new.ear (λ conf story. after_item conf story c.in-Ok.item o) in
-    let becomes = subst (λ (e : Ear). Becomes e c.hear_item.new.ear (λ conf story. after_item conf story c.in-Ok.item c.as_slice-octets.result.now)) same c.hear_item.ensures.becomes in
+    let P : List ℕ → Type 0 = λ o. Becomes c.args.self.now.ear c.hear_item.new.ear (λ settings story. after_item settings story c.in-Ok.item o) in
+    let becomes = subst (λ (e : Ear). Becomes e c.hear_item.new.ear (λ settings story. after_item settings story c.in-Ok.item c.as_slice-octets.result.now)) same c.hear_item.ensures.becomes in
     c.give.ensures.steps past (reads_item g.S.Source.left c.args.self.now _ c.in-Ok.item c.next.new.out c.requires.open (c.in-Ok.ensures.gives t) c.in-Ok.ensures.ended
     (subst P (c.as_slice-octets.ensures.value ∙ c.deref.ensures) becomes) (λ e. subst AllReady same (c.hear_item.ensures.all e)) past s)

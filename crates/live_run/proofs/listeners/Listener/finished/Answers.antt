@@ -1,5 +1,5 @@
 use Rattle.std.proofs.Common.{◌∙◌, ℕ, List, length, ap, sym, subst}
-use Rattle.terminal.specs.declared.confs.TermConf.{TermConf}
+use Rattle.terminal.specs.declared.settings.TerminalSettings.{TerminalSettings}
 use Rattle.terminal.specs.Terminals.{Heard}
 use Rattle.serve_spec.specs.Served.{came_at_once}
 use Rattle.live_run.specs.Listeners.{HasHeard, Listening}
@@ -10,14 +10,14 @@ returns-clause-heard c = λ given h.
     let made = c.is_made_with.ensures c.if-not-is_made_with.false in
     let inside = c.self.inside in
     let items = came_at_once given in
-    let heard = c.in_ok-finish.ensures.heard inside.conf inside.sources.items items (subst (λ (l : Listening). HasHeard l given) (sym c.self.view_is) h) in
-    subst (λ (xs : List ℕ). Heard c.finish.new.self c.args.conf xs items) (ap (λ (l : Listening). l.sources) c.self.view_is ∙ made.1)
-    (subst (λ (q : TermConf). Heard c.finish.new.self q inside.sources.items items) (ap (λ (l : Listening). l.conf) c.self.view_is ∙ made.0) heard)
+    let heard = c.in_ok-finish.ensures.heard inside.settings inside.sources.items items (subst (λ (l : Listening). HasHeard l given) (sym c.self.view_is) h) in
+    subst (λ (xs : List ℕ). Heard c.finish.new.self c.args.settings xs items) (ap (λ (l : Listening). l.sources) c.self.view_is ∙ made.1)
+    (subst (λ (q : TerminalSettings). Heard c.finish.new.self q inside.sources.items items) (ap (λ (l : Listening). l.settings) c.self.view_is ∙ made.0) heard)
 
 pub returns-clause-each : goal.returns-clause-each
 returns-clause-each c =
     let made = c.is_made_with.ensures c.if-not-is_made_with.false in
     let inside = c.self.inside in
     let h = c.self.invariant.heard c.in_ok-finish.ensures.whole in
-    (c.in_ok-finish.ensures.heard inside.conf inside.sources.items (came_at_once h.0) h.1).each
+    (c.in_ok-finish.ensures.heard inside.settings inside.sources.items (came_at_once h.0) h.1).each
     ∙ ap (λ (xs : List ℕ). length xs) (ap (λ (l : Listening). l.sources) c.self.view_is ∙ made.1)

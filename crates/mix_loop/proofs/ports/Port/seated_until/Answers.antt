@@ -1,5 +1,5 @@
 use Rattle.std.proofs.Common.{not, refl, ap}
-use Rattle.mix_loop.specs.declared.ports.Seat.TheVariants.{Away, Listens, Hushed, Left}
+use Rattle.mix_loop.specs.declared.ports.SeatState.TheVariants.{Away, Listens, Hushed, Left}
 use Rattle.mix_loop.proofs.Resting.{not_stop, not_leave, came}
 use Rattle.mix_loop.proofs.ports.Port.seated_until.Goals as goal
 

@@ -14,13 +14,13 @@ turn_seated-requires-clause-room c =
 pub returns-then-is_seated-clause-turned : goal.returns-then-is_seated-clause-turned
 returns-then-is_seated-clause-turned c = λ s table now may r.
     let seated : is_seated table.seats c.args.leg ≡ true = sym (c.is_seated.ensures.table s table may.seats) ∙ c.if-is_seated.true in
-    leg_turned s table now c.args.media c.args.leg c.args.outlet.now c.turn_seated.new.outlet c.args.seating.now c.args.slots.now c.turn_seated.new.slots c.args.names.now c.args.self.now c.turn_seated.new.self may seated r
+    leg_turned s table now c.args.media c.args.leg c.args.scheduler.now c.turn_seated.new.scheduler c.args.seating.now c.args.slots.now c.turn_seated.new.slots c.args.names.now c.args.self.now c.turn_seated.new.self may seated r
     (c.turn_seated.ensures.put s c.args.leg (turned_below s now c.args.media table c.args.leg) now)
 
 pub returns-else-is_seated-clause-turned : goal.returns-else-is_seated-clause-turned
 returns-else-is_seated-clause-turned c = λ s table now may r.
     let free : is_seated table.seats c.args.leg ≡ false = sym (c.is_seated.ensures.table s table may.seats) ∙ c.if-is_seated.false in
-    leg_passed s table now c.args.media c.args.leg c.args.outlet.now c.args.seating.now c.args.slots.now c.args.names.now c.args.self.now may free r
+    leg_passed s table now c.args.media c.args.leg c.args.scheduler.now c.args.seating.now c.args.slots.now c.args.names.now c.args.self.now may free r
 
 pub returns-then-is_seated-clause-few : goal.returns-then-is_seated-clause-few
 returns-then-is_seated-clause-few c =

@@ -2,7 +2,7 @@ use Rattle.std.proofs.Common.{subst, sym}
 use Rattle.mixer_spec.specs.Table.{after_calls}
 use Rattle.mixer_turn.specs.States.{State}
 use Rattle.mixer_turn.specs.Insides.{state_of}
-use Rattle.mixer_turn.specs.Standing.{StandsFor}
+use Rattle.mixer_turn.specs.Standing.{MixerStandsFor}
 use Rattle.mixer_turn.proofs.Calling.{stands_left, stands_stays}
 use Rattle.mixer_turn.proofs.mixers.Mixer.leave.Goals as goal
 
@@ -11,5 +11,5 @@ returns-then-not-may_leave-clause-stands c = λ s calls h a. stands_stays s c.ar
 
 pub returns-clause-stands : goal.returns-clause-stands
 returns-clause-stands c = λ s calls h a.
-    let k = subst (λ (m : State). StandsFor s m calls) (sym c.self.view_is) h in
+    let k = subst (λ (m : State). MixerStandsFor s m calls) (sym c.self.view_is) h in
     stands_left s (state_of c.self.inside) calls c.args.leg c.free.new.self k a (c.if-not-may_leave.ensures s calls h) (c.free.ensures.stands s (after_calls s calls) k.keeps.seats)

@@ -1,6 +1,6 @@
 use Rattle.std.proofs.Common.{ℕ, List, take, set, ap, subst, sym, ◌∙◌}
-use Rattle.red_window.specs.declared.kept.KeptBlock.{KeptBlock}
-use Rattle.red_window.specs.Standing.{StandsFor}
+use Rattle.red_window.specs.declared.slots.KeptBlock.{KeptBlock}
+use Rattle.red_window.specs.Standing.{WindowStandsFor}
 use Rattle.red_window.specs.Kept.{in_turn}
 use Rattle.red_window.proofs.Repeating.{kept_more, written_over, next_is, shifted}
 use Rattle.red_window.proofs.windows.Window.keep.Goals as goal
@@ -14,6 +14,6 @@ returns-after-self-2 c = λ g base past e s q t.
     (λ e. elim c.if-self-2.branch [ then-self-2 w ↦ w.self-is | else-self-2 w ↦ absurd (w.if-self-2.false e) ])
     (λ n. elim c.if-self-2.branch [ then-self-2 w ↦ absurd (n w.if-self-2.true) | else-self-2 w ↦ w.self-is ]) in
     let over = written_over generations oldest c.self.inside.places c.set.new.self c.self.invariant.2 c.self.invariant.0 c.if-self.true in
-    kept_more g base past e c.args.stamp c.args.text.now _ _ (subst (λ (kept : List KeptBlock). StandsFor g base kept past) (sym c.self.view_is) s) q t
+    kept_more g base past e c.args.timestamp c.args.text.now _ _ (subst (λ (kept : List KeptBlock). WindowStandsFor g base kept past) (sym c.self.view_is) s) q t
     (ap (λ (n : ℕ). in_turn n (take generations (set c.self.inside.places oldest c.set.new.self))) next
     ∙ (over ∙ ap (λ (b : KeptBlock). shifted (in_turn oldest (take generations c.self.inside.places)) b) c.set.ensures))

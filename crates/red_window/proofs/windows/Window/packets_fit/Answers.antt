@@ -2,13 +2,13 @@ use Rattle.std.proofs.Common.{List, length, ◌≤◌, subst}
 use Rattle.rtt_base.specs.declared.limits.TheConstants.{MOST_PACKET_OCTETS}
 use Rattle.wire_spec.specs.SentPackets.{packet_written}
 use Rattle.red_blocks.specs.Writing.{packet_with}
-use Rattle.red_window.specs.declared.kept.KeptBlock.{KeptBlock}
+use Rattle.red_window.specs.declared.slots.KeptBlock.{KeptBlock}
 use Rattle.red_window.specs.Kept.{blocks_kept}
 use Rattle.red_window.proofs.Fitting.{kept_fits}
 use Rattle.red_window.proofs.windows.Window.packets_fit.Goals as goal
 
 pub returns : goal.returns
-returns c = λ pts head text short.
+returns c = λ payload_types head text short.
     let w = c.self.inside in
-    subst (λ (kept : List KeptBlock). length (packet_written pts (packet_with head (blocks_kept head.stamp kept) text)) ≤ MOST_PACKET_OCTETS) c.self.view_is
-    (kept_fits pts head w.generations w.oldest w.places text c.self.invariant.2 c.self.invariant.0 c.self.invariant.1 c.self.invariant.3 short)
+    subst (λ (kept : List KeptBlock). length (packet_written payload_types (packet_with head (blocks_kept head.timestamp kept) text)) ≤ MOST_PACKET_OCTETS) c.self.view_is
+    (kept_fits payload_types head w.generations w.oldest w.places text c.self.invariant.2 c.self.invariant.0 c.self.invariant.1 c.self.invariant.3 short)

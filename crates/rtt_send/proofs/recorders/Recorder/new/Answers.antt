@@ -7,6 +7,6 @@ use Rattle.rtt_send.proofs.recorders.Recorder.new.Goals as goal
 
 pub returns-clause-at : goal.returns-clause-at
 returns-clause-at c = record {
-  records = at_start c.args.conf c.in_ok-sender.sender c.write_opening.new.out c.requires c.in_ok-sender.ensures (c.in_ok-write_opening.ensures.ok ∙ ap (λ (xs : List ℕ). xs ++ dump_opening) c.new-octets.ensures);
+  records = at_start c.args.settings c.in_ok-sender.sender c.write_opening.new.out c.requires c.in_ok-sender.ensures (c.in_ok-write_opening.ensures.ok ∙ ap (λ (xs : List ℕ). xs ++ dump_opening) c.new-octets.ensures);
   typed = All-nil (λ (l : ScriptLine). l.at ≤ 0);
 }

@@ -1,12 +1,12 @@
 use Rattle.std.proofs.Common.{◌-◌, ◌≤◌, List}
-use Rattle.text_sender.specs.declared.senders.SendConf.{SendConf}
+use Rattle.text_sender.specs.declared.senders.SenderSettings.{SenderSettings}
 use Rattle.file_spec.specs.Script.{ScriptLine}
 use Rattle.rtt_send.specs.Insides.{IsAt}
 use Rattle.rtt_send.proofs.recorders.Recorder.pass_to.Given as goal
 
 abbrev pub invariant-loop-self : goal.invariant-loop-self
 invariant-loop-self l = record {
-  is_at : (conf : SendConf) (lines : List ScriptLine) → IsAt conf lines l.initial.self → IsAt conf lines l.self;
+  is_at : (settings : SenderSettings) (lines : List ScriptLine) → IsAt settings lines l.initial.self → IsAt settings lines l.self;
   within : l.initial.self.now ≤ l.at → l.self.now ≤ l.at;
 }
 

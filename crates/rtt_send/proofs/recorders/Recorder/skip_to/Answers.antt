@@ -7,37 +7,37 @@ use Rattle.rtt_send.proofs.recorders.Recorder.skip_to.Goals as goal
 use Rattle.rtt_send.proofs.recorders.Recorder.skip_to.Goals.{in-Some, in-None}
 
 pub returns-clause-at : goal.returns-clause-at
-returns-clause-at c = λ conf lines a.
+returns-clause-at c = λ settings lines a.
     let s = c.args.self.now.sender in
     let o = c.args.self.now.octets in
     let room : suc a.last ≤ c.args.at = omega (arith, a.now, c.requires.room) in
     elim c.match-next_due.branch [
       | in-Some w ↦ (
-          let e : Some w.in-Some.due ≡ _ = w.in-Some.ensures conf (events_through lines a.last) a.records.sender in
+          let e : Some w.in-Some.due ≡ _ = w.in-Some.ensures settings (events_through lines a.last) a.records.sender in
           let n : c.match-next_due.self ≡ min w.in-Some.due c.args.at = w.self-is ∙ w.min-self.ensures in
-          let r = skip_some conf s o lines a.last c.args.at w.in-Some.due a.records a.typed room c.requires.early e in
+          let r = skip_some settings s o lines a.last c.args.at w.in-Some.due a.records a.typed room c.requires.early e in
           record {
-            records = subst (λ (k : ℕ). Records conf s o (events_until lines k)) (sym n) r.0;
+            records = subst (λ (k : ℕ). Records settings s o (events_until lines k)) (sym n) r.0;
             typed = typed_later lines a.last c.match-next_due.self a.typed (omega (arith, n, r.1));
           }
           )
       | in-None w ↦ (
-          let e : None ≡ _ = w.in-None.ensures conf (events_through lines a.last) a.records.sender in
+          let e : None ≡ _ = w.in-None.ensures settings (events_through lines a.last) a.records.sender in
           let n : c.match-next_due.self ≡ c.args.at = w.self-is in
           record {
-            records = subst (λ (k : ℕ). Records conf s o (events_until lines k)) (sym n) (skip_none conf s o lines a.last c.args.at a.records a.typed room c.requires.early e);
+            records = subst (λ (k : ℕ). Records settings s o (events_until lines k)) (sym n) (skip_none settings s o lines a.last c.args.at a.records a.typed room c.requires.early e);
             typed = typed_later lines a.last c.match-next_due.self a.typed (omega (arith, n));
           }
           )
     ]
 
 pub returns-clause-later : goal.returns-clause-later
-returns-clause-later c = λ conf lines a.
+returns-clause-later c = λ settings lines a.
     let room : suc a.last ≤ c.args.at = omega (arith, a.now, c.requires.room) in
     elim c.match-next_due.branch [
       | in-Some w ↦ (
-          let e : Some w.in-Some.due ≡ _ = w.in-Some.ensures conf (events_through lines a.last) a.records.sender in
-          let r = skip_some conf c.args.self.now.sender c.args.self.now.octets lines a.last c.args.at w.in-Some.due a.records a.typed room c.requires.early e in
+          let e : Some w.in-Some.due ≡ _ = w.in-Some.ensures settings (events_through lines a.last) a.records.sender in
+          let r = skip_some settings c.args.self.now.sender c.args.self.now.octets lines a.last c.args.at w.in-Some.due a.records a.typed room c.requires.early e in
           omega (arith, w.self-is, w.min-self.ensures, r.1, a.now)
           )
       | in-None w ↦ omega (arith, w.self-is, c.requires.room)

@@ -8,10 +8,10 @@ returns-clause-ok c =
     let old = c.args.self.now in
     let line = line_of c.args.line in
     on_ok_with c.typed.result
-    (λ ok stands. λ conf lines a.
+    (λ ok stands. λ settings lines a.
     let past = events_until lines old.now in
     record {
-      records = typed_line conf old.sender c.typed.new.self old.octets lines line old.now a.records (stands conf past a.records.sender) c.requires.now ((c.typed.ensures.room conf past a.records.sender).0 ok);
+      records = typed_line settings old.sender c.typed.new.self old.octets lines line old.now a.records (stands settings past a.records.sender) c.requires.now ((c.typed.ensures.room settings past a.records.sender).0 ok);
       typed = typed_one_more lines line old.now a.typed c.requires.now;
     })
     c.typed.ensures.ok

@@ -1,7 +1,7 @@
 use Rattle.std.proofs.Common.{ℕ, ap, ◌∙◌, subst, arith}
 use Rattle.rtt_base.specs.declared.text_packets.TextPacket.{TextPacket}
-use Rattle.gap_tracker.specs.Told.{Leads, came_current, is_current_in_time}
-use Rattle.rtt_show.specs.declared.strays.Came.{Came}
+use Rattle.gap_tracker.specs.Told.{LeadsStory, came_current, is_current_in_time}
+use Rattle.rtt_show.specs.declared.strays.NumberedPacket.{NumberedPacket}
 use Rattle.rtt_show.specs.declared.strays.Follower.{Follower}
 use Rattle.rtt_show.specs.Spreads.{SpreadsBy}
 use Rattle.rtt_show.proofs.Following.{comes}
@@ -20,11 +20,11 @@ pub returns-clause-more : goal.returns-clause-more
 returns-clause-more c =
     let old = c.args.self.now in
     let t = c.arrive-taken.new.self in
-    let new : Follower = record { tracker = c.drain.new.tracker; spread = c.take-number.new.self } in
-    let came : Came = record { number = c.take-number.result; in_time = c.is_used_as.result } in
+    let new : Follower = record { buffer = c.drain.new.buffer; spread = c.take-number.new.self } in
+    let came : NumberedPacket = record { number = c.take-number.result; in_time = c.is_used_as.result } in
     comes old new t c.args.at came
-    (subst (λ (n : ℕ). Leads old.tracker t (came_current old.tracker n)) c.from.ensures c.arrive-taken.ensures.stands)
-    (λ story k. c.is_used_as.ensures ∙ (c.arrive-taken.ensures.used story k ∙ ap (λ (n : ℕ). is_current_in_time old.tracker n story) c.from.ensures))
+    (subst (λ (n : ℕ). LeadsStory old.buffer t (came_current old.buffer n)) c.from.ensures c.arrive-taken.ensures.stands)
+    (λ story k. c.is_used_as.ensures ∙ (c.arrive-taken.ensures.used story k ∙ ap (λ (n : ℕ). is_current_in_time old.buffer n story) c.from.ensures))
     c.drain.ensures.drains
     (subst (λ (q : TextPacket). SpreadsBy old.spread q.seq c.take-number.result c.take-number.new.self) c.packet.ensures c.take-number.ensures.spreads)
 

@@ -11,7 +11,7 @@ use Rattle.command_spec.specs.Transcripts.{transcript_view}
 use Rattle.show_spec.specs.Showing.{recording_view, show_view}
 use Rattle.times_spec.specs.Times.{timed_view, times_view}
 use Rattle.rtt_script.specs.Writing.{IsTranscript}
-use Rattle.rtt_show.specs.Gathers.{IsRefused}
+use Rattle.rtt_show.specs.Gathers.{RecordingIsRefused}
 use Rattle.rtt_top.specs.declared.views.RecordingView.{RecordingView}
 use Rattle.rtt_top.specs.RecordingViews.{IsRefusal, IsViewFrom, IsViewOf, refused_by, view_by}
 use Rattle.rtt_top.proofs.Refusals.{as_refusal, printed_is, shown_refusal, timed_is}
@@ -20,31 +20,31 @@ use Rattle.rtt_top.proofs.views.RecordingView.view_of.Goals as goal
 pub returns-in-Lines-clause-view : goal.returns-in-Lines-clause-view
 returns-in-Lines-clause-view g c = λ told.
     let come = to_come g.S.Source.left c.args.reader.now in
-    let pts = c.in-Lines.pts in
-    let Listed : List ℕ → Type 0 = λ lines. lines ≡ list_view pts come.items in
+    let payload_types = c.in-Lines.payload_types in
+    let Listed : List ℕ → Type 0 = λ lines. lines ≡ list_view payload_types come.items in
     subst (λ (it : RecordingView). IfOk c.list_records.result (IsViewFrom (view_by it) c.args.start come)) (sym c.in-Lines.is)
-    (IfOk-weaker c.list_records.result Listed (IsViewFrom (λ octets. list_view pts (dump usual_limit octets).items) c.args.start come)
-    (λ lines is octets to at. is ∙ ap (λ (r : Recording). list_view pts r.items) to) (c.list_records.ensures.listed told))
+    (IfOk-weaker c.list_records.result Listed (IsViewFrom (λ octets. list_view payload_types (dump usual_limit octets).items) c.args.start come)
+    (λ lines is octets to at. is ∙ ap (λ (r : Recording). list_view payload_types r.items) to) (c.list_records.ensures.listed told))
 
 pub returns-in-Streams-clause-view : goal.returns-in-Streams-clause-view
 returns-in-Streams-clause-view g c = λ told.
     let come = to_come g.S.Source.left c.args.reader.now in
-    let pts = c.in-Streams.pts in
+    let payload_types = c.in-Streams.payload_types in
     let start = c.args.start in
-    let Printed : List ℕ → Type 0 = λ printed. printed ≡ recording_view pts start come in
+    let Printed : List ℕ → Type 0 = λ printed. printed ≡ recording_view payload_types start come in
     subst (λ (it : RecordingView). IfOk c.show_recording.result (IsViewFrom (view_by it) start come)) (sym c.in-Streams.is)
-    (IfOk-weaker c.show_recording.result Printed (IsViewFrom (show_view pts) start come)
-    (λ printed is octets to at. printed_is pts start come octets printed is at to) (c.show_recording.ensures.shown told))
+    (IfOk-weaker c.show_recording.result Printed (IsViewFrom (show_view payload_types) start come)
+    (λ printed is octets to at. printed_is payload_types start come octets printed is at to) (c.show_recording.ensures.shown told))
 
 pub returns-in-Times-clause-view : goal.returns-in-Times-clause-view
 returns-in-Times-clause-view g c = λ told.
     let come = to_come g.S.Source.left c.args.reader.now in
-    let pts = c.in-Times.pts in
+    let payload_types = c.in-Times.payload_types in
     let start = c.args.start in
-    let Printed : List ℕ → Type 0 = λ printed. printed ≡ timed_view pts start come in
+    let Printed : List ℕ → Type 0 = λ printed. printed ≡ timed_view payload_types start come in
     subst (λ (it : RecordingView). IfOk c.times_recording.result (IsViewFrom (view_by it) start come)) (sym c.in-Times.is)
-    (IfOk-weaker c.times_recording.result Printed (IsViewFrom (times_view pts) start come)
-    (λ printed is octets to at. timed_is pts start come octets printed is at to) (c.times_recording.ensures.told told))
+    (IfOk-weaker c.times_recording.result Printed (IsViewFrom (times_view payload_types) start come)
+    (λ printed is octets to at. timed_is payload_types start come octets printed is at to) (c.times_recording.ensures.told told))
 
 pub returns-in-Text-clause-view : goal.returns-in-Text-clause-view
 returns-in-Text-clause-view g c = λ told.
@@ -64,7 +64,7 @@ pub returns-in-Streams-clause-refused : goal.returns-in-Streams-clause-refused
 returns-in-Streams-clause-refused g c = λ told.
     let come = to_come g.S.Source.left c.args.reader.now in
     subst (λ (it : RecordingView). IfErr c.show_recording.result (IsRefusal (refused_by it come.fault))) (sym c.in-Streams.is)
-    (IfErr-weaker c.show_recording.result (IsRefused come) (IsRefusal (if_no_recording come.fault)) (shown_refusal come) (c.show_recording.ensures.refused told))
+    (IfErr-weaker c.show_recording.result (RecordingIsRefused come) (IsRefusal (if_no_recording come.fault)) (shown_refusal come) (c.show_recording.ensures.refused told))
 
 pub returns-in-Lines-clause-refused : goal.returns-in-Lines-clause-refused
 returns-in-Lines-clause-refused g c = λ told.
@@ -88,4 +88,4 @@ pub returns-in-Times-clause-refused : goal.returns-in-Times-clause-refused
 returns-in-Times-clause-refused g c = λ told.
     let come = to_come g.S.Source.left c.args.reader.now in
     subst (λ (it : RecordingView). IfErr c.times_recording.result (IsRefusal (refused_by it come.fault))) (sym c.in-Times.is)
-    (IfErr-weaker c.times_recording.result (IsRefused come) (IsRefusal (if_no_recording come.fault)) (shown_refusal come) (c.times_recording.ensures.refused told))
+    (IfErr-weaker c.times_recording.result (RecordingIsRefused come) (IsRefusal (if_no_recording come.fault)) (shown_refusal come) (c.times_recording.ensures.refused told))

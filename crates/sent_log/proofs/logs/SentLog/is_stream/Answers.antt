@@ -7,5 +7,5 @@ returns c = λ e.
     let i = c.self.inside in
     let t = c.index-sent_to.result.now in
     let there = terminal_in i.turns.items i.texts.items i.terminals.items c.args.self.now c.args.terminal t c.self.view_is c.index-sent_to.ensures c.requires in
-    of_terminal i.turns.items i.texts.items i.terminals.items c.args.self.now c.args.terminal t (IsStreamOf c.args.ssrc c.args.pts) c.self.view_is there
-    (stream_of_these i.turns.items i.texts.items t c.args.ssrc c.args.pts (is_terminal i.turns.items i.texts.items i.terminals.items c.args.terminal t c.self.invariant there) c.has_ssrcs.ensures (c.is_stream.ensures.ssrc e) (c.is_stream.ensures.pts e))
+    of_terminal i.turns.items i.texts.items i.terminals.items c.args.self.now c.args.terminal t (IsStreamOf c.args.ssrc c.args.payload_types) c.self.view_is there
+    (stream_of_these i.turns.items i.texts.items t c.args.ssrc c.args.payload_types (is_terminal i.turns.items i.texts.items i.terminals.items c.args.terminal t c.self.invariant there) c.has_ssrcs.ensures (c.is_stream.ensures.ssrc e) (c.is_stream.ensures.payload_types e))

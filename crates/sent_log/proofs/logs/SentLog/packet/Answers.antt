@@ -4,9 +4,9 @@ use Rattle.std.proofs.lemmas.List.{get_or_read}
 use Rattle.std.proofs.lemmas.Option.{slice_get_read}
 use Rattle.sent_log.specs.declared.logs.SentLog.TheInside.{Inside}
 use Rattle.sent_log.specs.declared.pens.Pen.{Pen}
-use Rattle.sent_log.specs.declared.repeats.Kept.{Kept}
-use Rattle.sent_log.specs.declared.terminals.Entry.{Entry}
-use Rattle.sent_log.specs.declared.terminals.Terminal.{Terminal}
+use Rattle.sent_log.specs.declared.repeats.PacketKey.{PacketKey}
+use Rattle.sent_log.specs.declared.terminals.LoggedPacket.{LoggedPacket}
+use Rattle.sent_log.specs.declared.terminals.TerminalLog.{TerminalLog}
 use Rattle.sent_log.specs.declared.turns.Turn.{Turn}
 use Rattle.sent_log.specs.Insides.{sending_of, state_of}
 use Rattle.sent_log.specs.Pens.{IsPacket, IsPenOf}
@@ -18,14 +18,14 @@ use Rattle.sent_log.proofs.Rendering.{Reads, number_within, of_terminal, reads, 
 use Rattle.sent_log.proofs.logs.SentLog.packet.Goals as goal
 
 -- what the pen knows of the terminal that was read
-pen_of : (i : Inside) (log : State) (terminal : ℕ) (t : Terminal) (number : ℕ) (e : Entry) (p : Pen) → state_of i ≡ log → Reads i terminal t number e → OfTerminal log terminal (λ x. IsPenOf x number p)
+pen_of : (i : Inside) (log : State) (terminal : ℕ) (t : TerminalLog) (number : ℕ) (e : LoggedPacket) (p : Pen) → state_of i ≡ log → Reads i terminal t number e → OfTerminal log terminal (λ x. IsPenOf x number p)
     → IsPenOf (sending_of i.turns.items i.texts.items t) number p
 pen_of i log terminal t number e p v r o = tells i.turns.items i.texts.items i.terminals.items log terminal t (λ (x : Sending). IsPenOf x number p) v r.there o
 
-source_within : (i : Inside) (terminal : ℕ) (t : Terminal) (number : ℕ) (e : Entry) (p : Pen) → Reads i terminal t number e → IsPenOf (sending_of i.turns.items i.texts.items t) number p → e.source < length p.sources.items
+source_within : (i : Inside) (terminal : ℕ) (t : TerminalLog) (number : ℕ) (e : LoggedPacket) (p : Pen) → Reads i terminal t number e → IsPenOf (sending_of i.turns.items i.texts.items t) number p → e.source < length p.sources.items
 source_within i terminal t number e p r k = omega (arith, r.entry.source, k.each)
 
-source_read : (i : Inside) (terminal : ℕ) (t : Terminal) (number : ℕ) (e : Entry) (p : Pen) (s : List Kept) → Reads i terminal t number e → IsPenOf (sending_of i.turns.items i.texts.items t) number p → s ≡ get_or p.sources.items e.source s
+source_read : (i : Inside) (terminal : ℕ) (t : TerminalLog) (number : ℕ) (e : LoggedPacket) (p : Pen) (s : List PacketKey) → Reads i terminal t number e → IsPenOf (sending_of i.turns.items i.texts.items t) number p → s ≡ get_or p.sources.items e.source s
     → slice_get p.sources.items e.source ≡ Some s
 source_read i terminal t number e p s r k q = slice_get_read p.sources.items (length p.sources.items) e.source s refl (source_within i terminal t number e p r k) q
 
@@ -52,9 +52,9 @@ index-repeats-requires c =
     let l = source_within i c.args.terminal t c.args.number e p r (pen_of i _ c.args.terminal t c.args.number e p c.self.view_is r c.requires.pen) in
     omega (arith, l, p.sources.ok.0)
 
-pub make_packet-requires-clause-conf : goal.make_packet-requires-clause-conf
-make_packet-requires-clause-conf c =
-    (reads c.self.inside _ c.args.terminal c.index-sent_to.result.now c.args.number c.index-entry.result.now c.self.view_is c.self.invariant c.index-sent_to.ensures c.index-entry.ensures c.requires.terminal c.requires.number).stands.conf
+pub make_packet-requires-clause-settings : goal.make_packet-requires-clause-settings
+make_packet-requires-clause-settings c =
+    (reads c.self.inside _ c.args.terminal c.index-sent_to.result.now c.args.number c.index-entry.result.now c.self.view_is c.self.invariant c.index-sent_to.ensures c.index-entry.ensures c.requires.terminal c.requires.number).stands.settings
 
 pub make_packet-requires-clause-short : goal.make_packet-requires-clause-short
 make_packet-requires-clause-short c =
@@ -109,10 +109,10 @@ returns-clause-made c =
     let k = pen_of i _ c.args.terminal t c.args.number e p c.self.view_is r c.requires.pen in
     let turn = get_or_read i.turns.items e.turn c.index-turn.result.now r.entry.turn c.index-turn.ensures (record { now = 0; media = 0 }) in
     of_terminal i.turns.items i.texts.items i.terminals.items c.args.self.now c.args.terminal t (λ (x : Sending). IsPacket x c.args.number c.make_packet.new.packet c.index-turn.result.now.now) c.self.view_is r.there
-    (packet_made i.turns.items i.texts.items t c.args.number e p s c.make_packet.new.packet c.index-turn.result.now.now p.seq c.stamp_at-stamp.result r.stands r.read k (source_read i c.args.terminal t c.args.number e p s r k c.index-repeats.ensures) refl
-    (c.stamp_at-stamp.ensures ∙ ap (λ (u : Turn). (t.conf.stamp + u.media) % 2 ^ 32) turn) (ap (λ (u : Turn). u.now) turn)
+    (packet_made i.turns.items i.texts.items t c.args.number e p s c.make_packet.new.packet c.index-turn.result.now.now p.seq c.timestamp_at-timestamp.result r.stands r.read k (source_read i c.args.terminal t c.args.number e p s r k c.index-repeats.ensures) refl
+    (c.timestamp_at-timestamp.ensures ∙ ap (λ (u : Turn). (t.settings.timestamp + u.media) % 2 ^ 32) turn) (ap (λ (u : Turn). u.now) turn)
     (c.make_packet.ensures.packet
-    ∙ ap (λ (xs : List (List ℕ)). packet_in xs t (last_kept t.conf.gens s) e (head_in t (not (have_text xs t (last_kept (max 1 t.conf.gens) s))) p.seq c.stamp_at-stamp.result e.source)) c.deref.ensures.value))
+    ∙ ap (λ (xs : List (List ℕ)). packet_in xs t (last_kept t.settings.generations s) e (head_in t (not (have_text xs t (last_kept (max 1 t.settings.generations) s))) p.seq c.timestamp_at-timestamp.result e.source)) c.deref.ensures.value))
 
 pub returns-clause-pen : goal.returns-clause-pen
 returns-clause-pen c =
@@ -124,5 +124,5 @@ returns-clause-pen c =
     let k = pen_of i _ c.args.terminal t c.args.number e p c.self.view_is r c.requires.pen in
     let turn = get_or_read i.turns.items e.turn c.index-turn.result.now r.entry.turn c.index-turn.ensures (record { now = 0; media = 0 }) in
     of_terminal i.turns.items i.texts.items i.terminals.items c.args.self.now c.args.terminal t (λ (x : Sending). IsPenOf x (c.args.number + 1) c.keep.new.self) c.self.view_is r.there
-    (pen_more i.turns.items i.texts.items t c.args.number e p c.keep.new.self c.stamp_at-stamp.result r.stands r.read r.entry k
-    (c.stamp_at-stamp.ensures ∙ ap (λ (u : Turn). (t.conf.stamp + u.media) % 2 ^ 32) turn) c.keep.ensures.seq c.keep.ensures.sources)
+    (pen_more i.turns.items i.texts.items t c.args.number e p c.keep.new.self c.timestamp_at-timestamp.result r.stands r.read r.entry k
+    (c.timestamp_at-timestamp.ensures ∙ ap (λ (u : Turn). (t.settings.timestamp + u.media) % 2 ^ 32) turn) c.keep.ensures.seq c.keep.ensures.sources)

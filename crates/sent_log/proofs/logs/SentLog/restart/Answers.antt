@@ -1,7 +1,7 @@
 use Rattle.std.proofs.Common.{◌≡◌, ◌<◌, List, length, ap, subst, sym, ◌∙◌, arith}
 use Rattle.std.specs.Prelude.{All}
 use Rattle.std.proofs.lemmas.List.{length-map}
-use Rattle.sent_log.specs.declared.repeats.Kept.{Kept}
+use Rattle.sent_log.specs.declared.repeats.PacketKey.{PacketKey}
 use Rattle.sent_log.specs.Insides.{sending_of}
 use Rattle.sent_log.specs.Pens.{IsPenOf, IsPenTo}
 use Rattle.sent_log.specs.Repeats.{anew, fresh}
@@ -18,7 +18,7 @@ returns c =
     let new = c.restart.new.self in
     let there = terminal_in i.turns.items i.texts.items i.terminals.items c.args.self.now c.args.terminal t c.self.view_is c.index-sent_to.ensures c.requires.terminal in
     let many = tells i.turns.items i.texts.items i.terminals.items c.args.self.now c.args.terminal t (λ (x : Sending). IsPenTo x c.args.pen.now) c.self.view_is there c.requires.pen in
-    let size : length new.sources.items ≡ length t.sources.items = ap (λ (rs : List (List Kept)). length rs) c.restart.ensures.sources ∙ (length-map old anew ∙ many.each) in
-    let first : t.conf.seq < 65536 = omega arith in
+    let size : length new.sources.items ≡ length t.sources.items = ap (λ (rs : List (List PacketKey)). length rs) c.restart.ensures.sources ∙ (length-map old anew ∙ many.each) in
+    let first : t.settings.seq < 65536 = omega arith in
     of_terminal i.turns.items i.texts.items i.terminals.items c.args.self.now c.args.terminal t (λ (x : Sending). IsPenOf x 0 new) c.self.view_is there
-    (pen_fresh (sending_of i.turns.items i.texts.items t) new first c.restart.ensures.seq size (subst (λ (rs : List (List Kept)). All (λ r. r ≡ fresh) rs) (sym c.restart.ensures.sources) (all_anew old)))
+    (pen_fresh (sending_of i.turns.items i.texts.items t) new first c.restart.ensures.seq size (subst (λ (rs : List (List PacketKey)). All (λ r. r ≡ fresh) rs) (sym c.restart.ensures.sources) (all_anew old)))

@@ -2,7 +2,7 @@ use Rattle.std.proofs.Common.{◌≡◌, ℕ, Result, Ok, Err, get_or, subst, sy
 use Rattle.std.specs.Prelude.{OnErr}
 use Rattle.std.proofs.lemmas.Option.{slice_get_within}
 use Rattle.sent_log.specs.declared.logs.SentLog.TheInside.{Inside}
-use Rattle.sent_log.specs.declared.terminals.Terminal.{Terminal}
+use Rattle.sent_log.specs.declared.terminals.TerminalLog.{TerminalLog}
 use Rattle.sent_log.specs.Insides.{IsLog, IsTerminal, state_of}
 use Rattle.sent_log.specs.States.{HasSource, State}
 use Rattle.sent_log.proofs.Growing.{all_same, all_still, each_same}
@@ -32,7 +32,7 @@ index_mut-sent_to-requires c =
     omega (arith, l, i.terminals.ok.0)
 
 -- what holds of the terminal that is read
-read : (i : Inside) (log : State) (terminal source : ℕ) (t : Terminal) → state_of i ≡ log → IsLog i → t ≡ get_or i.terminals.items terminal t → HasSource log terminal source → IsTerminal i.turns.items i.texts.items t
+read : (i : Inside) (log : State) (terminal source : ℕ) (t : TerminalLog) → state_of i ≡ log → IsLog i → t ≡ get_or i.terminals.items terminal t → HasSource log terminal source → IsTerminal i.turns.items i.texts.items t
 read i log terminal source t v a e h = is_terminal i.turns.items i.texts.items i.terminals.items terminal t a (source_there i log terminal source t v e h).0
 
 pub note-requires-clause-source : goal.note-requires-clause-source

@@ -4,7 +4,7 @@ use Rattle.rtt_base.specs.declared.errors.Full.{Full}
 use Rattle.stream_spec.specs.Ready.{chunk_of}
 use Rattle.mixer_spec.specs.Table.{given}
 use Rattle.slot_table.specs.Lanes.{Waiting}
-use Rattle.slot_table.specs.Standing.{StandsFor}
+use Rattle.slot_table.specs.Standing.{SlotsStandFor}
 use Rattle.slot_table.proofs.Lists.{get_read}
 use Rattle.slot_table.proofs.Sources.{stands_given}
 use Rattle.slot_table.proofs.slots.Slots.offer.Goals as goal
@@ -19,5 +19,5 @@ returns-clause-ok c =
     let w = c.index_mut-lane.result.now in
     let g : slice_get c.args.self.now i ≡ Some w = get_read c.args.self.now i w c.requires.source (c.index_mut-lane.ensures.value ∙ ap (λ (xs : List Waiting). get_or xs i w) c.self.view_is) in
     on_ok_of c.offer.result c.offer.ensures.ok (λ f s table h.
-    subst (λ (xs : List Waiting). StandsFor s (set xs i c.offer.new.self) (given i (chunk_of c.args.chunk.now) table)) (sym c.self.view_is)
+    subst (λ (xs : List Waiting). SlotsStandFor s (set xs i c.offer.new.self) (given i (chunk_of c.args.chunk.now) table)) (sym c.self.view_is)
     (stands_given s c.args.self.now table i w c.offer.new.self (chunk_of c.args.chunk.now) h g c.offer.ensures.terminals (λ taken listens waits k. f taken listens waits (chunk_of c.args.chunk.now) k (sym c.as_slice.ensures.value))))

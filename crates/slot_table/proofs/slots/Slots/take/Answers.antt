@@ -3,7 +3,7 @@ use Rattle.std.specs.Prelude.{slice_get}
 use Rattle.mixer_spec.specs.Table.{is_given}
 use Rattle.slot_table.specs.Words.{fetched}
 use Rattle.slot_table.specs.Lanes.{Waiting}
-use Rattle.slot_table.specs.Standing.{StandsFor}
+use Rattle.slot_table.specs.Standing.{SlotsStandFor}
 use Rattle.slot_table.proofs.Lists.{get_read}
 use Rattle.slot_table.proofs.Sources.{stands_fetched}
 use Rattle.slot_table.proofs.slots.Slots.take.Goals as goal
@@ -18,5 +18,5 @@ pub returns-clause-stands : goal.returns-clause-stands
 returns-clause-stands c = λ s table h.
     let w = c.index_mut-lane.result.now in
     let g : slice_get c.args.self.now c.args.source ≡ Some w = get_read c.args.self.now c.args.source w c.requires.within.1 (c.index_mut-lane.ensures.value ∙ ap (λ (xs : List Waiting). get_or xs c.args.source w) c.self.view_is) in
-    subst (λ (xs : List Waiting). StandsFor s (set xs c.args.source c.take.new.self) (fetched c.args.terminal c.args.source c.args.room table)) (sym c.self.view_is)
+    subst (λ (xs : List Waiting). SlotsStandFor s (set xs c.args.source c.take.new.self) (fetched c.args.terminal c.args.source c.args.room table)) (sym c.self.view_is)
     (stands_fetched s c.args.self.now table c.args.terminal c.args.source c.args.room w c.take.new.self h g c.take.ensures.terminals c.take.ensures.holds)

@@ -4,12 +4,12 @@ use Rattle.wire_spec.specs.Packets.{has_text}
 use Rattle.stream_spec.specs.Own.{has_text_in}
 use Rattle.stream_spec.specs.Typed.{sents}
 use Rattle.text_sender.specs.States.{State}
-use Rattle.text_sender.specs.Standing.{StandsFor, sent_by}
+use Rattle.text_sender.specs.Standing.{SenderStandsFor, sent_by}
 use Rattle.text_sender.proofs.Sending.{no_text}
 use Rattle.text_sender.proofs.senders.Sender.has_more.Goals as goal
 
 pub returns-else-not-is_empty : goal.returns-else-not-is_empty
-returns-else-not-is_empty c = λ conf past s.
-    let r = subst (λ (st : State). StandsFor conf st past) (sym c.self.view_is) s in
-    c.repeats.ensures conf past s
-    ∙ sym (ap (λ (b : Bool). b || has_text_in conf.gens (sents (sent_by conf past))) (sym (ap has_text r.waits) ∙ no_text c.self.inside.waiting (sym c.is_empty.ensures ∙ c.if-not-is_empty.false)))
+returns-else-not-is_empty c = λ settings past s.
+    let r = subst (λ (st : State). SenderStandsFor settings st past) (sym c.self.view_is) s in
+    c.repeats.ensures settings past s
+    ∙ sym (ap (λ (b : Bool). b || has_text_in settings.generations (sents (sent_by settings past))) (sym (ap has_text r.waits) ∙ no_text c.self.inside.waiting (sym c.is_empty.ensures ∙ c.if-not-is_empty.false)))

@@ -4,7 +4,7 @@ use Rattle.text_sender.proofs.senders.Sender.new.Goals as goal
 pub returns : goal.returns
 returns c = record {
   script = tt;
-  conf_is = refl;
+  settings_is = refl;
   waits = c.in_ok-new.ensures;
   output = c.in_ok-new-2.ensures;
   last = refl;

@@ -1,13 +1,13 @@
 use Rattle.std.proofs.Common.{◌≡◌, ◌++◌, ap, sym, subst, List, ℕ}
 use Rattle.std.proofs.lemmas.Result.{on_ok_weaker}
 use Rattle.text_sender.specs.States.{State}
-use Rattle.text_sender.specs.Standing.{StandsFor}
+use Rattle.text_sender.specs.Standing.{SenderStandsFor}
 use Rattle.text_sender.proofs.Sending.{more_typed}
 use Rattle.text_sender.proofs.senders.Sender.typed.Goals as goal
 
 pub returns-clause-ok : goal.returns-clause-ok
 returns-clause-ok c =
     on_ok_weaker c.append.result
-    (λ (e : c.append.new.self ≡ c.self.inside.waiting ++ c.args.text.now). λ conf past s.
-    more_typed conf past _ _ c.args.text.now c.requires (subst (λ (st : State). StandsFor conf st past) (sym c.self.view_is) s) (ap (λ (w : List ℕ). let x : State = record { conf = c.self.inside.conf; waits = w; output = c.self.inside.output; last = c.self.inside.last } in x) e))
+    (λ (e : c.append.new.self ≡ c.self.inside.waiting ++ c.args.text.now). λ settings past s.
+    more_typed settings past _ _ c.args.text.now c.requires (subst (λ (st : State). SenderStandsFor settings st past) (sym c.self.view_is) s) (ap (λ (w : List ℕ). let x : State = record { settings = c.self.inside.settings; waits = w; output = c.self.inside.output; last = c.self.inside.last } in x) e))
     c.append.ensures.ok

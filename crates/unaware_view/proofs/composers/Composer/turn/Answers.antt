@@ -4,11 +4,11 @@ use Rattle.std.specs.Prelude.{is_some}
 use Rattle.std.specs.Vec.{with_items}
 use Rattle.std.proofs.lemmas.List.{with_items_is}
 use Rattle.mixer_spec.specs.Composed.{began_alone, began_behind_cr, chars_of, run_of, text_given, Asked}
-use Rattle.slot_table.specs.Standing.{StandsFor as SlotsStandFor}
+use Rattle.slot_table.specs.Standing.{SlotsStandFor}
 use Rattle.unaware_view.specs.States.{State}
 use Rattle.unaware_view.specs.Insides.{state_of}
 use Rattle.unaware_view.specs.Choices.{is_set, speaker_of}
-use Rattle.unaware_view.specs.Standing.{IsAsked, StandsFor, answered, asked_now, given_now}
+use Rattle.unaware_view.specs.Standing.{IsAsked, ComposerStandsFor, answered, asked_now, given_now}
 use Rattle.unaware_view.specs.Giving.{remembered}
 use Rattle.unaware_view.proofs.Turning.{Notes, Told, told, notes_of}
 use Rattle.mixer_spec.specs.Setups.{Setup}
@@ -51,12 +51,12 @@ returns-clause-text c = λ s table asks.
 
 pub returns-clause-stands : goal.returns-clause-stands
 returns-clause-stands c = λ s table asks.
-    subst (λ (x : State). IsAsked s table x c.args.slots.now c.args.names.now asks → StandsFor s c.remember.new.self (asked_now s table x c.args.media c.args.due asks)) c.self.view_is (λ h.
+    subst (λ (x : State). IsAsked s table x c.args.slots.now c.args.names.now asks → ComposerStandsFor s c.remember.new.self (asked_now s table x c.args.media c.args.due asks)) c.self.view_is (λ h.
     let me : State = state_of c.self.inside in
     let k = c.choose-choice.result in
     let then : State = record me { waits = flags_of c; run = c.give-given.new.run; since = moments_of c; asked = c.args.media + 1 } in
     let is : c.remember.new.self ≡ remembered then (speaker_of k) c.args.media = c.remember.ensures ∙ ap (λ (o : Option ℕ). remembered then o c.args.media) c.give-given.ensures.speaker in
-    subst (λ (x : State). StandsFor s x (asked_now s table me c.args.media c.args.due asks)) (sym is) (calls_told c s table asks h).stands)
+    subst (λ (x : State). ComposerStandsFor s x (asked_now s table me c.args.media c.args.due asks)) (sym is) (calls_told c s table asks h).stands)
 
 pub returns-clause-waits : goal.returns-clause-waits
 returns-clause-waits c = λ s table asks.

@@ -1,6 +1,0 @@
-use Rattle.file_spec.specs.Conf.{with_gens}
-use Rattle.conference.proofs.Changed.{change_at}
-use Rattle.conference.proofs.legs.set_gens.Goals as goal
-
-pub returns : goal.returns
-returns c = change_at (with_gens c.args.gens) c.args.legs.now c.args.leg c.item_mut.result.now c.requires c.item_mut.ensures.value

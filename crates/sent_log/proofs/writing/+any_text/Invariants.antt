@@ -1,5 +1,0 @@
-use Rattle.std.proofs.Common.{length}
-use Rattle.sent_log.proofs.writing.+any_text.Given as goal
-
-abbrev pub decreases-any_text : goal.decreases-any_text
-decreases-any_text l = length l.kept.now

@@ -1,0 +1,11 @@
+//! What a terminal is asked for.
+use rtt_base::PayloadTypes;
+
+/// Which packets are heard, and how long a gap in their numbers is waited for, in milliseconds: at most 10000.
+#[derive(Clone, Copy, Debug, PartialEq, Eq)]
+pub struct TerminalSettings {
+    /// The SSRC of the packets.
+    pub ssrc: u32,
+    pub payload_types: PayloadTypes,
+    pub wait: u64,
+}

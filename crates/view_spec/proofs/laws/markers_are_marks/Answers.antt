@@ -1,8 +1,0 @@
-use Rattle.view_spec.proofs.Markers.{all_heard, markers_kept}
-use Rattle.view_spec.proofs.laws.markers_are_marks.Goals as goal
-
-pub returns-clause-heard : goal.returns-clause-heard
-returns-clause-heard c = all_heard
-
-pub returns-clause-marks : goal.returns-clause-marks
-returns-clause-marks c = markers_kept
