@@ -23,11 +23,11 @@ use Rattle.command_spec.specs.Mixing.{input_at, makes, mixes, out_of, outs, reco
 use Rattle.command_spec.specs.Sums.{sums}
 use Rattle.mix_loop.specs.declared.turns.MixEnd.{MixEnd}
 use Rattle.mix_loop.specs.declared.turns.MixEnd.TheVariants as mixing
-use Rattle.sent_files.specs.Files.{recordings_of}
+use Rattle.sent_log.specs.Files.{recordings_of}
 use Rattle.bridge_run.specs.Logs.{LogOf, out_at}
-use Rattle.leg_items.specs.declared.inlets.LegInlet.{LegInlet}
-use Rattle.leg_items.specs.Answers.{AllAsked, AllWhole, AreChunks, AreOfConference, IsAnswer, IsReadWell, PlainMixed, SourceKept, source_in}
-use Rattle.leg_items.proofs.OfConferences.{asked_law}
+use Rattle.leg.specs.declared.inlets.LegInlet.{LegInlet}
+use Rattle.leg.specs.Answers.{AllAsked, AllWhole, AreChunks, AreOfConference, IsAnswer, IsReadWell, PlainMixed, SourceKept, source_in}
+use Rattle.leg.proofs.OfConferences.{asked_law}
 use Rattle.mixer_posts.specs.Streams.{payload_types_at, payload_types_of}
 use Rattle.sent_log.specs.States.{State, recording_of}
 use Rattle.bridge_run.specs.declared.results.MixFault.{MixFault}

@@ -11,10 +11,10 @@ use Rattle.mixer_spec.specs.Setups.{leg_at, ssrc_of}
 use Rattle.mixer_spec.specs.Bridged.{input_limit}
 use Rattle.command_spec.specs.Work.{Contents}
 use Rattle.command_spec.specs.Mixing.{input_at}
-use Rattle.leg_core.specs.Gives.{Stands, LegPast, begins}
+use Rattle.leg.specs.Gives.{Stands, LegPast, begins}
 use Rattle.mix_loop.proofs.Lists.{get_within, lt_or_ge}
-use Rattle.leg_items.specs.declared.inlets.LegInlet.{LegInlet}
-use Rattle.leg_items.specs.Answers.{AllAsked, AllNew, read_well, source_in}
+use Rattle.leg.specs.declared.inlets.LegInlet.{LegInlet}
+use Rattle.leg.specs.Answers.{AllAsked, AllNew, read_well, source_in}
 use Rattle.mixer_posts.specs.Streams.{payload_types_of}
 use Rattle.bridge_run.specs.declared.results.MixFault.{MixFault}
 use Rattle.bridge_run.specs.declared.results.MixFault.TheVariants.{Open, Dump, TooLong, NoMemory}

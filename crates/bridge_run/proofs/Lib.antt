@@ -1,3 +1,5 @@
+pub mod Reading
+pub mod LaneJoining
 pub mod Opening
 pub mod Noting
 pub mod Viewing

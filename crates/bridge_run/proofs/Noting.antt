@@ -8,7 +8,7 @@ use Rattle.rtt_base.specs.declared.text_packets.PayloadTypes.{PayloadTypes}
 use Rattle.stream_spec.specs.Own.{Sent}
 use Rattle.file_spec.specs.Conference.{Conference}
 use Rattle.mixer_spec.specs.Setups.{Setup, setup}
-use Rattle.aware_output.specs.Speakers.{text_of}
+use Rattle.packetizer.specs.Speakers.{text_of}
 use Rattle.mixer_turn.specs.declared.batches.Post.{Post}
 use Rattle.mixer_turn.specs.Making.{source_counts}
 use Rattle.mixer_posts.specs.Posts.{AreNext, sents_to}

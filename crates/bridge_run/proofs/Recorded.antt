@@ -9,10 +9,10 @@ use Rattle.file_spec.specs.Conference.{Conference}
 use Rattle.rtt_base.specs.declared.text_packets.PayloadTypes.{PayloadTypes}
 use Rattle.wire_spec.specs.Dump.{dump_written}
 use Rattle.stream_spec.specs.Own.{Sent}
-use Rattle.aware_output.specs.declared.outputs.PacketizerSettings.{PacketizerSettings}
-use Rattle.aware_output.specs.Settings.{stream_of}
-use Rattle.aware_output.specs.Sending.{octets_of}
-use Rattle.aware_output.specs.Speakers.{EachIsNext}
+use Rattle.packetizer.specs.declared.outputs.PacketizerSettings.{PacketizerSettings}
+use Rattle.packetizer.specs.OutputSettings.{stream_of}
+use Rattle.packetizer.specs.Sending.{octets_of}
+use Rattle.packetizer.specs.Speakers.{EachIsNext}
 use Rattle.mixer_spec.specs.Setups.{leg_at, setup, stream}
 use Rattle.mixer_spec.specs.Table.{Table, TurnEntry, Call, Admit, Hush, Leave, Offer, Turn, after_calls, packets}
 use Rattle.mixer_spec.specs.Table as tables
@@ -27,8 +27,8 @@ use Rattle.mixer_posts.specs.Streams.{settings_at, payload_types_at, payload_typ
 use Rattle.mixer_posts.proofs.Entering.{entered_law}
 use Rattle.rtpdump_io.specs.InMemory.{IsRecord}
 use Rattle.sent_log.specs.States.{Sending, State, recording_of, records_of, sents}
-use Rattle.played.specs.Written.{IsPlayable, IsWrittenOf}
-use Rattle.sent_files.specs.Files.{recording_at, recordings_of}
+use Rattle.playback.specs.Written.{IsPlayable, IsWrittenOf}
+use Rattle.sent_log.specs.Files.{recording_at, recordings_of}
 use Rattle.bridge_run.specs.Logs.{LogOf, out_at, records, records_to}
 use Rattle.bridge_run.specs.Loggers.{RecordsFor}
 use Rattle.bridge_run.specs.Viewed.{AreSent}

@@ -4,7 +4,7 @@ use Rattle.std.specs.Prelude.{remove, flat_map}
 use Rattle.std.specs.Global.{Vec}
 use Rattle.std.specs.List.{concat, enumerate_from, sum_by}
 use Rattle.std.proofs.lemmas.List.Sums.{sum_by-cons, sum_by-le, sum_by_push}
-use Rattle.source_receiver.specs.declared.source_texts.SourceText.{SourceText}
+use Rattle.receiver.specs.declared.source_texts.SourceText.{SourceText}
 use Rattle.view_spec.specs.declared.counts.Counts.{Counts}
 use Rattle.std.proofs.lemmas.List.{take_all, append-nil}
 use Rattle.std.proofs.lemmas.List.FromFn.{length-enumerate_from}

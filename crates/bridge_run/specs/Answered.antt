@@ -11,14 +11,14 @@ use Rattle.command_spec.specs.declared.faults.Refusal.TheVariants.{AtByte, After
 use Rattle.command_spec.specs.Work.{Refuses, Makes}
 use Rattle.command_spec.specs.Mixing.{input_at, mixes}
 use Rattle.command_spec.specs.Sums.{sums_mixed}
-use Rattle.leg_items.specs.declared.inlets.LegInlet.{LegInlet}
-use Rattle.leg_items.specs.Feds.{Asked}
-use Rattle.leg_items.specs.Answers.{AllAsked, read_well, source_in}
+use Rattle.leg.specs.declared.inlets.LegInlet.{LegInlet}
+use Rattle.leg.specs.Feds.{Asked}
+use Rattle.leg.specs.Answers.{AllAsked, read_well, source_in}
 use Rattle.mixer_posts.specs.Streams.{payload_types_at}
 use Rattle.bridge_run.specs.declared.results.MixFault.{MixFault}
 use Rattle.bridge_run.specs.declared.results.MixFault.TheVariants.{Open, Dump, TooLong, NoMemory}
 use Rattle.bridge_run.specs.declared.results.Mixed.{Mixed}
-use Rattle.sent_files.specs.Files.{recordings_of}
+use Rattle.sent_log.specs.Files.{recordings_of}
 use Rattle.bridge_run.specs.Mixes.{WholeBelow, counted, outputs_of}
 
 -- what the leg j is asked for, where the inputs have these octets

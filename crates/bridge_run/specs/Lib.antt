@@ -1,3 +1,5 @@
+pub mod Mixings
+pub mod Jobs
 pub mod Mixes
 pub mod Opened
 pub mod Logs

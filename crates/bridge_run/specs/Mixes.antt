@@ -14,11 +14,11 @@ use Rattle.command_spec.specs.Work.{Contents, Made, Steps, Refuses, Makes}
 use Rattle.command_spec.specs.Mixing.{input_at, mixes}
 use Rattle.command_spec.specs.Inputs.{AllLie, LieBelow, NoneFailedAtAll, NoneFailedBelow, inputs_under}
 use Rattle.command_spec.specs.Sums.{Sums, sums_mixed}
-use Rattle.leg_items.specs.Answers.{read_well}
+use Rattle.leg.specs.Answers.{read_well}
 use Rattle.bridge_run.specs.declared.results.MixFault.{MixFault}
 use Rattle.bridge_run.specs.declared.results.MixFault.TheVariants.{Open, Dump, TooLong, NoMemory}
 use Rattle.bridge_run.specs.declared.results.Mixed.{Mixed}
-use Rattle.sent_files.specs.Files.{recordings_of}
+use Rattle.sent_log.specs.Files.{recordings_of}
 
 -- ---- what it comes to
 -- what is made of what lies there, or why nothing is

@@ -6,10 +6,10 @@ use Rattle.rtt_io.specs.Counts.{Rose}
 use Rattle.rtt_io.specs.Names.{Same}
 use Rattle.rtt_io.specs.declared.mem_sources.SteadySource.{SteadySource}
 use Rattle.rtt_io.specs.contracts.mem_sources.SteadySourceSource.TheImpl.{left-value, tells-value}
-use Rattle.ear.specs.declared.settings.EarSettings.{EarSettings}
-use Rattle.leg_core.specs.Gives.{Stands, begins, is_over}
-use Rattle.leg_items.specs.declared.inlets.LegInlet.{LegInlet}
-use Rattle.leg_items.specs.Answers.{source_in}
+use Rattle.receiver.specs.declared.settings.EarSettings.{EarSettings}
+use Rattle.leg.specs.Gives.{Stands, begins, is_over}
+use Rattle.leg.specs.declared.inlets.LegInlet.{LegInlet}
+use Rattle.leg.specs.Answers.{source_in}
 use Rattle.mixer_spec.specs.Setups.{leg_at}
 use Rattle.command_spec.specs.Mixing.{input_at}
 use Rattle.command_spec.specs.Inputs.{LieBelow}

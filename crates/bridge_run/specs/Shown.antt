@@ -1,7 +1,7 @@
 -- What is printed of a source at a terminal that keeps its sources apart, and of a terminal.
 use Rattle.std.specs.Prelude.{◌≡◌, ℕ, List, [], ◌++◌}
 use Rattle.std.specs.List.{concat}
-use Rattle.text_spec.specs.Shown.{shown}
+use Rattle.view_spec.specs.Shown.{shown}
 use Rattle.view_spec.specs.Views.{source_view}
 use Rattle.terminal.specs.declared.terminals.Terminal.{Terminal}
 use Rattle.terminal.specs.declared.views.View.{View}

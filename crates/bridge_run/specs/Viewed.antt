@@ -11,7 +11,7 @@ use Rattle.command_spec.specs.Mixing.{reception_of, records_to, speaker_of, view
 use Rattle.mixer_spec.specs.Arrives.{came}
 use Rattle.command_spec.specs.Sums.{Sums, counts_to, markers_to, sources_of, sums}
 use Rattle.view_spec.specs.Markers.{markers_at}
-use Rattle.played.specs.Written.{IsWrittenOf}
+use Rattle.playback.specs.Written.{IsWrittenOf}
 use Rattle.terminal.specs.declared.settings.TerminalSettings.{TerminalSettings}
 use Rattle.terminal.specs.declared.terminals.Terminal.{Terminal}
 use Rattle.terminal.specs.declared.views.View.{View}

@@ -3,7 +3,7 @@ ghost use Rattle.std.specs.Prelude.{◌≡◌, ◌<◌, true, length, IsUtf8, If
 ghost use Rattle.bridge_run.specs.Shown.{lines_of};
 
 use crate::pieces::Piece;
-use conference::Conference;
+use file_spec::Conference;
 use rtt_base::{Bytes, NoMemory};
 use sent_log::SentLog;
 use std::alloc::Global;

@@ -1,7 +1,7 @@
 //! The inputs of all legs.
 ghost use Rattle.std.specs.Prelude.{◌≡◌, ◌≤◌, ◌<◌, length, IfOk, IfErr, OnOk, OnErr};
 ghost use Rattle.rtt_io.specs.Names.{CountsNoOther, NoneFalls, Same};
-ghost use Rattle.leg_items.specs.Answers.{source_in};
+ghost use Rattle.leg.specs.Answers.{source_in};
 ghost use Rattle.bridge_run.specs.Mixes.{IsFirstIn};
 ghost use Rattle.bridge_run.specs.Opened.{AreHeld, AreOpened, HandsBack, IsOpened, IsOver, Unopened, RefusedIn};
 ghost use Rattle.rtt_base.specs.declared.limits.TheConstants.{LONGEST_WAIT};
@@ -9,10 +9,9 @@ ghost use Rattle.wire_spec.specs.declared.limits.TheConstants.{MOST_RECORDING_OC
 ghost use Rattle.file_spec.specs.declared.limits.TheConstants.{MOST_LEGS};
 
 use crate::MixFault;
-use ear::EarSettings;
 use file_spec::LegLine;
-use leg_core::{Leg, LegLost};
-use leg_items::LegInlet;
+use leg::{Leg, LegInlet, LegLost};
+use receiver::EarSettings;
 use rtt_base::{Bytes, NoMemory};
 use rtt_io::{Source, SteadySource, World};
 use std::alloc::Global;

@@ -1,21 +1,27 @@
-//! Mixes a conference over recordings: what is sent to each terminal, and what is seen there.
+//! Mixes a conference over recordings, which are read on threads of their own, or by the caller: what is sent to each terminal,
+//! and what is seen there.
 #![tactic(auto)]
 
+mod jobs;
 mod known_lines;
 mod legs;
 mod loggers;
 mod logs;
-mod results;
 mod mixes;
 mod parts;
 mod pieces;
+mod readers;
+mod results;
 mod showing;
+mod threads;
 mod views;
 
 pub use legs::leg_over;
-pub use results::{MixFault, Mixed};
 pub use mixes::{InputReturn, input_limit, mix, mix_held, mix_opened};
 pub use pieces::Piece;
+pub use readers::{Readers, mix_legs};
+pub use results::{MixFault, Mixed};
+pub use threads::LegReturn;
 pub use views::{Views, views_of};
 
 #[cfg(test)]

@@ -1,11 +1,11 @@
 //! The mixer of a conference whose packets are noted in a log.
 ghost use Rattle.std.specs.Prelude.{◌≡◌, length, IfOk};
-ghost use Rattle.conference.specs.Conferences.{meaning_of};
+ghost use Rattle.file_spec.specs.Conferences.{meaning_of};
 ghost use Rattle.mixer_turn.specs.States.{legs_of};
 ghost use Rattle.bridge_run.specs.Loggers.{IsUncalled};
 
 use crate::logs::Log;
-use conference::Conference;
+use file_spec::Conference;
 use mixer_posts::SendingMixer;
 use mixer_turn::{Batch, Mixer};
 use rtt_base::NoMemory;
@@ -13,7 +13,10 @@ use std::alloc::Global;
 
 /// The mixer of this conference, of which no leg came, with a log in which nothing is noted. It takes all memory that it ever
 /// needs but that of the log.
-pub(crate) fn recording_mixer(alloc: Global, conference: &Conference) -> Result<SendingMixer<Log>, NoMemory>
+pub(crate) fn recording_mixer(
+    alloc: Global,
+    conference: &Conference,
+) -> Result<SendingMixer<Log>, NoMemory>
     ensures legs { IfOk result (λ sending. legs_of sending.mixer ≡ length conference.now.legs) }
     ensures turns { IfOk result (λ sending. sending.mixer.turns ≡ 0) }
     ensures stands { IfOk result (IsUncalled (meaning_of conference.now)) }

@@ -1,9 +1,9 @@
 //! What was sent, as it will be heard and written.
 ghost use Rattle.std.specs.Prelude.{◌≡◌, IfOk};
-ghost use Rattle.conference.specs.Conferences.{meaning_of};
+ghost use Rattle.file_spec.specs.Conferences.{meaning_of};
 ghost use Rattle.bridge_run.specs.Logs.{IsNew};
 
-use conference::Conference;
+use file_spec::Conference;
 use link_io::Beat;
 use mixer_posts::{PostSink, sources_to, stream_to};
 use mixer_turn::Post;

@@ -3,11 +3,11 @@ ghost use Rattle.std.specs.Prelude.{◌≡◌, All, length, IfOk, IfErr, OnOk};
 ghost use Rattle.std.specs.List.{concat};
 ghost use Rattle.rtt_io.specs.Names.{NoneFalls, Same};
 ghost use Rattle.mixer_spec.specs.Bridged.{input_limit};
-ghost use Rattle.conference.specs.Conferences.{meaning_of};
-ghost use Rattle.leg_items.specs.Answers.{AllNew};
-ghost use Rattle.played.specs.Written.{IsPlayable};
+ghost use Rattle.file_spec.specs.Conferences.{meaning_of};
+ghost use Rattle.leg.specs.Answers.{AllNew};
+ghost use Rattle.playback.specs.Written.{IsPlayable};
 ghost use Rattle.bridge_run.specs.Answered.{AreKept, HasOutputs, IsOfLegs, MixesAsked, MixesTo, NoReadFailed};
-ghost use Rattle.sent_files.specs.Files.{recordings_of};
+ghost use Rattle.sent_log.specs.Files.{recordings_of};
 ghost use Rattle.bridge_run.specs.Mixes.{IsFirstIn, IsMade, NoneFailedIn, StopsIn, counted};
 ghost use Rattle.bridge_run.specs.Viewed.{AreSumsOf, AreViewsOf};
 
@@ -16,15 +16,14 @@ use crate::loggers::recording_mixer;
 use crate::logs::Log;
 use crate::parts::views_on_threads;
 use crate::views::Views;
-use crate::{MixFault, Mixed};
-use conference::Conference;
-use leg_items::LegInlet;
-use leg_lanes::{LegReturn, Readers, mix_legs};
+use crate::{LegReturn, MixFault, Mixed, Readers, mix_legs};
+use file_spec::Conference;
+use leg::LegInlet;
 use mix_loop::MixEnd;
 use mixer_spec::limits::MOST_INPUT_OF_MANY;
 use rtt_base::Bytes;
 use rtt_io::{Gate, Source, World};
-use sent_files::SentFiles;
+use sent_log::SentFiles;
 use std::alloc::Global;
 use std::sync::Wait;
 use std::thread::Threads;
@@ -42,7 +41,12 @@ pub fn input_limit(conference: &Conference) -> u32
 }
 
 /// What a mixing makes whose log has what was sent.
-fn made<R: Threads + Sync>(rt: &R, alloc: Global, conference: &Conference, log: Log) -> Result<Mixed, MixFault>
+fn made<R: Threads + Sync>(
+    rt: &R,
+    alloc: Global,
+    conference: &Conference,
+    log: Log,
+) -> Result<Mixed, MixFault>
     requires legs { length log ≡ length conference.now.legs }
     requires sent { All IsPlayable log }
     ensures views { IfOk result (λ mixed. AreViewsOf (meaning_of conference.now) (recordings_of log) (concat mixed.views.items)) }
@@ -144,10 +148,23 @@ pub fn mix_held<R: Threads + Wait + Sync, G: Gate + Sync>(
     ensures outs { IfOk result (HasOutputs (length conference.now.legs)) }
 {
     let limit = input_limit(conference);
-    let Ok(legs) = held_legs(alloc, conference.legs.as_slice(), conference.wait, limit, inputs) else {
+    let Ok(legs) = held_legs(
+        alloc,
+        conference.legs.as_slice(),
+        conference.wait,
+        limit,
+        inputs,
+    ) else {
         return Err(MixFault::NoMemory);
     };
-    let InputReturn { mixed, legs: _ } = mix_opened(rt, alloc, conference, legs, Readers::Caller, gate);
+    let InputReturn { mixed, legs: _ } = mix_opened(
+        rt,
+        alloc,
+        conference,
+        legs,
+        Readers::Caller,
+        gate,
+    );
     mixed
 }
 
@@ -179,7 +196,14 @@ pub fn mix<R: Threads + Wait + Sync, W: World, G: Gate + Sync>(
         Ok(legs) => legs,
         Err(fault) => return Err(fault),
     };
-    let InputReturn { mixed, legs } = mix_opened(rt, alloc, conference, legs, Readers::Threads, gate);
+    let InputReturn { mixed, legs } = mix_opened(
+        rt,
+        alloc,
+        conference,
+        legs,
+        Readers::Threads,
+        gate,
+    );
     close_legs(legs, world);
     mixed
 }

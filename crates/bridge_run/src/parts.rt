@@ -1,8 +1,8 @@
 //! What is seen at the terminals of a conference, heard on several threads: each hears a part of the terminals.
 ghost use Rattle.std.specs.Prelude.{◌≡◌, ℕ, ◌+◌, ◌*◌, ◌/◌, ◌≤◌, ◌<◌, ◌++◌, min, length, vec_len, All, IfOk, OnOk};
-ghost use Rattle.conference.specs.Conferences.{meaning_of};
-ghost use Rattle.played.specs.Written.{IsPlayable};
-ghost use Rattle.sent_files.specs.Files.{recordings_of};
+ghost use Rattle.file_spec.specs.Conferences.{meaning_of};
+ghost use Rattle.playback.specs.Written.{IsPlayable};
+ghost use Rattle.sent_log.specs.Files.{recordings_of};
 ghost use Rattle.bridge_run.specs.Viewed.{AddsSeen, ArePartsOf, AreOf, AreSumsOf, AreViewsOf, IsPartOf, joined, summed};
 ghost use Rattle.bridge_run.specs.declared.parts.TheConstants.{MOST_PARTS};
 ghost use Rattle.file_spec.specs.declared.limits.TheConstants.{MOST_LEGS};
@@ -10,7 +10,7 @@ ghost use Rattle.file_spec.specs.declared.limits.TheConstants.{MOST_LEGS};
 use crate::known_lines::{KnownLines, lines_on_threads};
 use crate::pieces::Piece;
 use crate::views::{Views, nothing_seen, views_between, views_of};
-use conference::Conference;
+use file_spec::Conference;
 use rtt_base::NoMemory;
 use sent_log::SentLog;
 use std::alloc::Global;

@@ -1,7 +1,7 @@
 //! What a mixing makes, and why it may make nothing.
 use crate::pieces::Piece;
 use rtpdump_io::DumpFault;
-use sent_files::SentFiles;
+use sent_log::SentFiles;
 
 /// What a mixing makes. The numbers are sums over all terminals.
 #[derive(Drop)]

@@ -8,8 +8,8 @@ ghost use Rattle.bridge_run.specs.Shown.{AddsView};
 
 use crate::known_lines::{KnownLines, known_lines, make_lines};
 use crate::pieces::{Piece, add_again, add_octets};
+use receiver::SourceText;
 use rtt_base::{Bytes, Name, NoMemory};
-use source_receiver::SourceText;
 use std::alloc::Global;
 use t140_text::Counts;
 use t140_text::views::{append_aware_title, append_counts};

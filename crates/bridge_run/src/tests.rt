@@ -1,11 +1,10 @@
 use crate::{Mixed, Piece, mix};
 use conf_text::read_conf;
-use conference::Conference;
-use file_spec::Form;
+use file_spec::{Conference, Form};
 use rtpdump_io::{write_opening, write_record};
 use rtt_base::{Bytes, NoMemory};
 use rtt_io::{Gate, MemWorld, StillGate};
-use sent_files::{SentFiles, in_memory};
+use sent_log::{SentFiles, in_memory};
 use std::alloc::Global;
 use std::sync::Wait;
 use std::sync::atomic::{AtomicBool, AtomicU64, Ordering};

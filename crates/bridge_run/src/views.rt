@@ -1,9 +1,9 @@
 //! What is seen at the terminals of a conference.
 ghost use Rattle.std.specs.Prelude.{◌≡◌, ◌≢◌, ℕ, ◌+◌, ◌^◌, ◌<◌, ◌≤◌, [], length, All, AllPairs, IfOk, OnOk};
-ghost use Rattle.conference.specs.Conferences.{meaning_of};
+ghost use Rattle.file_spec.specs.Conferences.{meaning_of};
 ghost use Rattle.sent_log.specs.States.{OfTerminal};
-ghost use Rattle.played.specs.Written.{IsPlayable};
-ghost use Rattle.sent_files.specs.Files.{recording_at, recordings_of};
+ghost use Rattle.playback.specs.Written.{IsPlayable};
+ghost use Rattle.sent_log.specs.Files.{recording_at, recordings_of};
 ghost use Rattle.bridge_run.specs.Viewed.{AddsCounts, AddsSeenAs, AddsSent, AreOf, AreSeenBetween, AreSumsOf, AreViewsOf, HasFew, joined, markers_of, summed, terminal_settings};
 ghost use Rattle.terminal.specs.Views.{Fits};
 ghost use Rattle.file_spec.specs.declared.limits.TheConstants.{MOST_LEGS};
@@ -12,12 +12,12 @@ ghost use Rattle.rtt_base.specs.declared.limits.TheConstants.{MOST_SOURCES};
 use crate::known_lines::KnownLines;
 use crate::pieces::Piece;
 use crate::showing::add_shown;
-use conference::{Conference, LegLine, others};
-use played::played;
+use file_spec::{Conference, LegLine, others};
+use playback::played;
 use rtt_base::NoMemory;
 use sent_log::SentLog;
 use std::alloc::Global;
-use terminal::{TerminalSettings, Terminal, View};
+use terminal::{Terminal, TerminalSettings, View};
 
 /// What is seen at terminals, in leg order, one view behind the other, each in one piece or more. The numbers are sums over them.
 #[derive(Drop)]
@@ -133,7 +133,16 @@ fn add_view(
         return add_seen(alloc, conference, own, sources, view, log, known, seen);
     }
     let view = View::Unaware { name: &leg.name };
-    add_seen(alloc, conference, own, &[conference.mixer.ssrc], view, log, known, seen)
+    add_seen(
+        alloc,
+        conference,
+        own,
+        &[conference.mixer.ssrc],
+        view,
+        log,
+        known,
+        seen,
+    )
 }
 
 /// Of no terminal.

@@ -17,11 +17,11 @@ use Rattle.stream_spec.specs.Still.{is_lively_chunk, is_blank}
 use Rattle.stream_spec.proofs.ByNumber.{by_more}
 use Rattle.stream_spec.proofs.Rising.{rising_below}
 use Rattle.gap_tracker.specs.declared.answers.Due.{Due}
-use Rattle.source_receiver.specs.declared.pieces.TextCursor.{TextCursor}
-use Rattle.source_receiver.specs.declared.receivers.Receiver.{Receiver}
-use Rattle.source_receiver.specs.Each.{LeavesAdded}
-use Rattle.source_receiver.specs.Pieces.{left_of}
-use Rattle.source_receiver.specs.Stands.{Stands}
+use Rattle.receiver.specs.declared.pieces.TextCursor.{TextCursor}
+use Rattle.receiver.specs.declared.receivers.Receiver.{Receiver}
+use Rattle.receiver.specs.Each.{LeavesAdded}
+use Rattle.receiver.specs.Pieces.{left_of}
+use Rattle.receiver.specs.Stands.{Stands}
 use Rattle.cascade.specs.declared.splitters.SourceRecording.{SourceRecording}
 use Rattle.cascade.specs.Splitters.{AddsChunk, Splits}
 use Rattle.cascade.specs.Dividing.{AddsTexts, Divides, TakesDue, due_packet, lively_by}

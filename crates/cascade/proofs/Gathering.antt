@@ -20,12 +20,12 @@ use Rattle.gap_tracker.specs.States.{State, has_ready, is_finished, with_packet}
 use Rattle.gap_tracker.specs.Tracks.{Tracks}
 use Rattle.gap_tracker.specs.declared.answers.Due.{Due}
 use Rattle.gap_tracker.proofs.Steps.{tracks_with}
-use Rattle.source_receiver.specs.declared.receivers.Receiver.{Receiver}
-use Rattle.source_receiver.specs.Stands.{Stands, latest_number}
-use Rattle.ear.specs.Hears.{all_given, last_after, ready_packet, ready_packets}
-use Rattle.ear.proofs.Given.{last_snoc, ready_stamped}
-use Rattle.ear.proofs.ReadyBy.{told_arrived}
-use Rattle.cascade_spec.specs.Splitting.{Trunk, chunks_of, groups, packets_in, recorded, split}
+use Rattle.receiver.specs.declared.receivers.Receiver.{Receiver}
+use Rattle.receiver.specs.Stands.{Stands, latest_number}
+use Rattle.receiver.specs.Hears.{all_given, last_after, ready_packet, ready_packets}
+use Rattle.receiver.proofs.Given.{last_snoc, ready_stamped}
+use Rattle.receiver.proofs.ReadyBy.{told_arrived}
+use Rattle.command_spec.specs.Splitting.{Trunk, chunks_of, groups, packets_in, recorded, split}
 use Rattle.cascade.specs.declared.splitters.SourceRecording.{SourceRecording}
 use Rattle.cascade.specs.declared.dividers.Demux.{Demux}
 use Rattle.cascade.specs.Splitters.{Closes, Splits}

@@ -6,7 +6,7 @@ use Rattle.wire_spec.specs.Dump.{dump_opening, record_written}
 use Rattle.wire_spec.specs.Rtp.{rtp_written}
 use Rattle.wire_spec.specs.SentPackets.{packet_written}
 use Rattle.stream_spec.specs.Ready.{Chunk}
-use Rattle.cascade_spec.specs.Splitting.{Group, alone, groups, groups_from, joined, packet_of, packets_from, packets_in, record_of, recorded, timestamp_of}
+use Rattle.command_spec.specs.Splitting.{Group, alone, groups, groups_from, joined, packet_of, packets_from, packets_in, record_of, recorded, timestamp_of}
 use Rattle.cascade.specs.declared.splitters.SourceRecording.{SourceRecording}
 use Rattle.cascade.specs.Splitters.{AddsChunk, Closes, Joins, Parts, Splits, Writes, groups_with, hand_of, packet_in_hand, records_in}
 

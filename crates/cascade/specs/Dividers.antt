@@ -7,9 +7,9 @@ use Rattle.wire_spec.specs.Text.{text_of}
 use Rattle.gap_tracker.specs.Stories.{Story}
 use Rattle.gap_tracker.specs.Tracks.{Tracks}
 use Rattle.gap_tracker.specs.States.{has_ready, is_finished}
-use Rattle.source_receiver.specs.Stands.{Stands, latest_number}
-use Rattle.ear.specs.Hears.{IsToldOf, all_given, last_after, ready_packets}
-use Rattle.cascade_spec.specs.Splitting.{Trunk, chunks_of, split}
+use Rattle.receiver.specs.Stands.{Stands, latest_number}
+use Rattle.receiver.specs.Hears.{IsToldOf, all_given, last_after, ready_packets}
+use Rattle.command_spec.specs.Splitting.{Trunk, chunks_of, split}
 use Rattle.cascade.specs.declared.splitters.SourceRecording.{SourceRecording}
 use Rattle.cascade.specs.declared.dividers.Demux.{Demux}
 use Rattle.cascade.specs.Splitters.{Closes, Splits}

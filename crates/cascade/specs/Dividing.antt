@@ -7,8 +7,8 @@ use Rattle.stream_spec.specs.Ready.{Chunk, chunk}
 use Rattle.stream_spec.specs.ChunksBy.{chunks_by}
 use Rattle.stream_spec.specs.Still.{is_lively_chunk}
 use Rattle.gap_tracker.specs.declared.answers.Due.{Due}
-use Rattle.source_receiver.specs.declared.receivers.Receiver.{Receiver}
-use Rattle.source_receiver.specs.Stands.{Stands, used_packet}
+use Rattle.receiver.specs.declared.receivers.Receiver.{Receiver}
+use Rattle.receiver.specs.Stands.{Stands, used_packet}
 use Rattle.cascade.specs.declared.splitters.SourceRecording.{SourceRecording}
 use Rattle.cascade.specs.Splitters.{Splits}
 

@@ -3,3 +3,8 @@ pub mod Dividing
 pub mod Splits
 pub mod Splitters
 pub mod TrunkSources
+pub mod Inputs
+pub mod Texts
+pub mod Feeding
+pub mod Mixes
+pub mod Cascades

@@ -3,7 +3,7 @@ use Rattle.std.specs.Prelude.{◌≡◌, ℕ, List, [], map}
 use Rattle.wire_spec.specs.Packets.{Arrival}
 use Rattle.wire_spec.specs.Dump.{Item, Recording, arrivals_after, arrivals_with}
 use Rattle.rtpdump_io.specs.Calls.{SomeCame}
-use Rattle.cascade_spec.specs.Splitting.{Trunk, split}
+use Rattle.command_spec.specs.Splitting.{Trunk, split}
 use Rattle.cascade.specs.declared.dividers.Demux.{Demux}
 use Rattle.cascade.specs.declared.splits.Splits.{Splits}
 use Rattle.cascade.specs.declared.splits.DemuxSettings.{DemuxSettings}

@@ -5,7 +5,7 @@ use Rattle.rtt_base.specs.declared.text_packets.PayloadTypes.{PayloadTypes}
 use Rattle.wire_spec.specs.Packets.{Arrival}
 use Rattle.wire_spec.specs.Dump.{record_written}
 use Rattle.stream_spec.specs.Ready.{Chunk}
-use Rattle.cascade_spec.specs.Splitting.{Group, groups, groups_from, joins, moment_of, packet_of, packets_from, packets_in, record_of, recorded, timestamp_of}
+use Rattle.command_spec.specs.Splitting.{Group, groups, groups_from, joins, moment_of, packet_of, packets_from, packets_in, record_of, recorded, timestamp_of}
 use Rattle.cascade.specs.declared.splitters.SourceRecording.{SourceRecording}
 
 -- the octets of the records of these packets

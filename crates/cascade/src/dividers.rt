@@ -7,9 +7,9 @@ ghost use Rattle.rtt_base.specs.declared.limits.TheConstants.{END_OF_MOMENTS, LO
 use crate::routes::divide;
 use crate::splitters::SourceRecording;
 use gap_tracker::ReorderBuffer;
-use red_blocks::read_text;
+use receiver::Receiver;
+use rtp_text::read_text;
 use rtt_base::{NoMemory, Packet, PayloadTypes, Text};
-use source_receiver::Receiver;
 use std::alloc::Global;
 
 /// Hears the packets of one stream, and splits what is heard of each source into a recording of its own. One tracker and one
@@ -29,7 +29,11 @@ pub struct Demux {
 }
 
 /// Recordings without packets, of these sources.
-fn new_splitters(alloc: Global, sources: &[u32], payload_types: PayloadTypes) -> Result<Vec<SourceRecording>, NoMemory>
+fn new_splitters(
+    alloc: Global,
+    sources: &[u32],
+    payload_types: PayloadTypes,
+) -> Result<Vec<SourceRecording>, NoMemory>
     ensures started { IfOk result (λ splitters. IsStarted payload_types sources.now splitters.items) }
 {
     let mut splitters = Vec::with_capacity(alloc, sources.len())?;
@@ -109,7 +113,12 @@ impl Demux {
         ensures takes { OnOk result (Takes self.old self.new now octets.now) }
         ensures arrivals { OnOk result (arrival_count self.new.buffer ≤ arrival_count self.old.buffer + 1) }
     {
-        match read_text(octets, Some(self.ssrc), self.payload_types, self.buffer.packet_mut()) {
+        match read_text(
+            octets,
+            Some(self.ssrc),
+            self.payload_types,
+            self.buffer.packet_mut(),
+        ) {
             Ok(()) => {
                 let _taken = self.buffer.arrive(now);
                 self.gather()

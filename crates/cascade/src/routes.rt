@@ -1,16 +1,15 @@
 //! What is heard of a packet goes into the recording of its source.
 ghost use Rattle.std.specs.Prelude.{◌≡◌, ◌≤◌, ◌<◌, ◌^◌, ◌==◌, [], ◌∷◌, length, position, All, Some, OnOk};
 ghost use Rattle.std.specs.Option.{ForSome};
-ghost use Rattle.source_receiver.specs.Pieces.{left_of};
-ghost use Rattle.source_receiver.specs.Stands.{latest_number};
+ghost use Rattle.receiver.specs.Pieces.{left_of};
+ghost use Rattle.receiver.specs.Stands.{latest_number};
 ghost use Rattle.cascade.specs.Dividing.{AddsTexts, Divides, TakesDue};
 ghost use Rattle.rtt_base.specs.declared.limits.TheConstants.{MOST_TEXT_OCTETS};
 
 use crate::splitters::SourceRecording;
-use ear::is_blank;
 use gap_tracker::Due;
+use receiver::{Receiver, TextCursor, is_blank};
 use rtt_base::{NoMemory, Packet, Text, TextPacket};
-use source_receiver::{TextCursor, Receiver};
 
 /// The place of the source among these.
 fn place_of(splitters: &[SourceRecording], source: u32) -> Option<usize>

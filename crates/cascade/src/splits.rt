@@ -7,7 +7,7 @@ ghost use Rattle.rtpdump_io.specs.Answers.{record_of, is_end};
 ghost use Rattle.rtpdump_io.specs.Calls.{ReadsToEnd};
 ghost use Rattle.rtpdump_io.specs.Faults.{FaultOf, IsSourceFault};
 ghost use Rattle.rtt_io.specs.Counts.{Rose};
-ghost use Rattle.cascade_spec.specs.Splitting as splitting;
+ghost use Rattle.command_spec.specs.Splitting as splitting;
 ghost use Rattle.cascade.specs.declared.splits.DemuxSettings.{DemuxSettings};
 ghost use Rattle.cascade.specs.Dividers.{IsListening};
 ghost use Rattle.cascade.specs.Splits.{recordings_of, trunk_of, HearsAll, SplitsAs, TakesItem};
@@ -72,10 +72,7 @@ fn hear_record(divider: &mut Demux, item: DumpItem, octets: &[u8]) -> Result<(),
 }
 
 /// Tells the divider of all records that are still to come.
-fn listen<S: Source>(
-    reader: &mut DumpReader<S>,
-    divider: &mut Demux,
-) -> Result<(), RecordingFault>
+fn listen<S: Source>(reader: &mut DumpReader<S>, divider: &mut Demux) -> Result<(), RecordingFault>
     requires listens { IsListening divider.old }
     requires few { arrival_count divider.old.buffer ≡ 0 }
     ensures hears { OnOk result (HearsAll S.tells (to_come S.left reader.old) divider.old divider.new) }

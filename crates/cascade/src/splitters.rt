@@ -2,12 +2,12 @@
 ghost use Rattle.std.specs.Prelude.{◌≡◌, ◌≤◌, ◌<◌, ◌^◌, [], length, min, Bool, IsTrue, OnOk, IfOk};
 ghost use Rattle.wire_spec.specs.SentPackets.{packet_written};
 ghost use Rattle.stream_spec.specs.Ready.{chunk};
-ghost use Rattle.cascade_spec.specs.Splitting.{packet_of};
+ghost use Rattle.command_spec.specs.Splitting.{packet_of};
 ghost use Rattle.cascade.specs.Splitters.{Splits, AddsChunk, Joins, Parts, Writes, Closes};
 ghost use Rattle.rtt_base.specs.declared.limits.TheConstants.{MOST_TEXT_OCTETS};
 ghost use Rattle.wire_spec.specs.declared.limits.TheConstants.{LAST_RECORD_MOMENT};
 
-use rtp_header::{RtpHead, write_rtp};
+use rtp_text::{RtpHead, write_rtp};
 use rtpdump_io::{write_opening, write_record};
 use rtt_base::{Bytes, NoMemory, Packet, PayloadTypes, Text};
 use std::alloc::Global;
@@ -41,7 +41,14 @@ fn moment_of(ready: u64) -> u32
 }
 
 /// Puts a packet of the source in plain form in place of what is in `out`.
-fn write_plain(source: u32, payload_types: PayloadTypes, seq: u16, timestamp: u32, text: &[u8], out: &mut Packet)
+fn write_plain(
+    source: u32,
+    payload_types: PayloadTypes,
+    seq: u16,
+    timestamp: u32,
+    text: &[u8],
+    out: &mut Packet,
+)
     requires t140 { payload_types.t140 < 2 ^ 7 }
     requires few { length text.now ≤ MOST_TEXT_OCTETS }
     ensures packet { out.new ≡ packet_written payload_types (packet_of source seq timestamp text.now) }
@@ -60,7 +67,11 @@ fn write_plain(source: u32, payload_types: PayloadTypes, seq: u16, timestamp: u3
 
 impl SourceRecording {
     /// A recording without packets.
-    pub fn new(alloc: Global, source: u32, payload_types: PayloadTypes) -> Result<SourceRecording, NoMemory>
+    pub fn new(
+        alloc: Global,
+        source: u32,
+        payload_types: PayloadTypes,
+    ) -> Result<SourceRecording, NoMemory>
         ensures splits { IfOk result (λ splitter. Splits splitter payload_types source []) }
     {
         let mut octets = Bytes::new(alloc);
@@ -86,7 +97,14 @@ impl SourceRecording {
         let moment = moment_of(self.ready);
         let timestamp = moment.max(self.least);
         let text = self.text.as_slice();
-        write_plain(self.source, self.payload_types, self.seq, timestamp, text, out);
+        write_plain(
+            self.source,
+            self.payload_types,
+            self.seq,
+            timestamp,
+            text,
+            out,
+        );
         write_record(moment, out.as_slice(), &mut self.octets)?;
         self.seq = self.seq.wrapping_add(1);
         self.least = timestamp.wrapping_add(1);

@@ -13,11 +13,11 @@ use Rattle.wire_spec.specs.Dump.{opening, dump_opening, dump_step, records_withi
 use Rattle.stream_spec.specs.History.{placed}
 use Rattle.stream_spec.specs.Own.{Stream, Sent, sent_history, own_packet}
 use Rattle.file_spec.specs.Conference.{entry, leg_of, mixer_of, plan_of, stay_or_plan, time_or_other}
-use Rattle.text_spec.specs.Characters.{class_of}
-use Rattle.text_spec.specs.Shown.{shown}
+use Rattle.view_spec.specs.Characters.{class_of}
+use Rattle.view_spec.specs.Shown.{shown}
 use Rattle.view_spec.specs.Views.{aware_view}
-use Rattle.rtcp_spec.specs.Rtcp.{rtcp, packets_within, packet_read, body_at, chunks, chunk_at, items_within}
-use Rattle.rtcp_spec.specs.Recorded.{entries, entries_at, entries_within}
+use Rattle.wire_spec.specs.Rtcp.{rtcp, packets_within, packet_read, body_at, chunks, chunk_at, items_within}
+use Rattle.wire_spec.specs.Recorded.{entries, entries_at, entries_within}
 use Rattle.command_spec.specs.Work.{Made}
 use Rattle.command_spec.specs.Outcomes.{Done, outcome}
 use Rattle.command_spec.specs.Attending.{attending, said_by}

@@ -13,7 +13,7 @@ use Rattle.mixer_spec.specs.Headline.{Headline, HeadlineAt, IsHop, all_sent, hea
 use Rattle.mixer_spec.proofs.Bridged.{hops_law}
 use Rattle.mixer_spec.proofs.BothHops.{headline_law}
 use Rattle.mixer_spec.proofs.HopMarkers.{groups_of}
-use Rattle.cascade_spec.specs.Splitting.{Trunk, came_of}
+use Rattle.command_spec.specs.Splitting.{Trunk, came_of}
 use Rattle.command_spec.specs.Bridges.{Bridge, IsHeard, onward_from, setup_of, told_to}
 use Rattle.command_spec.specs.Cascaded.{IsCutBehind, heard_of, to_recording}
 use Rattle.command_spec.proofs.Regrouped.{parted, regrouped}

@@ -12,10 +12,10 @@ use Rattle.wire_spec.specs.declared.faults.DumpKind.TheVariants.{NotDump}
 use Rattle.file_spec.specs.declared.conference_lines.Form.TheVariants.{Files}
 use Rattle.file_spec.specs.Conference.{Conference, conference_from, entry, leg_of, mixer_of, plan_of, stay_or_plan, time_or_other}
 use Rattle.file_spec.specs.Lines as lines
-use Rattle.text_spec.specs.Characters.{class_of}
-use Rattle.text_spec.specs.Shown.{shown}
+use Rattle.view_spec.specs.Characters.{class_of}
+use Rattle.view_spec.specs.Shown.{shown}
 use Rattle.view_spec.specs.Views.{aware_view}
-use Rattle.cascade_spec.specs.Splitting.{split}
+use Rattle.command_spec.specs.Splitting.{split}
 use Rattle.command_spec.specs.declared.faults.Refusal.TheVariants.{AtByte}
 use Rattle.command_spec.specs.Work.{Contents}
 use Rattle.command_spec.specs.Outcomes.{Outcome, Missing, Refused, Done, Served, outcome_from}

@@ -11,8 +11,8 @@ use Rattle.mixer_spec.specs.Setups.{leg_at, setup}
 use Rattle.mixer_spec.specs.Table.{Table}
 use Rattle.mixer_spec.specs.Plain.{plain}
 use Rattle.mixer_spec.specs.Bridged.{input_limit, leg_chunks}
-use Rattle.cascade_spec.specs.Splitting.{split}
-use Rattle.cascade_spec.specs.Laws.{split_of}
+use Rattle.command_spec.specs.Splitting.{split}
+use Rattle.command_spec.specs.Laws.{split_of}
 use Rattle.command_spec.specs.Work.{Contents, Made, Steps, Reads, Refuses, Makes, Serves, IsOutput, IsNth}
 use Rattle.command_spec.specs.Outcomes.{Outcome, Missing, Refused, Done, Served, outcome_from}
 use Rattle.command_spec.specs.Mixing.{input_at, makes, outs}

@@ -24,9 +24,9 @@ use Rattle.mixer_spec.specs.Plain.{plain}
 use Rattle.mixer_spec.specs.Arrives.{IsPlan}
 use Rattle.mixer_spec.specs.Bridged.{IsPair, input_limit, leg_arrivals, leg_chunks}
 use Rattle.mixer_spec.proofs.Conferences.{accepted_law, plan_law}
-use Rattle.cascade_spec.specs.Splitting.{came_of, chunks_of}
-use Rattle.cascade_spec.specs.Laws.{IsStream, mixed_in, split_of}
-use Rattle.cascade_spec.proofs.Lively.{recordings_mixed}
+use Rattle.command_spec.specs.Splitting.{came_of, chunks_of}
+use Rattle.command_spec.specs.Laws.{IsStream, mixed_in, split_of}
+use Rattle.command_spec.proofs.Lively.{recordings_mixed}
 use Rattle.command_spec.specs.Work.{Contents, Made, Steps, Reads}
 use Rattle.command_spec.specs.Outcomes.{AllStored, Done, outcome_from}
 use Rattle.command_spec.specs.Mixing.{input_at, makes, outs, views}

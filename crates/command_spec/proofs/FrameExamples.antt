@@ -7,8 +7,8 @@ use Rattle.wire_spec.specs.Dump.{dump_opening, dump, opening, dump_step, records
 use Rattle.wire_spec.specs.Text.{text_of, text_of_short}
 use Rattle.wire_spec.specs.Rtp.{rtp, rtp_of_header}
 use Rattle.wire_spec.specs.Red.{red, headers_at, texts_at}
-use Rattle.frame_spec.specs.declared.kinds.FrameKind.TheVariants.{EndsInside, Length}
-use Rattle.frame_spec.specs.Frames.{frame_step, reading_from, reading_within}
+use Rattle.file_spec.specs.declared.frame_kinds.FrameKind.TheVariants.{EndsInside, Length}
+use Rattle.file_spec.specs.Frames.{frame_step, reading_from, reading_within}
 use Rattle.command_spec.specs.Usual.{usual_payload_types}
 use Rattle.command_spec.specs.Scripts.{Sending, events_before, first_from, first_end}
 use Rattle.command_spec.specs.Frames.{relay, channel}

@@ -12,7 +12,7 @@ use Rattle.wire_spec.specs.SentPackets.{packet_written}
 use Rattle.stream_spec.specs.Numbering.{Numbered}
 use Rattle.stream_spec.specs.Hearing.{is_marked, is_new, marker, new_texts, older_texts, piece, text_list}
 use Rattle.stream_spec.specs.Ready.{Chunk, chunk, chunks_over}
-use Rattle.cascade_spec.specs.Splitting.{Group, alone, groups, groups_from, joined, moment_of, packet_of, packets_from, record_of, recorded, timestamp_of}
+use Rattle.command_spec.specs.Splitting.{Group, alone, groups, groups_from, joined, moment_of, packet_of, packets_from, record_of, recorded, timestamp_of}
 
 pub by_bool : (P : Bool → Type 0) (b : Bool) → (b ≡ true → P true) → (b ≡ false → P false) → P b
 by_bool P true t f = t refl

@@ -15,7 +15,7 @@ use Rattle.stream_spec.specs.History.{History, Come, placed, Lawful}
 use Rattle.stream_spec.specs.Own.{own_packet, Own, Closed}
 use Rattle.stream_spec.specs.Carries.{Carries}
 use Rattle.view_spec.specs.declared.counts.Counts.{Counts}
-use Rattle.text_spec.specs.Shown.{shown}
+use Rattle.view_spec.specs.Shown.{shown}
 use Rattle.view_spec.specs.Views.{Source, aware_view, unaware_view}
 use Rattle.mixer_spec.specs.Setups.{AllStay, leg_at, generations_of}
 use Rattle.mixer_spec.specs.Table.{Table}
@@ -29,7 +29,7 @@ use Rattle.mixer_spec.proofs.Told.{out_of as told_out}
 use Rattle.mixer_spec.proofs.Bridged.{all_stay_law}
 use Rattle.mixer_spec.proofs.Staying.{shared_law, stay_law}
 use Rattle.stream_spec.proofs.ChunkTexts.{chunk_texts}
-use Rattle.named_spec.proofs.Showing.{end_law as named_law}
+use Rattle.command_spec.proofs.Showing.{end_law as named_law}
 use Rattle.command_spec.proofs.PrintedNames.{names_print}
 use Rattle.command_spec.specs.Work.{Contents, Made}
 use Rattle.command_spec.specs.Outcomes.{Done, outcome, AllStored}

@@ -1,3 +1,20 @@
+pub mod Cutting
+pub mod Walls
+pub mod Sent
+pub mod Blocks
+pub mod NamedNaming
+pub mod Sending
+pub mod Screens
+pub mod Showing
+pub mod Labels
+pub mod NamedExample
+pub mod ShownExample
+pub mod Carrying
+pub mod Examples
+pub mod Lively
+pub mod Recordings
+pub mod Rows
+pub mod Splits
 pub mod Views
 mod TranscriptExamples
 pub mod Ssrcs

@@ -18,8 +18,8 @@ use Rattle.stream_spec.specs.Own.{Stream, Sent, sent_history, own_packet}
 use Rattle.file_spec.specs.declared.kinds.ConfKind.TheVariants.{Count}
 use Rattle.file_spec.specs.Conference as line
 use Rattle.file_spec.specs.Conference.{entry, leg_of, mixer_of, plan_of, stay_or_plan, time_or_other}
-use Rattle.text_spec.specs.Characters.{class_of}
-use Rattle.text_spec.specs.Shown.{shown}
+use Rattle.view_spec.specs.Characters.{class_of}
+use Rattle.view_spec.specs.Shown.{shown}
 use Rattle.view_spec.specs.Views.{aware_view}
 use Rattle.command_spec.specs.declared.faults.Refusal.TheVariants.{AtByte, AtLine, AfterTurns}
 use Rattle.command_spec.specs.Work.{Contents, Made}

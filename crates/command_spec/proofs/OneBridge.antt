@@ -9,7 +9,7 @@ use Rattle.file_spec.specs.Lines as lines
 use Rattle.file_spec.specs.Conference.{Conference, conference_from}
 use Rattle.mixer_spec.specs.Table.{Table}
 use Rattle.mixer_spec.specs.Bridged.{IsConferenceMixed}
-use Rattle.cascade_spec.specs.Laws.{split_of}
+use Rattle.command_spec.specs.Laws.{split_of}
 use Rattle.command_spec.specs.Work.{Contents}
 use Rattle.command_spec.specs.Attended.{IsAttendedFrom}
 use Rattle.command_spec.specs.Attending.{named}

@@ -6,15 +6,15 @@ use Rattle.std.specs.Char.{is_ascii_alphanumeric}
 use Rattle.std.specs.Str.{byte, chars, IsAscii}
 use Rattle.std.proofs.lemmas.Bool.{and_from, and_parts, or_cases, leb-true, eqb-true}
 use Rattle.std.proofs.lemmas.Str.{chars-IsAscii, chars-encodes}
-use Rattle.text_spec.specs.Characters.{is_print}
-use Rattle.text_spec.proofs.Steps.{plain_class}
+use Rattle.view_spec.specs.Characters.{is_print}
+use Rattle.view_spec.proofs.Steps.{plain_class}
 use Rattle.file_spec.specs.declared.conference_lines.LegLine.{LegLine}
 use Rattle.file_spec.specs.declared.limits.TheConstants.{LONGEST_NAME}
 use Rattle.file_spec.specs.Conference.{Conference, is_name, is_name_octet}
 use Rattle.file_spec.specs.Kept.{IsConference, IsLeg}
 use Rattle.mixer_spec.specs.Setups.{leg_at, name_of, setup}
-use Rattle.named_spec.specs.Named.{prints}
-use Rattle.named_spec.specs.Seen.{NamesPrint}
+use Rattle.command_spec.specs.Named.{prints}
+use Rattle.command_spec.specs.Seen.{NamesPrint}
 
 -- between the space and DEL
 abbrev IsPlain : ℕ → Type 0

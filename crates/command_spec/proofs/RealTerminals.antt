@@ -8,11 +8,11 @@ use Rattle.wire_spec.specs.Red.{headers_at, texts_at, red}
 use Rattle.wire_spec.specs.Text.{text_of_short, text_of}
 use Rattle.wire_spec.specs.Dump.{opening, dump_step, records_within, records, dump, dump_written}
 use Rattle.file_spec.specs.Conference.{entry, leg_of, mixer_of, plan_of, stay_or_plan, time_or_other}
-use Rattle.text_spec.specs.Characters.{class_of}
-use Rattle.text_spec.specs.Ends.{ends_line, ends_sentence}
-use Rattle.text_spec.specs.Shown.{Display, shown}
+use Rattle.view_spec.specs.Characters.{class_of}
+use Rattle.view_spec.specs.Ends.{ends_line, ends_sentence}
+use Rattle.view_spec.specs.Shown.{Display, shown}
 use Rattle.view_spec.specs.Views.{aware_view, unaware_view}
-use Rattle.text_spec.specs.Views.{label, label_after}
+use Rattle.view_spec.specs.TextViews.{label, label_after}
 use Rattle.command_spec.specs.Work.{Contents}
 use Rattle.command_spec.specs.Outcomes.{Outcome, Missing, Refused, Done, Served, outcome}
 use Rattle.command_spec.specs.Mixing.{mixing}

@@ -24,8 +24,8 @@ use Rattle.stream_spec.specs.Numbering.{Numbered, by_number, first_number, has_n
 use Rattle.stream_spec.specs.Hearing.{is_packet_of}
 use Rattle.stream_spec.specs.Ready.{ready_of}
 use Rattle.stream_spec.specs.Still.{is_blank, still, still_block, still_packet, still_text}
-use Rattle.cascade_spec.specs.Splitting.{Trunk, came_of, chunks_of, groups, split}
-use Rattle.cascade_spec.specs.Laws.{split_of}
+use Rattle.command_spec.specs.Splitting.{Trunk, came_of, chunks_of, groups, split}
+use Rattle.command_spec.specs.Laws.{split_of}
 use Rattle.command_spec.proofs.GroupSizes.{by_bool, cost, groups_cost, one_if_any, recorded_size, taken, text_size}
 use Rattle.command_spec.proofs.GroupSizes as sizes
 use Rattle.rtt_base.specs.declared.limits.TheConstants.{MOST_PACKET_OCTETS, MOST_TEXT_OCTETS}

@@ -8,7 +8,7 @@ use Rattle.wire_spec.specs.Rtp.{rtp, rtp_of_header}
 use Rattle.wire_spec.specs.Red.{red, headers_at, texts_at}
 use Rattle.wire_spec.specs.Text.{text_of, text_of_short}
 use Rattle.wire_spec.specs.Dump.{dump, opening, dump_step, records, records_within, dump_written}
-use Rattle.text_spec.specs.Characters.{class_of}
+use Rattle.view_spec.specs.Characters.{class_of}
 use Rattle.command_spec.specs.declared.requests.ReadRequest.{ReadRequest}
 use Rattle.command_spec.specs.Transcripts.{escaped, transcript_view}
 

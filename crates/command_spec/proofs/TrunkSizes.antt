@@ -3,7 +3,7 @@ use Rattle.std.proofs.Common.{◌*◌, ◌≡◌, ◌≤◌, ℕ, Bool, true, fa
 use Rattle.std.specs.Prelude.{nat_lt}
 use Rattle.file_spec.specs.Conference.{Conference}
 use Rattle.mixer_spec.specs.Bridged.{input_limit}
-use Rattle.cascade_spec.specs.Laws.{split_of}
+use Rattle.command_spec.specs.Laws.{split_of}
 use Rattle.command_spec.proofs.SplitSizes.{split_fits}
 use Rattle.command_spec.specs.Cascading.{trunk_limit, trunk_of}
 

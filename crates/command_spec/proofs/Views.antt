@@ -3,7 +3,7 @@ use Rattle.std.proofs.Common.{◌≡◌, List, ℕ, ap}
 use Rattle.std.specs.List.{concat}
 use Rattle.stream_spec.specs.History.{History, Lawful, Come}
 use Rattle.stream_spec.proofs.Walks.{l1}
-use Rattle.text_spec.specs.Shown.{shown}
+use Rattle.view_spec.specs.Shown.{shown}
 use Rattle.view_spec.specs.Views.{text_view}
 use Rattle.command_spec.specs.declared.requests.ReadRequest.{ReadRequest}
 use Rattle.view_spec.specs.Seen.{counts_at}

@@ -4,11 +4,11 @@ use Rattle.std.specs.Prelude.{ℕ, zero, suc, ◌+◌, ◌==◌, ◌&&◌, max, 
 use Rattle.std.specs.List.{list_any}
 use Rattle.std.specs.Str.{byte}
 use Rattle.wire_spec.specs.Dump.{dump}
-use Rattle.rtcp_spec.specs.declared.events.Event.{Event}
-use Rattle.rtcp_spec.specs.declared.events.Event.TheVariants.{Name, Bye}
-use Rattle.rtcp_spec.specs.declared.faults.RtcpRefusal.{RtcpRefusal}
-use Rattle.rtcp_spec.specs.Rtcp.{rtcp}
-use Rattle.rtcp_spec.specs.Recorded.{Entry, entries}
+use Rattle.wire_spec.specs.declared.events.Event.{Event}
+use Rattle.wire_spec.specs.declared.events.Event.TheVariants.{Name, Bye}
+use Rattle.wire_spec.specs.declared.rtcp_faults.RtcpRefusal.{RtcpRefusal}
+use Rattle.wire_spec.specs.Rtcp.{rtcp}
+use Rattle.wire_spec.specs.Recorded.{Entry, entries}
 use Rattle.file_spec.specs.declared.limits.TheConstants.{LAST_MOMENT}
 use Rattle.file_spec.specs.declared.conference_lines.Form.TheVariants.{Files}
 use Rattle.file_spec.specs.declared.conference_lines.LegLine.{LegLine}

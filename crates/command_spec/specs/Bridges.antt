@@ -14,15 +14,15 @@ use Rattle.stream_spec.specs.Own.{Own, Closed, own_packet}
 use Rattle.stream_spec.specs.Carries.{Carries}
 use Rattle.stream_spec.specs.Ready.{Chunk}
 use Rattle.view_spec.specs.declared.counts.Counts.{Counts}
-use Rattle.text_spec.specs.Shown.{Display, shown}
+use Rattle.view_spec.specs.Shown.{Display, shown}
 use Rattle.view_spec.specs.Views.{Source, aware_view, unaware_view}
 use Rattle.mixer_spec.specs.Setups.{AllStay, IsAnother, Setup, leg_at, setup}
 use Rattle.mixer_spec.specs.Table.{Table}
 use Rattle.mixer_spec.specs.Arrives.{arrivals}
 use Rattle.mixer_spec.specs.Headline.{Hop, hears, OneHop, Headline, HeadlineAt, all_sent}
 use Rattle.mixer_spec.specs.Bridged.{Bridged, BridgedAsOne, IsConferenceMixed, IsPair, IsSentBy, SharedIsPart, hop_from, hop_to, input_limit, leg_heard, told_by_packets}
-use Rattle.named_spec.specs.Heard.{HearsNamed}
-use Rattle.named_spec.specs.Seen.{ShowsNamed}
+use Rattle.command_spec.specs.Heard.{HearsNamed}
+use Rattle.command_spec.specs.Seen.{ShowsNamed}
 use Rattle.command_spec.specs.Work.{Contents}
 use Rattle.command_spec.specs.Outcomes.{HoldsOfMade}
 use Rattle.command_spec.specs.Mixing.{counted, mixing, sent_to, records_to, input_at}

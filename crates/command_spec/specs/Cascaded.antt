@@ -14,8 +14,8 @@ use Rattle.mixer_spec.specs.Setups.{AllStay, leg_at, ssrc_of}
 use Rattle.mixer_spec.specs.Headline.{Headline, HeadlineAt, Hop, all_sent, hears}
 use Rattle.mixer_spec.specs.Bridged.{IsConferenceMixed, IsPair, IsPart, before_shared, input_limit, shared_texts}
 use Rattle.mixer_spec.specs.Bridged as mixer
-use Rattle.cascade_spec.specs.Splitting.{Trunk, came_of, chunks_of}
-use Rattle.cascade_spec.specs.Laws.{split_of}
+use Rattle.command_spec.specs.Splitting.{Trunk, came_of, chunks_of}
+use Rattle.command_spec.specs.Laws.{split_of}
 use Rattle.command_spec.specs.Work.{Contents, Made}
 use Rattle.command_spec.specs.Outcomes.{AllStored, Done, outcome}
 use Rattle.command_spec.specs.Mixing.{input_at}

@@ -11,8 +11,8 @@ use Rattle.file_spec.specs.Lines as lines
 use Rattle.mixer_spec.specs.Setups.{setup}
 use Rattle.mixer_spec.specs.Plain.{plain}
 use Rattle.mixer_spec.specs.Bridged.{input_limit, leg_chunks}
-use Rattle.cascade_spec.specs.Splitting.{Trunk}
-use Rattle.cascade_spec.specs.Laws.{split_of}
+use Rattle.command_spec.specs.Splitting.{Trunk}
+use Rattle.command_spec.specs.Laws.{split_of}
 use Rattle.command_spec.specs.declared.faults.Refusal.TheVariants.{AtByte, AtLine, AtTrunk}
 use Rattle.command_spec.specs.Work.{Steps, Reads, Refuses}
 use Rattle.command_spec.specs.Mixing.{input_at, makes}

@@ -3,11 +3,11 @@ use Rattle.std.specs.Prelude.{◌<◌, All, IsUtf8, ℕ, ◌+◌, nat_lt, if◌t
 use Rattle.wire_spec.specs.Dump.{arrivals}
 use Rattle.stream_spec.specs.Ready.{Chunk, chunks}
 use Rattle.file_spec.specs.Script.{ScriptLine}
-use Rattle.frame_spec.specs.declared.frames.Frame.{Frame}
-use Rattle.frame_spec.specs.declared.frames.FrameRefusal.{FrameRefusal}
-use Rattle.frame_spec.specs.declared.kinds.FrameKind.TheVariants.{Full, ManyFrames}
-use Rattle.frame_spec.specs.declared.limits.TheConstants.{FRAME_HEAD_OCTETS, END_OF_FRAME_MOMENTS, MOST_FRAMES_OCTETS}
-use Rattle.frame_spec.specs.Frames.{frames_written, read_frames}
+use Rattle.file_spec.specs.declared.frames.Frame.{Frame}
+use Rattle.file_spec.specs.declared.frames.FrameRefusal.{FrameRefusal}
+use Rattle.file_spec.specs.declared.frame_kinds.FrameKind.TheVariants.{Full, ManyFrames}
+use Rattle.file_spec.specs.declared.frame_limits.TheConstants.{FRAME_HEAD_OCTETS, END_OF_FRAME_MOMENTS, MOST_FRAMES_OCTETS}
+use Rattle.file_spec.specs.Frames.{frames_written, read_frames}
 use Rattle.command_spec.specs.Reading.{usual_wait}
 use Rattle.command_spec.specs.Scripts.{Sending, InOrder, full_line, recording}
 use Rattle.command_spec.specs.Usual.{usual_payload_types}

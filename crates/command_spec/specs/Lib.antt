@@ -1,3 +1,9 @@
+pub mod Stretches
+pub mod Named
+pub mod Heard
+pub mod Seen
+pub mod Laws
+pub mod Splitting
 pub mod Usual
 pub mod Listing
 pub mod Reading

@@ -4,8 +4,8 @@ use Rattle.wire_spec.specs.declared.faults.DumpKind.{DumpKind}
 use Rattle.wire_spec.specs.declared.faults.DumpKind.TheVariants.{NotDump, BadLength, EndsInside, TooLong, TooLarge, Read}
 use Rattle.file_spec.specs.declared.kinds.ConfKind.{ConfKind}
 use Rattle.file_spec.specs.declared.kinds.ConfKind.TheVariants as conference
-use Rattle.frame_spec.specs.declared.kinds.FrameKind.{FrameKind}
-use Rattle.frame_spec.specs.declared.kinds.FrameKind.TheVariants as frame
+use Rattle.file_spec.specs.declared.frame_kinds.FrameKind.{FrameKind}
+use Rattle.file_spec.specs.declared.frame_kinds.FrameKind.TheVariants as frame
 use Rattle.command_spec.specs.declared.faults.Refusal.{Refusal}
 use Rattle.command_spec.specs.declared.faults.Refusal.TheVariants.{AtByte, AtFrame, AtLine, AtTrunk, AfterTurns}
 use Rattle.command_spec.specs.declared.faults.Fault.{Fault}

@@ -5,7 +5,7 @@ use Rattle.wire_spec.specs.Packets.{Arrival}
 use Rattle.wire_spec.specs.Dump.{Item, dump, usual_limit}
 use Rattle.stream_spec.specs.History.{History, places}
 use Rattle.stream_spec.specs.Kept.{kept, texts}
-use Rattle.text_spec.specs.Shown.{shown}
+use Rattle.view_spec.specs.Shown.{shown}
 use Rattle.view_spec.specs.Views.{text_view}
 use Rattle.command_spec.specs.declared.requests.ReadRequest.{ReadRequest}
 use Rattle.view_spec.specs.Seen.{Reception, arrivals_at, counts_at, text_seen}

@@ -4,10 +4,10 @@ use Rattle.std.specs.Prelude.{ℕ, ◌==◌, if◌then◌else◌, List, [], ◌+
 use Rattle.std.specs.Str.{byte}
 use Rattle.wire_spec.specs.Packets.{has_text}
 use Rattle.stream_spec.specs.Ready.{Chunk, chunks}
-use Rattle.text_spec.specs.declared.classes.CharClass.{CharClass}
-use Rattle.text_spec.specs.declared.classes.CharClass.TheVariants.{Erase, Bell, NewLine, Silent, Marker, Print}
-use Rattle.text_spec.specs.Characters.{class_of}
-use Rattle.text_spec.specs.Shown.{signs}
+use Rattle.view_spec.specs.declared.classes.CharClass.{CharClass}
+use Rattle.view_spec.specs.declared.classes.CharClass.TheVariants.{Erase, Bell, NewLine, Silent, Marker, Print}
+use Rattle.view_spec.specs.Characters.{class_of}
+use Rattle.view_spec.specs.Shown.{signs}
 use Rattle.view_spec.specs.Views.{printed_line}
 use Rattle.command_spec.specs.declared.requests.ReadRequest.{ReadRequest}
 use Rattle.command_spec.specs.Reading.{usual_wait, arrivals_of}

@@ -1,6 +1,5 @@
 //! Why a command does not do its work.
-use file_spec::ConfKind;
-use frame_spec::FrameKind;
+use file_spec::{ConfKind, FrameKind};
 use wire_spec::DumpKind;
 
 /// Why what lies in a file is refused.

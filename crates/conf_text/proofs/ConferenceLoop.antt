@@ -8,7 +8,7 @@ use Rattle.file_spec.specs.Lines.{Refusal, told, read_lines, at_line}
 use Rattle.file_spec.specs.Conference.{Above, nothing, and_line, is_blank, complete, conference_from}
 use Rattle.file_spec.specs.Kept.{Keeps}
 use Rattle.file_spec.proofs.KeptLines.{line_keeps, nothing_keeps}
-use Rattle.file_lines.proofs.LineByLine.{passed_over, one_read, one_refused}
+use Rattle.script_text.proofs.LineByLine.{passed_over, one_read, one_refused}
 
 pub record HasReadLines (form : Form) (octets rest : List ℕ) (above : Above) (number : ℕ) : Type 0 where
   pub same : read_lines (and_line form) above (told is_blank (number + 1) (lines rest)) ≡ read_lines (and_line form) nothing (told is_blank 1 (lines octets))

@@ -4,20 +4,21 @@ ghost use Rattle.std.specs.List.{list_all};
 ghost use Rattle.file_spec.specs.Lines.{words};
 ghost use Rattle.file_spec.specs.Conference.{complete, conference_from, is_blank};
 ghost use Rattle.file_spec.specs.Kept.{Keeps};
-ghost use Rattle.file_lines.specs.Causes.{IsCause, IsCauseAt};
-ghost use Rattle.conference.specs.Conferences.{meaning_of};
+ghost use Rattle.script_text.specs.Causes.{IsCause, IsCauseAt};
+ghost use Rattle.file_spec.specs.Conferences.{meaning_of};
 ghost use Rattle.conf_text.specs.Lines.{above_of, texts_of, with_line};
 
 use crate::crowds::has_crowd;
 use crate::drafts::Draft;
 use crate::entries::read_entry;
 use crate::{ConfFault, ConfKind};
-use conference::Conference;
-use file_lines::{next_line, says_nothing, text_of};
-use file_spec::Form;
-use file_spec::limits::{FEWEST_LEGS, MOST_CONFERENCE_OCTETS, MOST_TURNS, USUAL_SPACING, USUAL_TICK};
+use file_spec::limits::{
+    FEWEST_LEGS, MOST_CONFERENCE_OCTETS, MOST_TURNS, USUAL_SPACING, USUAL_TICK,
+};
+use file_spec::{Conference, Form};
 use rtt_base::NoMemory;
 use rtt_base::limits::USUAL_WAIT;
+use script_text::{next_line, says_nothing, text_of};
 use std::alloc::Global;
 
 fn all_spaces(line: &[u8]) -> bool

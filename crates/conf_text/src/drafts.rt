@@ -3,9 +3,11 @@ ghost use Rattle.std.specs.Prelude.{◌≡◌, ◌<◌, ◌≤◌, ◌∷◌, []
 ghost use Rattle.file_spec.specs.declared.limits.TheConstants.{MOST_LEGS};
 ghost use Rattle.file_spec.specs.Conference.{Leg, nothing, with_entry};
 
-use conference::{Legs, Plan, set_follow, set_generations, set_stay};
 use file_spec::limits::{MOST_LEGS, USUAL_GENERATIONS};
-use file_spec::{GenerationsLine, LegLine, MixerLine, PlanLine, Service, ServiceLine, Stay, StayLine};
+use file_spec::{
+    GenerationsLine, LegLine, Legs, MixerLine, Plan, PlanLine, Service, ServiceLine, Stay,
+    StayLine, set_follow, set_generations, set_stay,
+};
 use rtt_base::{Name, NoMemory, Path, PayloadTypes};
 use std::alloc::Global;
 

@@ -10,12 +10,12 @@ use crate::leg_lines::{has_ssrc, read_leg};
 use crate::plan_lines::read_plan;
 use crate::service_lines::{read_counts, read_service};
 use crate::stay_lines::{read_generations, read_stay};
-use file_lines::{number_from, number_of};
 use file_spec::limits::{
     LEAST_RELABEL, LEAST_SPACING, LEAST_TICK, MOST_RELABEL, MOST_SPACING, MOST_TICK, MOST_TURNS,
 };
 use file_spec::{Form, MixerLine};
 use rtt_base::limits::LONGEST_WAIT;
+use script_text::{number_from, number_of};
 
 /// What a line says, or why it is refused.
 type EntryResult<'a> = Result<LineEntry<'a>, ConfKind>;
@@ -100,7 +100,12 @@ fn read_of_form<'a>(form: Form, above: &Draft, word: &str, words: &[&str]) -> En
     }
 }
 
-fn read_counts_or_other<'a>(form: Form, above: &Draft, word: &str, words: &[&str]) -> EntryResult<'a>
+fn read_counts_or_other<'a>(
+    form: Form,
+    above: &Draft,
+    word: &str,
+    words: &[&str],
+) -> EntryResult<'a>
     ensures exact { seen meaning result ≡ counts_or_other form (above_of above.now) word.now (texts_of words.now) }
     ensures follows { IfOk result (λ said. MayFollow (above_of above.now) (meaning said)) }
 {
@@ -136,7 +141,13 @@ fn read_time_or_other<'a>(form: Form, above: &Draft, word: &str, words: &[&str])
 }
 
 #[tactic(auto, unfolding(file_spec::specs::Conference::entry))]
-fn read_worded<'a>(form: Form, above: &Draft, line: u32, word: &str, words: &[&'a str]) -> EntryResult<'a>
+fn read_worded<'a>(
+    form: Form,
+    above: &Draft,
+    line: u32,
+    word: &str,
+    words: &[&'a str],
+) -> EntryResult<'a>
     ensures exact { seen meaning result ≡ entry form (above_of above.now) line (word.now ∷ texts_of words.now) }
     ensures follows { IfOk result (λ said. MayFollow (above_of above.now) (meaning said)) }
 {
@@ -150,7 +161,12 @@ fn read_worded<'a>(form: Form, above: &Draft, line: u32, word: &str, words: &[&'
 
 /// What the words of a line say.
 #[tactic(auto, unfolding(file_spec::specs::Conference::entry))]
-pub(crate) fn read_entry<'a>(form: Form, above: &Draft, line: u32, words: &[&'a str]) -> EntryResult<'a>
+pub(crate) fn read_entry<'a>(
+    form: Form,
+    above: &Draft,
+    line: u32,
+    words: &[&'a str],
+) -> EntryResult<'a>
     ensures exact { seen meaning result ≡ entry form (above_of above.now) line (texts_of words.now) }
     ensures follows { IfOk result (λ said. MayFollow (above_of above.now) (meaning said)) }
 {

@@ -8,11 +8,10 @@ ghost use Rattle.conf_text.specs.Lines.{above_of, leg_line, leg_said, seen, text
 use crate::ConfKind;
 use crate::drafts::{Draft, NewLeg};
 use crate::names::{awareness, names_leg, names_path};
-use conference::{has_name, name_of};
-use file_lines::{number_from, number_of, payload_types_of};
 use file_spec::limits::{MOST_LEGS, MOST_LINKS, USUAL_RED, USUAL_T140};
-use file_spec::{Form, LegLine, MixerLine, OperatorLine};
+use file_spec::{Form, LegLine, MixerLine, OperatorLine, has_name, name_of};
 use rtt_base::PayloadTypes;
+use script_text::{number_from, number_of, payload_types_of};
 
 /// The payload types of a leg that names none.
 const USUAL_TYPES: PayloadTypes = PayloadTypes {
@@ -76,7 +75,8 @@ fn share_path(form: Form, above: &LegLine, leg: &NewLeg<'_>) -> bool
 fn share_own(form: Form, leg: &NewLeg<'_>) -> bool
     ensures { result ≡ shares_own form (leg_line leg.now) }
 {
-    leg.payload_types.t140 == leg.payload_types.red || form == Form::Files && leg.output == leg.input
+    leg.payload_types.t140 == leg.payload_types.red
+        || form == Form::Files && leg.output == leg.input
 }
 
 fn has_mixer(mixer: &Option<MixerLine>, ssrc: u32) -> bool

@@ -13,8 +13,8 @@ mod service_lines;
 mod stay_lines;
 
 pub use conference_reader::read_conf;
-pub use file_lines::ConfFault;
 pub use file_spec::{ConfKind, Form};
+pub use script_text::ConfFault;
 
 #[cfg(test)]
 mod tests;

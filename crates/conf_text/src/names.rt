@@ -5,7 +5,7 @@ ghost use Rattle.std.specs.Char.{is_ascii_alphanumeric};
 ghost use Rattle.file_spec.specs.Conference.{is_name, is_name_octet, is_path, aware_of};
 ghost use Rattle.file_spec.specs.Services.{is_operator_word};
 
-use conference::is_name_octet;
+use file_spec::is_name_octet;
 use file_spec::limits::{LONGEST_NAME, LONGEST_PATH, LONGEST_WORD, SHORTEST_WORD};
 
 fn all_letters(text: &[u8]) -> bool

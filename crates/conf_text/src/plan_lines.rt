@@ -6,10 +6,9 @@ ghost use Rattle.conf_text.specs.Lines.{above_of, texts_of};
 use crate::ConfKind;
 use crate::drafts::Draft;
 use crate::stay_lines::leg_place;
-use conference::is_planned;
-use file_lines::number_of;
 use file_spec::limits::{LONGEST_DELAY, MOST_PLAN_LINES};
-use file_spec::{PlanLine, What};
+use file_spec::{PlanLine, What, is_planned};
+use script_text::number_of;
 
 #[tactic(auto, unfolding(file_spec::specs::Conference::plan_of))]
 fn read_event(

@@ -6,9 +6,9 @@ ghost use Rattle.conf_text.specs.Lines.{above_of, texts_of};
 
 use crate::ConfKind;
 use crate::drafts::Draft;
-use file_lines::number_of;
 use file_spec::limits::{LAST_MOMENT, MOST_GENERATIONS};
 use file_spec::{GenerationsLine, LegLine, Stay, StayLine};
+use script_text::number_of;
 
 fn place_of(legs: &[LegLine], name: &str) -> Option<usize>
     ensures value { result ≡ position (λ l. bytes_eq l.name name.now) legs.now }

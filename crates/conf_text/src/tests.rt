@@ -1,6 +1,6 @@
 //! Conferences: what their lines say, their defaults, and each refusal.
 use crate::{ConfFault, ConfKind, Form, read_conf};
-use conference::{PlanLine, Stay, What};
+use file_spec::{PlanLine, Stay, What};
 use rtt_base::PayloadTypes;
 use std::alloc::{AllocError, Global};
 use std::process::Abort;
@@ -99,12 +99,21 @@ fn a_conference_of_all_kinds_of_lines(rt: HostRuntime) -> Result<(), Fail> {
     );
     assert_eq!(rt; legs[1].payload_types, PayloadTypes { t140: 96, red: 127 });
     assert_eq!(rt;
-        (conference.tick, conference.spacing, conference.wait, conference.turns),
+        (
+            conference.tick,
+            conference.spacing,
+            conference.wait,
+            conference.turns
+        ),
         (20, 500, 0, 17)
     );
     assert_eq!(rt; conference.relabel, Some(60_000));
     assert_eq!(rt;
-        (conference.mixer.ssrc, conference.mixer.seq, conference.mixer.timestamp),
+        (
+            conference.mixer.ssrc,
+            conference.mixer.seq,
+            conference.mixer.timestamp
+        ),
         (9000, 100, 5000)
     );
     let plan = conference.plan.as_slice();
@@ -141,7 +150,12 @@ fn what_is_not_said_has_its_default(rt: HostRuntime) -> Result<(), Fail> {
     let file = b"leg A aware 1 5004 h:1\nleg B aware 2 5006 h:2\nmixer 0 0 0";
     let conference = read_conf(rt.alloc(), file, Form::Links)?;
     assert_eq!(rt;
-        (conference.tick, conference.spacing, conference.wait, conference.turns),
+        (
+            conference.tick,
+            conference.spacing,
+            conference.wait,
+            conference.turns
+        ),
         (100, 300, 1000, 5_000_000)
     );
     assert_eq!(rt; conference.relabel, None);

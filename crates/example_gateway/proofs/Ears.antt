@@ -2,9 +2,9 @@
 use Rattle.std.proofs.Common.{◌≡◌, ◌∷◌, [], ◌++◌, ℕ, List, Bool, true, false, refl}
 use Rattle.stream_spec.specs.Ready.{Chunk}
 use Rattle.gap_tracker.specs.Stories.{Story, begun}
-use Rattle.ear.specs.declared.settings.EarSettings.{EarSettings}
-use Rattle.ear.specs.declared.ears.Ear.{Ear}
-use Rattle.ear.specs.Hears.{Becomes, Gave, GivesChunk, GivesNone, IsGiving}
+use Rattle.receiver.specs.declared.settings.EarSettings.{EarSettings}
+use Rattle.receiver.specs.declared.ears.Ear.{Ear}
+use Rattle.receiver.specs.Hears.{Becomes, Gave, GivesChunk, GivesNone, IsGiving}
 
 pub begins_giving : (ear : Ear) (settings : EarSettings) (sources : List ℕ) (source : ℕ) → ((s : ℕ) → sources ≡ s ∷ [] → Gave ear settings s (begun settings.wait) []) → sources ≡ source ∷ [] → IsGiving ear
 begins_giving ear settings sources source gave is = (settings, source, begun settings.wait, [], gave source is)

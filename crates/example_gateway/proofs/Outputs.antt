@@ -4,7 +4,7 @@ use Rattle.std.specs.Prelude.{slice_get, slice_set}
 use Rattle.std.proofs.lemmas.List.{map-append}
 use Rattle.std.proofs.lemmas.Option.{get_or_from_slice_get}
 use Rattle.std.proofs.Math.Seq.{take-suc}
-use Rattle.aware_output.specs.States.{State}
+use Rattle.packetizer.specs.OutputStates.{State}
 use Rattle.example_gateway.specs.Outputs.{counts_of}
 
 -- one more

@@ -1,6 +1,6 @@
 -- What writes the packets of a gateway.
 use Rattle.std.specs.Prelude.{ℕ, List, length, map}
-use Rattle.aware_output.specs.States.{State}
+use Rattle.packetizer.specs.OutputStates.{State}
 
 -- how many sources each of these outputs has
 abbrev pub counts_of : List State → List ℕ

@@ -1,14 +1,14 @@
 //! A leg of a gateway.
 ghost use Rattle.std.specs.Prelude.{◌≡◌, ◌<◌, true, false, length};
 ghost use Rattle.std.specs.Str.{is_utf8};
-ghost use Rattle.ear.specs.Hears.{IsGiving, is_quiet};
+ghost use Rattle.receiver.specs.Hears.{IsGiving, is_quiet};
 ghost use Rattle.mixer_turn.specs.States.{legs_of};
 ghost use Rattle.example_gateway.specs.Mixers.{IsSame};
 ghost use Rattle.rtt_base.specs.declared.limits.TheConstants.{END_OF_MOMENTS};
 
-use conference::Conference;
-use ear::{Ear, EarSettings, is_blank};
+use file_spec::Conference;
 use mixer_turn::Mixer;
+use receiver::{Ear, EarSettings, is_blank};
 use rtt_base::limits::MOST_ARRIVALS;
 use rtt_base::{Chunk, Full, NoMemory};
 use std::alloc::Global;

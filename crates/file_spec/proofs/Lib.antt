@@ -6,3 +6,8 @@ pub mod NameTexts
 pub mod Passed
 mod ScriptExamples
 pub mod EachLine
+pub mod Readings
+pub mod Sound
+pub mod Fronts
+mod Examples
+pub mod Changed

@@ -7,3 +7,7 @@ pub mod Services
 pub mod Sound
 pub mod Stays
 pub mod Steps
+pub mod Frames
+pub mod Conferences
+pub mod Changes
+pub mod Speakers

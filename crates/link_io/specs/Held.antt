@@ -2,7 +2,7 @@
 use Rattle.std.specs.Prelude.{◌≡◌, ℕ, Bool, true, List}
 use Rattle.rtt_io.specs.declared.faults.Faults.{Faults}
 use Rattle.rtt_io.specs.Counts.{AddsCount}
-use Rattle.link_spec.specs.Links.{Takes}
+use Rattle.stream_spec.specs.Links.{Takes}
 use Rattle.link_io.specs.declared.mem_links.MemLinks.{MemLinks}
 use Rattle.link_io.specs.Ports.{Same, SameBut, Replaces}
 use Rattle.link_io.specs.MemPorts.{opened_of, takes_of, given_of, own_of, objects_of}

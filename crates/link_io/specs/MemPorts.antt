@@ -1,7 +1,7 @@
 -- What links in memory hold (profile): of a port the first entry that is its own, and that entry's counts.
 use Rattle.std.specs.Prelude.{ℕ, Bool, true, false, List, [], ◌∷◌, Option, Some, None, cond, map, nat_eq}
 use Rattle.std.specs.Option.{option_map_or}
-use Rattle.link_spec.specs.Links.{Takes}
+use Rattle.stream_spec.specs.Links.{Takes}
 use Rattle.rtt_io.specs.declared.faults.Faults.{Faults}
 use Rattle.rtt_io.specs.Counts.{counted}
 use Rattle.link_io.specs.declared.mem_ports.MemLead.{MemLead}

@@ -1,6 +1,6 @@
 -- What a `take` gave, as the definitions have it.
 use Rattle.std.specs.Prelude.{ℕ, Bool, List, []}
-use Rattle.link_spec.specs.Links as link
+use Rattle.stream_spec.specs.Links as link
 use Rattle.link_io.specs.declared.ends.Came.{Came}
 use Rattle.link_io.specs.declared.ends.Came.TheVariants as came
 use Rattle.link_io.specs.declared.ends.LinkTake.{LinkTake}

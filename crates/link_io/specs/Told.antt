@@ -1,6 +1,6 @@
 -- What an inbound end in memory keeps of its takes.
 use Rattle.std.specs.Prelude.{List, map, reverse}
-use Rattle.link_spec.specs.Links.{Taken, Takes}
+use Rattle.stream_spec.specs.Links.{Taken, Takes}
 use Rattle.link_io.specs.declared.mem_ins.TakeLog.{TakeLog}
 use Rattle.link_io.specs.Taking.{taken_of}
 

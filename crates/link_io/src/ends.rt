@@ -1,7 +1,7 @@
 //! The two ends of a link to a terminal.
 ghost use Rattle.std.specs.Prelude.{◌≡◌, ℕ, ◌≤◌, ◌<◌, ◌^◌, Bool, true, ◌||◌, List, [], ◌∷◌, ◌++◌, OnOk, OnErr, IfOk};
 ghost use Rattle.rtt_io.specs.Counts.{Rose};
-ghost use Rattle.link_spec.specs.Links.{Takes};
+ghost use Rattle.stream_spec.specs.Links.{Takes};
 ghost use Rattle.link_io.specs.Taking.{taken_of, closes};
 ghost use Rattle.link_io.specs.Given.{GivesAfter};
 

@@ -1,7 +1,7 @@
 //! What links are opened in, with its clock.
 ghost use Rattle.std.specs.Prelude.{◌≡◌, ℕ, ◌<◌, ◌≤◌, ◌^◌, Bool, true, false, List, [], ◌∷◌, ◌++◌, OnOk, OnErr, IfOk};
 ghost use Rattle.rtt_io.specs.Counts.{Rose, counted};
-ghost use Rattle.link_spec.specs.Links.{Takes};
+ghost use Rattle.stream_spec.specs.Links.{Takes};
 ghost use Rattle.link_io.specs.Ports.{Same, SameBut, Replaces, StayOpened, NoneFalls, CountsMore, CountsNoOther};
 
 use crate::{Beat, LinkIn, LinkOut};

@@ -1,8 +1,8 @@
 use crate::peers::own_address;
 use crate::real_links::{lead_to, socket_at};
 use crate::{
-    Beat, Came, FailingLink, LinkIn, LinkOut, Links, MemIn, MemLinks, MemOut, PlannedTake, RealIn,
-    RealLinks, RealOut, LinkTake, peer_of,
+    Beat, Came, FailingLink, LinkIn, LinkOut, LinkTake, Links, MemIn, MemLinks, MemOut,
+    PlannedTake, RealIn, RealLinks, RealOut, peer_of,
 };
 use rtt_base::Packet;
 use std::alloc::Global;

@@ -6,8 +6,8 @@ use Rattle.std.proofs.lemmas.Bool.{ltb-false}
 use Rattle.std.proofs.lemmas.List.Sums.{sum_by-append}
 use native.Mathlib.Decide.{ℕ_discrete, dec_le}
 use Rattle.rtt_base.specs.declared.records.Chunk.{Chunk}
-use Rattle.board_spec.specs.Folds.{Shown, octets_in, text_of, fold_of}
-use Rattle.board_spec.proofs.Folding.{fold_here, fold_elsewhere}
+use Rattle.live_board.specs.Folds.{Shown, octets_in, text_of, fold_of}
+use Rattle.live_board.proofs.Folding.{fold_here, fold_elsewhere}
 use Rattle.live_board.specs.Histories.{octets_of}
 use Rattle.live_board.specs.Sheets.{IsSheetOf, grown, grown_or_same, put, added, added_all}
 

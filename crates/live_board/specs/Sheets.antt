@@ -1,7 +1,7 @@
 -- A sheet after a list of changes.
 use Rattle.std.specs.Prelude.{◌≡◌, ℕ, ◌+◌, ◌<◌, List, length, ◌++◌, fold, slice_get, slice_set, nat_lt, Option, Some, None, if◌then◌else◌}
 use Rattle.rtt_base.specs.declared.records.Chunk.{Chunk}
-use Rattle.board_spec.specs.Folds.{Shown, fold_of, tail_of}
+use Rattle.live_board.specs.Folds.{Shown, fold_of, tail_of}
 
 -- a sheet of so many legs, which shows of each what the changes make
 pub record IsSheetOf (legs : ℕ) (changes : List Chunk) (sheet : List Shown) : Type 0 where

@@ -8,8 +8,8 @@ ghost use Rattle.live_board.specs.Pages.{IsGood};
 ghost use Rattle.live_board.specs.Rule.{view_of};
 ghost use Rattle.live_board.specs.Views.{reading_of};
 
-use crate::page_copies::PageCopy;
 use crate::histories::{Fresh, Head, open};
+use crate::page_copies::PageCopy;
 use crate::pages::Page;
 use crate::readers::BoardReader;
 use crate::rule::{Inner, Outer, Tells};

@@ -1,15 +1,15 @@
 //! The end of a board at which it is read.
 ghost use Rattle.std.specs.Prelude.{◌≡◌, ◌<◌, true};
 ghost use Rattle.stream_spec.specs.Fronts.{IsFront};
-ghost use Rattle.board_spec.specs.Folds.{fold_of};
+ghost use Rattle.live_board.specs.Folds.{fold_of};
 ghost use Rattle.left_right.specs.Sides.{view};
 ghost use Rattle.live_board.specs.Tails.{shown_in};
 ghost use Rattle.live_board.specs.Ends.{IsReading};
 ghost use Rattle.live_board.specs.Pages.{IsFurther};
 ghost use Rattle.live_board.specs.Views.{reading_of};
 
-use crate::page_copies::{PageCopy, look, take_in};
 use crate::notes::Note;
+use crate::page_copies::{PageCopy, look, take_in};
 use crate::tails::Tail;
 use core::mem::replace_with;
 use std::marker::Model;

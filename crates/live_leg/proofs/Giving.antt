@@ -8,13 +8,13 @@ use Rattle.stream_spec.specs.Hearing.{marker}
 use Rattle.stream_spec.specs.Ready.{Chunk, chunk, chunk_of}
 use Rattle.stream_spec.specs.Still.{is_lively_chunk}
 use Rattle.gap_tracker.specs.Stories.{Story}
-use Rattle.ear.specs.declared.settings.EarSettings.{EarSettings}
-use Rattle.ear.specs.declared.ears.Ear.{Ear}
-use Rattle.ear.specs.Hears.{Gave, GaveFront, GaveReady, GaveSome, GivesChunk, GivesNone, settings_of, ready_chunks, story_chunks}
+use Rattle.receiver.specs.declared.settings.EarSettings.{EarSettings}
+use Rattle.receiver.specs.declared.ears.Ear.{Ear}
+use Rattle.receiver.specs.Hears.{Gave, GaveFront, GaveReady, GaveSome, GivesChunk, GivesNone, settings_of, ready_chunks, story_chunks}
 use Rattle.rtt_io.specs.Counts.{Rose}
-use Rattle.item_queue.specs.Giving.{GivesMore, items_by}
+use Rattle.workers.specs.Giving.{GivesMore, items_by}
 use Rattle.link_io.specs.declared.ends.LinkIn as links
-use Rattle.link_spec.specs.Links.{Takes, is_closed}
+use Rattle.stream_spec.specs.Links.{Takes, is_closed}
 use Rattle.live_spec.specs.Told.{Hearing, Told, all_by, all_former, all_told, last_chunks, ready_by, ready_until, taken_over, told_by}
 use Rattle.live_spec.specs.Tally.{tally_by}
 use Rattle.live_spec.proofs.Fronts.{all_good, ready_is}

@@ -3,14 +3,14 @@ use Rattle.std.proofs.Common.{◌≡◌, ℕ, ◌≤◌, Bool, true, false, true
 use Rattle.std.specs.Prelude.{filter, if◌then◌else◌}
 use Rattle.std.proofs.lemmas.List.{append-nil}
 use Rattle.stream_spec.specs.Fronts.{IsFront, is_ready_by}
-use Rattle.ear.specs.declared.ears.Ear.{Ear}
+use Rattle.receiver.specs.declared.ears.Ear.{Ear}
 use Rattle.rtt_io.specs.Counts.{Rose}
 use Rattle.link_io.specs.declared.ends.LinkIn as links
 use Rattle.link_io.specs.declared.ends.Came.{Came}
 use Rattle.link_io.specs.declared.ends.Came.TheVariants as came
 use Rattle.link_io.specs.declared.ends.LinkTake.{LinkTake}
 use Rattle.link_io.specs.Taking.{taken_of, closes, came_of}
-use Rattle.link_spec.specs.Links.{Takes, is_closed, is_closing}
+use Rattle.stream_spec.specs.Links.{Takes, is_closed, is_closing}
 use Rattle.wire_spec.specs.Text.{text_of}
 use Rattle.live_spec.specs.Told.{Hearing, all_by, last_chunks, ready_by, told_by}
 use Rattle.live_spec.specs.Tally.{tally_by}

@@ -10,10 +10,10 @@ use Rattle.stream_spec.specs.Ready.{Chunk, chunk, chunks}
 use Rattle.stream_spec.specs.Still.{is_lively_chunk, still}
 use Rattle.stream_spec.proofs.StillChunks.{chunks_still}
 use Rattle.gap_tracker.specs.Stories.{Story}
-use Rattle.ear.specs.declared.settings.EarSettings.{EarSettings}
-use Rattle.ear.specs.declared.ears.Ear.{Ear}
-use Rattle.ear.specs.Hears.{Gave, GaveFront, settings_of, story_chunks}
-use Rattle.link_spec.specs.Links.{Takes}
+use Rattle.receiver.specs.declared.settings.EarSettings.{EarSettings}
+use Rattle.receiver.specs.declared.ears.Ear.{Ear}
+use Rattle.receiver.specs.Hears.{Gave, GaveFront, settings_of, story_chunks}
+use Rattle.stream_spec.specs.Links.{Takes}
 use Rattle.live_spec.specs.Told.{Hearing, Told, all_by, all_former, all_told, former_after, last_chunks, ready_by, ready_until, taken_over, told_by}
 use Rattle.live_spec.proofs.Fronts.{all_good, as_it_was, behind, more, ready_is}
 use Rattle.live_leg.specs.declared.settings.LegSettings.{LegSettings}

@@ -2,8 +2,8 @@
 use Rattle.std.proofs.Common.{◌≡◌, ◌⊎◌, ℕ, List, inl, inr, refl, ap, sym, ◌∙◌, subst}
 use Rattle.std.specs.Prelude.{unwrap_or}
 use Rattle.gap_tracker.specs.Stories.{ended, went}
-use Rattle.ear.specs.declared.ears.Ear.{Ear}
-use Rattle.ear.specs.Hears.{AllReady, Becomes, settings_of, text_for, told}
+use Rattle.receiver.specs.declared.ears.Ear.{Ear}
+use Rattle.receiver.specs.Hears.{AllReady, Becomes, settings_of, text_for, told}
 use Rattle.link_io.specs.declared.ends.Came.{Came}
 use Rattle.link_io.specs.declared.ends.Came.TheVariants as came
 use Rattle.link_io.specs.declared.ends.LinkTake.{LinkTake}

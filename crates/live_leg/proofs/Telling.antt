@@ -10,14 +10,14 @@ use Rattle.stream_spec.specs.Fronts.{is_ready_by}
 use Rattle.stream_spec.specs.Ready.{Chunk}
 use Rattle.stream_spec.specs.Still.{is_lively_chunk}
 use Rattle.gap_tracker.specs.Stories.{Story, begun, came, ended, went}
-use Rattle.ear.specs.declared.settings.EarSettings.{EarSettings}
-use Rattle.ear.specs.declared.ears.Ear.{Ear}
-use Rattle.ear.specs.Hears.{Gave, settings_of, ready_chunks, story_chunks, text_for, told}
+use Rattle.receiver.specs.declared.settings.EarSettings.{EarSettings}
+use Rattle.receiver.specs.declared.ears.Ear.{Ear}
+use Rattle.receiver.specs.Hears.{Gave, settings_of, ready_chunks, story_chunks, text_for, told}
 use Rattle.link_io.specs.declared.ends.Came.{Came}
 use Rattle.link_io.specs.declared.ends.Came.TheVariants as came
 use Rattle.link_io.specs.Taking.{came_of}
-use Rattle.link_spec.specs.Links.{Takes}
-use Rattle.link_spec.specs.Links as link
+use Rattle.stream_spec.specs.Links.{Takes}
+use Rattle.stream_spec.specs.Links as link
 use Rattle.live_spec.specs.Told.{Former, Hearing, Told, all_former, arrival_at, former_after, is_sender, last_chunks, ready_by, taken_over, takes_over, told_by, told_moment, told_packet, with_packet}
 use Rattle.live_spec.proofs.Asked.{eqb_true, own_asked}
 use Rattle.live_leg.specs.declared.settings.LegSettings.{LegSettings}

@@ -7,11 +7,11 @@ use Rattle.stream_spec.specs.Still.{is_lively_chunk}
 use Rattle.gap_tracker.specs.Stories.{Story}
 use Rattle.wire_spec.specs.Packets.{Packet}
 use Rattle.wire_spec.specs.Text.{text_of}
-use Rattle.ear.specs.declared.ears.Ear.{Ear}
-use Rattle.ear.specs.Hears.{Gave, arrival_count, settings_of, ready_chunks, story_chunks}
+use Rattle.receiver.specs.declared.ears.Ear.{Ear}
+use Rattle.receiver.specs.Hears.{Gave, arrival_count, settings_of, ready_chunks, story_chunks}
 use Rattle.rtt_io.specs.Counts.{Rose}
 use Rattle.link_io.specs.declared.ends.LinkIn as links
-use Rattle.link_spec.specs.Links.{Taken, Takes, Datagram, is_closed, is_closing}
+use Rattle.stream_spec.specs.Links.{Taken, Takes, Datagram, is_closed, is_closing}
 use Rattle.live_spec.specs.Told.{Hearing, Told, all_by, all_former, ready_until, taken_over, told_by}
 use Rattle.live_spec.specs.Tally.{tally_by}
 use Rattle.live_leg.specs.declared.items.LegItem.{LegItem}

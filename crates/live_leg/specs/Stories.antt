@@ -3,9 +3,9 @@ use Rattle.std.specs.Prelude.{◌≡◌, ℕ, Option, None, Some, List, []}
 use Rattle.stream_spec.specs.Ready.{Chunk}
 use Rattle.wire_spec.specs.Packets.{Arrival}
 use Rattle.gap_tracker.specs.Stories.{Story, begun, went, ended}
-use Rattle.ear.specs.declared.settings.EarSettings.{EarSettings}
-use Rattle.ear.specs.declared.ears.Ear.{Ear}
-use Rattle.ear.specs.Hears.{AllReady, Becomes, Gave, settings_of, told, text_for}
+use Rattle.receiver.specs.declared.settings.EarSettings.{EarSettings}
+use Rattle.receiver.specs.declared.ears.Ear.{Ear}
+use Rattle.receiver.specs.Hears.{AllReady, Becomes, Gave, settings_of, told, text_for}
 use Rattle.live_spec.specs.Told.{Hearing, Told}
 use Rattle.live_leg.specs.declared.settings.LegSettings.{LegSettings}
 use Rattle.live_leg.specs.declared.senders.DatagramSender.{DatagramSender}

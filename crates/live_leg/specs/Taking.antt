@@ -1,7 +1,7 @@
 -- What a take of a link tells a leg (profile).
 use Rattle.std.specs.Prelude.{◌≡◌, ℕ, None, List, unwrap_or}
 use Rattle.wire_spec.specs.Text.{text_of}
-use Rattle.ear.specs.declared.ears.Ear.{Ear}
+use Rattle.receiver.specs.declared.ears.Ear.{Ear}
 use Rattle.link_io.specs.declared.ends.Came.{Came}
 use Rattle.link_io.specs.declared.ends.Came.TheVariants.{Datagram, Large, Quiet, Closed}
 use Rattle.link_io.specs.declared.ends.LinkTake.{LinkTake}

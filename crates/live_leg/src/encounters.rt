@@ -6,10 +6,10 @@ ghost use Rattle.live_leg.specs.Senders.{KnowsFirst, Meets, MeetsText, Notes, Pa
 ghost use Rattle.live_leg.specs.Stories.{hearing_of};
 ghost use Rattle.rtt_base.specs.declared.limits.TheConstants.{END_OF_MOMENTS};
 
+use crate::senders::{DatagramSender, MOST_KNOWN, Senders};
 use crate::settings::LegSettings;
-use crate::senders::{MOST_KNOWN, Senders, DatagramSender};
 use arrayvec::ArrayVec;
-use red_blocks::read_text;
+use rtp_text::read_text;
 use rtt_base::{NoMemory, TextPacket};
 use std::alloc::Global;
 

@@ -2,9 +2,9 @@
 use crate::items::LegItem;
 use crate::kinds::ItemKind;
 use crate::legs::LinkLeg;
-use item_queue::Producer;
 use link_io::LinkIn;
 use std::sync::Wait;
+use workers::Producer;
 
 impl<L: LinkIn> Producer<LegItem> for LinkLeg<L> {
     ghost use Rattle.live_leg.specs.Stands.{GetsOn, LegGave};

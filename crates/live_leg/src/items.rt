@@ -3,9 +3,9 @@ ghost use Rattle.stream_spec.specs.Ready.{chunk_of};
 ghost use Rattle.live_leg.specs.Texts.{HasText};
 
 use crate::kinds::ItemKind;
-use item_queue::Reusable;
 use rtt_base::{Chunk, NoMemory};
 use std::alloc::Global;
+use workers::Reusable;
 
 /// What a leg gave, and beside it the text, where it is one. A text lies in a box, which is used again: so it is written once and
 /// read once, and what is moved from place to place is small.

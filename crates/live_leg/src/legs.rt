@@ -1,15 +1,15 @@
 //! A leg over a link.
 ghost use Rattle.std.specs.Prelude.{◌≡◌, true, false};
-ghost use Rattle.ear.specs.Hears.{IsGiving, is_finished, is_quiet};
+ghost use Rattle.receiver.specs.Hears.{IsGiving, is_finished, is_quiet};
 ghost use Rattle.live_leg.specs.States.{is_going};
 ghost use Rattle.live_leg.specs.declared.states.State.TheVariants.{Idle};
 
-use crate::settings::LegSettings;
 use crate::paces::Pace;
 use crate::senders::Senders;
+use crate::settings::LegSettings;
 use crate::states::State;
 use crate::tallies::LegTally;
-use ear::Ear;
+use receiver::Ear;
 use rtt_base::Packet;
 use std::alloc::Global;
 use std::sync::Arc;

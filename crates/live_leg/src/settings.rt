@@ -1,5 +1,5 @@
 //! What a leg over a link is asked for.
-use ear::EarSettings;
+use receiver::EarSettings;
 
 /// Which packets are heard of a leg: those that the ear is asked for, or, where the leg is followed, those of whoever sends.
 #[derive(Clone, Copy, Debug, PartialEq, Eq)]

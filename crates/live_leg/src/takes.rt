@@ -1,17 +1,17 @@
 //! What a take of a link tells an ear.
 ghost use Rattle.std.specs.Prelude.{◌≡◌, ◌≢◌, ◌<◌, ◌^◌, true, false, unwrap_or};
 ghost use Rattle.rtt_base.specs.declared.limits.TheConstants.{END_OF_MOMENTS, MOST_ARRIVALS};
-ghost use Rattle.ear.specs.Hears.{IsGiving, arrival_count, is_finished, is_quiet};
+ghost use Rattle.receiver.specs.Hears.{IsGiving, arrival_count, is_finished, is_quiet};
 ghost use Rattle.live_leg.specs.States.{is_giving, is_going};
 ghost use Rattle.live_leg.specs.Stories.{BeginsWith, HearsSent, state_of_sent};
 ghost use Rattle.live_leg.specs.Taking.{HearsTaken};
 ghost use Rattle.live_leg.specs.Tallies.{CountsTaken};
 
-use crate::senders::{Senders, DatagramSender};
+use crate::senders::{DatagramSender, Senders};
 use crate::states::State;
 use crate::tallies::LegTally;
-use ear::Ear;
 use link_io::{Came, LinkTake};
+use receiver::Ear;
 
 /// Lets an ear begin anew with the first packet of this SSRC, which comes at `now`.
 pub(crate) fn begin_with(ear: &mut Ear, ssrc: u32, now: u64, octets: &[u8])

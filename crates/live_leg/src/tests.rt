@@ -1,15 +1,15 @@
 ghost use Rattle.std.specs.Prelude.{◌≤◌};
 ghost use Rattle.rtt_base.specs.declared.limits.TheConstants.{LONGEST_WAIT};
 
-use crate::{ItemKind, LegSettings, LegItem, LegTally, LinkLeg};
-use ear::EarSettings;
-use item_queue::{Producer, Reusable};
+use crate::{ItemKind, LegItem, LegSettings, LegTally, LinkLeg};
 use link_io::{Came, MemIn, PlannedTake};
+use receiver::EarSettings;
 use rtt_base::{NoMemory, PayloadTypes};
 use std::alloc::Global;
 use std::sync::atomic::AtomicBool;
 use std::sync::{Arc, Wait};
 use std::test::Fail;
+use workers::{Producer, Reusable};
 
 const EAR: EarSettings = EarSettings {
     ssrc: 1001,

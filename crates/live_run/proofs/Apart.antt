@@ -1,8 +1,8 @@
 -- In a conference of links each leg's input is a port of its own, each leg has a place, and none comes later or goes.
 use Rattle.file_spec.specs.declared.conference_lines.Form.TheVariants.{Links}
 use Rattle.mixer_spec.proofs.Conferences.{accepted_law}
-use Rattle.serve_spec.proofs.LinksStay.{links_stay}
-use Rattle.serve_spec.proofs.LinksStay as stay
+use Rattle.live_spec.proofs.LinksStay.{links_stay}
+use Rattle.live_spec.proofs.LinksStay as stay
 use Rattle.live_run.specs.Calls.{LinksAreApart}
 
 pub apart_law : LinksAreApart

@@ -17,14 +17,14 @@ use Rattle.mixer_posts.specs.Posts.{sent_by, sents_to, with_posts}
 use Rattle.mixer_posts.proofs.Entering.{entered_law, some_sent}
 use Rattle.mixer_posts.proofs.Posting.{with_one}
 use Rattle.live_leg.specs.declared.settings.LegSettings.{LegSettings}
-use Rattle.link_spec.specs.Links.{Takes, is_closed}
+use Rattle.stream_spec.specs.Links.{Takes, is_closed}
 use Rattle.link_io.specs.declared.ends.LinkIn as ins
 use Rattle.link_io.specs.declared.ends.LinkOut as outs
 use Rattle.live_spec.specs.Told.{Hearing}
 use Rattle.view_spec.specs.declared.tallies.Tally.{Tally}
 use Rattle.live_spec.specs.Tally.{tally_by}
-use Rattle.item_lanes.specs.declared.lanes.Worker.{Worker}
-use Rattle.item_lanes.specs.Lanes.{AreNew}
+use Rattle.workers.specs.declared.lanes.Worker.{Worker}
+use Rattle.workers.specs.Lanes.{AreNew}
 use Rattle.live_leg.specs.declared.items.LegItem.{LegItem}
 use Rattle.live_leg.specs.declared.legs.LinkLeg.{LinkLeg}
 use Rattle.live_leg.specs.Items.{has_fault}
@@ -32,22 +32,22 @@ use Rattle.live_leg.specs.Stands.{LegGave}
 use Rattle.live_leg.specs.declared.tallies.LegTally.{LegTally}
 use Rattle.live_leg.specs.Tallies.{IsTally}
 use Rattle.live_leg.specs.Stories.{hearing_of}
-use Rattle.live_loop.specs.declared.clocks.TurnClock as clocks
-use Rattle.live_loop.specs.declared.ports.LivePort.{LivePort}
-use Rattle.live_loop.specs.declared.turns.TurnsEnd.{TurnsEnd}
-use Rattle.live_loop.specs.declared.turns.TurnsEnd.TheVariants.{Done, Closed, Faulted, Stopped}
-use Rattle.live_loop.specs.Clocks.{ArePaced, AtTicks, RiseTo, StandsPaced, moments_of}
-use Rattle.live_loop.specs.Order.{AreInTurn, up_to_turn}
-use Rattle.live_loop.specs.Walks.{BrokenTo, HaltsThen, RanTo, WasFaulted, WasStopped}
+use Rattle.mix_loop.specs.declared.clocks.TurnClock as clocks
+use Rattle.mix_loop.specs.declared.live_ports.LivePort.{LivePort}
+use Rattle.mix_loop.specs.declared.live_turns.TurnsEnd.{TurnsEnd}
+use Rattle.mix_loop.specs.declared.live_turns.TurnsEnd.TheVariants.{Done, Closed, Faulted, Stopped}
+use Rattle.mix_loop.specs.Clocks.{ArePaced, AtTicks, RiseTo, StandsPaced, moments_of}
+use Rattle.mix_loop.specs.Order.{AreInTurn, up_to_turn}
+use Rattle.mix_loop.specs.Walks.{BrokenTo, HaltsThen, RanTo, WasFaulted, WasStopped}
 use Rattle.mix_loop.proofs.Lists.{lt_or_ge}
-use Rattle.serve_spec.specs.Served.{End, IsCutShort, IsServed, given_to, hearing_at, is_followed, live_printed, payload_types_of}
-use Rattle.serve_spec.specs.Served as served
-use Rattle.live_law.specs.Covers.{Covers, as_leg}
-use Rattle.live_law.specs.Served.{IsOfConference}
-use Rattle.live_law.proofs.AsLeg.{tally_as}
-use Rattle.live_law.proofs.Covering.{covers}
-use Rattle.live_law.proofs.Served.{broken_law, closed_law, done_law}
-use Rattle.live_law.proofs.Serving.{some_there}
+use Rattle.live_spec.specs.Served.{End, IsCutShort, IsServed, given_to, hearing_at, is_followed, live_printed, payload_types_of}
+use Rattle.live_spec.specs.Served as served
+use Rattle.mix_loop.specs.Covers.{Covers, as_leg}
+use Rattle.mix_loop.specs.Served.{IsOfConference}
+use Rattle.mix_loop.proofs.AsLeg.{tally_as}
+use Rattle.mix_loop.proofs.Covering.{covers}
+use Rattle.mix_loop.proofs.Served.{broken_law, closed_law, done_law}
+use Rattle.mix_loop.proofs.Serving.{some_there}
 use Rattle.live_run.specs.declared.far_ends.FarEnds.{FarEnds}
 use Rattle.live_run.specs.declared.faults.LiveFault.{LiveFault}
 use Rattle.live_run.specs.declared.faults.LiveFault.TheVariants.{Link, NoMemory}

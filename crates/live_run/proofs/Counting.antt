@@ -6,11 +6,11 @@ use Rattle.file_spec.specs.declared.conference_lines.LegLine.{LegLine}
 use Rattle.file_spec.specs.Conference.{Conference}
 use Rattle.view_spec.specs.declared.tallies.Tally.{Tally}
 use Rattle.view_spec.specs.Tallies.{tally_line}
-use Rattle.link_spec.specs.Links.{Takes}
+use Rattle.stream_spec.specs.Links.{Takes}
 use Rattle.live_spec.specs.Tally.{kept, tally_by}
 use Rattle.live_leg.specs.declared.tallies.LegTally.{LegTally}
 use Rattle.live_leg.specs.Tallies.{IsTally}
-use Rattle.serve_spec.specs.Served.{End, counted, end_line, hearing_at, live_views}
+use Rattle.live_spec.specs.Served.{End, counted, end_line, hearing_at, live_views}
 use Rattle.live_run.specs.Listeners.{ArePrintedOf, AreViewsOf, Listening}
 use Rattle.live_run.specs.Tallies.{AreTallies, as_tally, asked_lines, tally_lines}
 

@@ -6,10 +6,10 @@ use Rattle.std.proofs.lemmas.List.{append-nil, map-append}
 use Rattle.rtt_base.specs.declared.text_packets.PayloadTypes.{PayloadTypes}
 use Rattle.stream_spec.specs.Own.{Sent}
 use Rattle.mixer_spec.specs.Setups.{Setup, stream}
-use Rattle.aware_output.specs.Sending.{OfNext, octets_of}
-use Rattle.aware_output.specs.Speakers.{EachIsNext, IsNext, text_of}
-use Rattle.aware_output.specs.Standing.{PacketizerStandsFor}
-use Rattle.aware_output.specs.States.{State}
+use Rattle.packetizer.specs.Sending.{OfNext, octets_of}
+use Rattle.packetizer.specs.Speakers.{EachIsNext, IsNext, text_of}
+use Rattle.packetizer.specs.OutputStanding.{PacketizerStandsFor}
+use Rattle.packetizer.specs.OutputStates.{State}
 use Rattle.mixer_turn.specs.declared.batches.Post.{Post}
 use Rattle.link_io.specs.Given.{GivesAfter, packets}
 use Rattle.mix_loop.specs.Addresses.{GiveAfter}

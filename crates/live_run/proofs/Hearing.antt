@@ -7,7 +7,7 @@ use Rattle.terminal.specs.declared.settings.TerminalSettings.{TerminalSettings}
 use Rattle.terminal.specs.declared.terminals.Terminal.{Terminal}
 use Rattle.terminal.specs.Terminals.{IsWhole, Listens, counts_of, is_spent}
 use Rattle.terminal.specs.Told.{TakesPacket}
-use Rattle.serve_spec.specs.Served.{came_at_once}
+use Rattle.live_spec.specs.Served.{came_at_once}
 use Rattle.live_run.specs.Listeners.{IsListener}
 use Rattle.rtt_base.specs.declared.limits.TheConstants.{MOST_ARRIVALS}
 

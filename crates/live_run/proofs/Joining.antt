@@ -5,23 +5,23 @@ use Rattle.std.proofs.lemmas.Option.{slice_get_within}
 use Rattle.rtt_base.specs.declared.text_packets.PayloadTypes.{PayloadTypes}
 use Rattle.mixer_spec.specs.Setups.{AllStay, Setup}
 use Rattle.mixer_spec.specs.Table.{Call}
-use Rattle.item_lanes.specs.declared.lanes.Worker.{Worker}
-use Rattle.item_lanes.specs.Lanes.{AreBack, AreStarted, BeganWith, ComesBack, IsStarted, LaneFollows, popped_of}
-use Rattle.item_lanes.specs.Pairs.{Pairs}
-use Rattle.item_lanes.proofs.Matching.{is_there}
+use Rattle.workers.specs.declared.lanes.Worker.{Worker}
+use Rattle.workers.specs.Lanes.{AreBack, AreStarted, BeganWith, ComesBack, IsStarted, LaneFollows, popped_of}
+use Rattle.workers.specs.Pairs.{Pairs}
+use Rattle.workers.proofs.Matching.{is_there}
 use Rattle.link_io.specs.declared.ends.LinkIn as links
 use Rattle.live_leg.specs.declared.items.LegItem.{LegItem}
 use Rattle.live_leg.specs.declared.legs.LinkLeg.{LinkLeg}
 use Rattle.live_leg.specs.Items.{Item, has_fault, items_of}
 use Rattle.live_leg.specs.Stands.{LegGave, LegStands}
 use Rattle.live_leg.proofs.Texts.{items_append}
-use Rattle.live_loop.specs.declared.ports.LivePort.{LivePort}
-use Rattle.live_loop.specs.Begun.{AreAdmits}
-use Rattle.live_loop.proofs.Begun.{may_begin}
-use Rattle.live_loop.specs.Opening.{AreBegun}
-use Rattle.live_loop.specs.Ports.{Grew, IsBegun}
-use Rattle.live_loop.specs.Walks.{IsServing}
-use Rattle.live_loop.specs.declared.turns.TurnsEnd.{TurnsEnd}
+use Rattle.mix_loop.specs.declared.live_ports.LivePort.{LivePort}
+use Rattle.mix_loop.specs.Begun.{AreAdmits}
+use Rattle.mix_loop.proofs.Begun.{may_begin}
+use Rattle.mix_loop.specs.Opening.{AreBegun}
+use Rattle.mix_loop.specs.LivePorts.{Grew, IsBegun}
+use Rattle.mix_loop.specs.Walks.{IsServing}
+use Rattle.mix_loop.specs.declared.live_turns.TurnsEnd.{TurnsEnd}
 use Rattle.live_run.specs.declared.faults.LiveFault.{LiveFault}
 use Rattle.live_run.specs.Jobs.{ArePortsOf, GaveFirst, IsInletOf, IsPortOf, TurnsWere, popped_in}
 use Rattle.live_run.specs.Mixers.{all_admitted}

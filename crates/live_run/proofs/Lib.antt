@@ -15,3 +15,6 @@ pub mod Composing
 pub mod Writing
 pub mod Returning
 pub mod Apart
+pub mod Reading
+pub mod Leading
+pub mod Breaking

@@ -8,7 +8,7 @@ use Rattle.rtt_io.specs.Counts.{Rose}
 use Rattle.file_spec.specs.declared.conference_lines.LegLine.{LegLine}
 use Rattle.file_spec.specs.Conference.{Conference, port}
 use Rattle.mixer_spec.specs.Setups.{leg_at}
-use Rattle.item_lanes.proofs.Matching.{is_there}
+use Rattle.workers.proofs.Matching.{is_there}
 use Rattle.link_io.specs.declared.ends.LinkIn as ins
 use Rattle.link_io.specs.declared.ends.LinkOut as outs
 use Rattle.live_leg.specs.declared.legs.LinkLeg.{LinkLeg}

@@ -6,21 +6,21 @@ use Rattle.std.proofs.lemmas.Option.{slice_get_within}
 use Rattle.rtt_io.specs.Counts.{Rose}
 use Rattle.file_spec.specs.Conference.{Conference, port}
 use Rattle.mixer_spec.specs.Table.{Table}
-use Rattle.link_spec.specs.Links.{Takes}
+use Rattle.stream_spec.specs.Links.{Takes}
 use Rattle.link_io.specs.Given.{given_by, packets}
 use Rattle.link_io.specs.declared.ends.LinkIn as ins
 use Rattle.link_io.specs.declared.ends.LinkOut as outs
 use Rattle.link_io.specs.declared.links.Links as over
 use Rattle.live_leg.specs.declared.legs.LinkLeg.{LinkLeg}
 use Rattle.live_leg.specs.declared.tallies.LegTally.{LegTally}
-use Rattle.live_loop.specs.declared.turns.TurnsEnd.{TurnsEnd}
-use Rattle.live_loop.specs.declared.turns.TurnsEnd.TheVariants.{Done, Closed, Faulted, Stopped}
-use Rattle.live_law.proofs.Serving.{some_there}
-use Rattle.serve_spec.specs.Served.{Broken, End, IsCutShort, IsServed, live_printed}
-use Rattle.serve_spec.specs.Served as served
+use Rattle.mix_loop.specs.declared.live_turns.TurnsEnd.{TurnsEnd}
+use Rattle.mix_loop.specs.declared.live_turns.TurnsEnd.TheVariants.{Done, Closed, Faulted, Stopped}
+use Rattle.mix_loop.proofs.Serving.{some_there}
+use Rattle.live_spec.specs.Served.{Broken, End, IsCutShort, IsServed, live_printed}
+use Rattle.live_spec.specs.Served as served
 use Rattle.file_spec.specs.declared.conference_lines.LegLine.{LegLine}
 use Rattle.mixer_spec.specs.Setups.{leg_at}
-use Rattle.serve_spec.proofs.Promised.{head_law, same_run}
+use Rattle.live_spec.proofs.Promised.{head_law, same_run}
 use Rattle.live_run.specs.declared.calls.CallReturn.{CallReturn}
 use Rattle.live_run.specs.declared.faults.LiveFault.{LiveFault}
 use Rattle.live_run.specs.declared.faults.LiveFault.TheVariants.{Link, NoMemory}

@@ -14,7 +14,7 @@ use Rattle.mixer_posts.proofs.Entering.{entered, entered_law}
 use Rattle.mixer_posts.proofs.Nexts.{texts_are}
 use Rattle.command_spec.specs.Mixing.{sent_to}
 use Rattle.command_spec.proofs.SentBack.{below_legs}
-use Rattle.serve_spec.specs.Served.{given_to}
+use Rattle.live_spec.specs.Served.{given_to}
 use Rattle.live_run.specs.Ends.{packets_of}
 use Rattle.live_run.specs.Sent.{SentIsGiven}
 

@@ -15,9 +15,9 @@ use Rattle.mixer_posts.proofs.LegLines.{legs_more}
 use Rattle.terminal.specs.declared.settings.TerminalSettings.{TerminalSettings}
 use Rattle.terminal.specs.declared.terminals.Terminal.{Terminal}
 use Rattle.terminal.specs.Terminals.{Heard, reception}
-use Rattle.conference.specs.Speakers.{names_of, ssrcs_of}
+use Rattle.file_spec.specs.Speakers.{names_of, ssrcs_of}
 use Rattle.live_run.specs.Speakers.{terminal_settings}
-use Rattle.serve_spec.specs.Served.{came_at_once, live_view}
+use Rattle.live_spec.specs.Served.{came_at_once, live_view}
 use Rattle.live_run.specs.Listeners.{AppendsView, AreViewsOf, HasHeard, Listening}
 
 pub read_leg : (legs : List LegLine) (j : ℕ) (d leg : LegLine) → leg_at legs j ≡ Some leg → get_or legs j d ≡ leg

@@ -6,10 +6,10 @@ use Rattle.std.proofs.lemmas.Grind.{same_number_lists}
 use Rattle.std.proofs.lemmas.Option.{get_or_from_slice_get}
 use Rattle.file_spec.specs.Conference.{Conference}
 use Rattle.mixer_spec.specs.Setups.{setup}
-use Rattle.aware_output.specs.declared.outputs.PacketizerSettings.{PacketizerSettings}
-use Rattle.aware_output.specs.Standing.{PacketizerStandsFor, speaker_of}
-use Rattle.aware_output.specs.States.{State}
-use Rattle.live_law.proofs.Serving.{some_there}
+use Rattle.packetizer.specs.declared.outputs.PacketizerSettings.{PacketizerSettings}
+use Rattle.packetizer.specs.OutputStanding.{PacketizerStandsFor, speaker_of}
+use Rattle.packetizer.specs.OutputStates.{State}
+use Rattle.mix_loop.proofs.Serving.{some_there}
 use Rattle.mixer_turn.specs.Making.{source_counts}
 use Rattle.mixer_posts.specs.Streams.{AreSourcesAt, settings_at, payload_types_at}
 use Rattle.mixer_posts.proofs.Streaming.{count_law}

@@ -9,19 +9,19 @@ use Rattle.file_spec.specs.Conference.{Conference, conference_from, port}
 use Rattle.mixer_spec.specs.Setups.{AllStay, leg_at, setup}
 use Rattle.mixer_spec.specs.Table.{Call, Table, after_calls, chunks_taken}
 use Rattle.mixer_spec.specs.Calls.{turns_made}
-use Rattle.link_spec.specs.Links.{Takes}
+use Rattle.stream_spec.specs.Links.{Takes}
 use Rattle.link_io.specs.Given.{given_by, packets}
 use Rattle.link_io.specs.declared.ends.LinkIn as ins
 use Rattle.link_io.specs.declared.ends.LinkOut as outs
 use Rattle.live_leg.specs.declared.legs.LinkLeg.{LinkLeg}
 use Rattle.live_leg.specs.declared.tallies.LegTally.{LegTally}
-use Rattle.live_loop.specs.Clocks.{AtTicks, RiseTo, moments_of}
-use Rattle.live_loop.specs.Order.{up_to_turn}
-use Rattle.live_loop.specs.declared.turns.TurnsEnd.{TurnsEnd}
-use Rattle.live_loop.specs.declared.turns.TurnsEnd.TheVariants.{Done, Closed, Faulted, Stopped}
-use Rattle.serve_spec.specs.HeadLive.{HeadLive}
-use Rattle.serve_spec.specs.Served.{Broken, End, IsCutShort, IsServed, given_to, live_printed}
-use Rattle.serve_spec.specs.Served as served
+use Rattle.mix_loop.specs.Clocks.{AtTicks, RiseTo, moments_of}
+use Rattle.mix_loop.specs.Order.{up_to_turn}
+use Rattle.mix_loop.specs.declared.live_turns.TurnsEnd.{TurnsEnd}
+use Rattle.mix_loop.specs.declared.live_turns.TurnsEnd.TheVariants.{Done, Closed, Faulted, Stopped}
+use Rattle.live_spec.specs.HeadLive.{HeadLive}
+use Rattle.live_spec.specs.Served.{Broken, End, IsCutShort, IsServed, given_to, live_printed}
+use Rattle.live_spec.specs.Served as served
 use Rattle.live_run.specs.declared.calls.CallReturn.{CallReturn}
 use Rattle.live_run.specs.declared.faults.LiveFault.{LiveFault}
 use Rattle.live_run.specs.declared.faults.LiveFault.TheVariants.{Link, NoMemory}

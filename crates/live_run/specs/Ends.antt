@@ -4,10 +4,10 @@ use Rattle.rtt_base.specs.declared.text_packets.PayloadTypes.{PayloadTypes}
 use Rattle.rtt_io.specs.Counts.{Rose}
 use Rattle.stream_spec.specs.Own.{Sent}
 use Rattle.mixer_spec.specs.Setups.{Setup}
-use Rattle.aware_output.specs.declared.outputs.PacketizerSettings.{PacketizerSettings}
-use Rattle.aware_output.specs.Sending.{octets_of}
-use Rattle.aware_output.specs.Standing.{PacketizerStandsFor}
-use Rattle.aware_output.specs.States.{State}
+use Rattle.packetizer.specs.declared.outputs.PacketizerSettings.{PacketizerSettings}
+use Rattle.packetizer.specs.Sending.{octets_of}
+use Rattle.packetizer.specs.OutputStanding.{PacketizerStandsFor}
+use Rattle.packetizer.specs.OutputStates.{State}
 use Rattle.mixer_turn.specs.declared.batches.Post.{Post}
 use Rattle.link_io.specs.Given.{packets}
 use Rattle.mix_loop.specs.Addresses.{Address, address}

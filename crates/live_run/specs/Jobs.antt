@@ -6,24 +6,24 @@ use Rattle.core.specs.declared.mem.manually_drop.ManuallyDrop.{ManuallyDrop}
 use Rattle.rtt_base.specs.declared.text_packets.PayloadTypes.{PayloadTypes}
 use Rattle.mixer_spec.specs.Setups.{AllStay, Setup}
 use Rattle.mixer_spec.specs.Table.{Call}
-use Rattle.item_lanes.specs.declared.lanes.Worker.{Worker}
-use Rattle.item_lanes.specs.Lanes.{AreNew, popped_of}
-use Rattle.item_lanes.specs.Pairs.{Pairs}
-use Rattle.item_lanes.specs.Rooms.{HasRoom}
+use Rattle.workers.specs.declared.lanes.Worker.{Worker}
+use Rattle.workers.specs.Lanes.{AreNew, popped_of}
+use Rattle.workers.specs.Pairs.{Pairs}
+use Rattle.workers.specs.Rooms.{HasRoom}
 use Rattle.link_io.specs.declared.ends.LinkIn as links
 use Rattle.mix_loop.specs.Addresses.{Address, AreWithin, ports_of}
 use Rattle.live_leg.specs.declared.items.LegItem.{LegItem}
 use Rattle.live_leg.specs.declared.legs.LinkLeg.{LinkLeg}
 use Rattle.live_leg.specs.Items.{Item, has_fault, items_of}
 use Rattle.live_leg.specs.Stands.{LegGave, LegStands}
-use Rattle.live_loop.specs.declared.clocks.TurnClock as clocks
-use Rattle.live_loop.specs.declared.ports.LivePort.{LivePort}
-use Rattle.live_loop.specs.declared.turns.TurnsEnd.{TurnsEnd}
-use Rattle.live_loop.specs.declared.turns.TurnsEnd.TheVariants.{Done}
-use Rattle.live_loop.specs.Clocks.{IsPaced, OnlyTimePassed, StandsPaced}
-use Rattle.live_loop.specs.Order.{AreInTurn}
-use Rattle.live_loop.specs.Ports.{IsBegun}
-use Rattle.live_loop.specs.Walks.{AllGrew, AreAt, HaltsThen, IsPaused, Ran, RanTo, WasFaulted, WasStopped}
+use Rattle.mix_loop.specs.declared.clocks.TurnClock as clocks
+use Rattle.mix_loop.specs.declared.live_ports.LivePort.{LivePort}
+use Rattle.mix_loop.specs.declared.live_turns.TurnsEnd.{TurnsEnd}
+use Rattle.mix_loop.specs.declared.live_turns.TurnsEnd.TheVariants.{Done}
+use Rattle.mix_loop.specs.Clocks.{IsPaced, OnlyTimePassed, StandsPaced}
+use Rattle.mix_loop.specs.Order.{AreInTurn}
+use Rattle.mix_loop.specs.LivePorts.{IsBegun}
+use Rattle.mix_loop.specs.Walks.{AllGrew, AreAt, HaltsThen, IsPaused, Ran, RanTo, WasFaulted, WasStopped}
 use Rattle.live_run.specs.declared.faults.LiveFault.{LiveFault}
 use Rattle.live_run.specs.declared.threads.CallJob.{CallJob}
 use Rattle.live_run.specs.declared.threads.JobReturn.{JobReturn}

@@ -12,3 +12,6 @@ pub mod Rooms
 pub mod Opened
 pub mod Spans
 pub mod Calls
+pub mod Readers
+pub mod Lines
+pub mod Watched

@@ -3,12 +3,12 @@ use Rattle.std.specs.Prelude.{◌≡◌, ℕ, ◌<◌, Bool, Some, List, ◌∷�
 use Rattle.file_spec.specs.declared.conference_lines.LegLine.{LegLine}
 use Rattle.file_spec.specs.Conference.{Conference}
 use Rattle.mixer_spec.specs.Setups.{leg_at}
-use Rattle.link_spec.specs.Links.{Takes}
+use Rattle.stream_spec.specs.Links.{Takes}
 use Rattle.live_leg.specs.declared.tallies.LegTally.{LegTally}
 use Rattle.terminal.specs.declared.settings.TerminalSettings.{TerminalSettings}
 use Rattle.terminal.specs.declared.terminals.Terminal.{Terminal}
 use Rattle.terminal.specs.Terminals.{Heard, IsWhole, Listens, counts_of}
-use Rattle.serve_spec.specs.Served.{End, came_at_once, live_printed, live_view, live_views}
+use Rattle.live_spec.specs.Served.{End, came_at_once, live_printed, live_view, live_views}
 use Rattle.rtt_base.specs.declared.limits.TheConstants.{MOST_ARRIVALS}
 use Rattle.live_run.specs.Tallies.{AreTallies}
 

@@ -2,8 +2,8 @@
 use Rattle.std.specs.Prelude.{◌≡◌, ℕ, Some, List, [], slice_get}
 use Rattle.file_spec.specs.Conference.{Conference}
 use Rattle.mixer_spec.specs.Setups.{setup}
-use Rattle.aware_output.specs.Standing.{PacketizerStandsFor}
-use Rattle.aware_output.specs.States.{State}
+use Rattle.packetizer.specs.OutputStanding.{PacketizerStandsFor}
+use Rattle.packetizer.specs.OutputStates.{State}
 use Rattle.mixer_posts.specs.Streams.{AreSourcesAt, settings_at, payload_types_at}
 
 -- nothing was sent by this output of the terminal j, of its sources

@@ -1,5 +1,5 @@
 -- How a live call ended, as the definitions have it.
-use Rattle.serve_spec.specs.Served as served
+use Rattle.live_spec.specs.Served as served
 use Rattle.live_run.specs.declared.reports.LiveEnd.{LiveEnd}
 use Rattle.live_run.specs.declared.reports.LiveEnd.TheVariants.{Done, Closed}
 

@@ -1,7 +1,7 @@
 -- Room for the legs of a live call.
 use Rattle.std.specs.Prelude.{◌≡◌, ◌≤◌, ℕ, []}
 use Rattle.std.specs.Vec.{vec_capacity}
-use Rattle.item_lanes.specs.Rooms.{HasRoom, IsUnused}
+use Rattle.workers.specs.Rooms.{HasRoom, IsUnused}
 use Rattle.live_run.specs.declared.rooms.CallRoom.{CallRoom}
 
 module _ {L G : Type 0} where

@@ -6,7 +6,7 @@ use Rattle.mixer_spec.specs.Setups.{leg_at, setup}
 use Rattle.mixer_spec.specs.Table.{Call, after_calls}
 use Rattle.mixer_posts.specs.Streams.{AreSourcesAt, settings_at, payload_types_at}
 use Rattle.mixer_posts.specs.Posts.{sent_by, sents_to}
-use Rattle.serve_spec.specs.Served.{given_to}
+use Rattle.live_spec.specs.Served.{given_to}
 use Rattle.live_run.specs.Ends.{packets_of}
 
 -- Of what the calls of a conference's mixer send the packets to a terminal, which has these sources, are those that are given to

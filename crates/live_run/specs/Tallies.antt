@@ -4,12 +4,12 @@ use Rattle.file_spec.specs.declared.conference_lines.LegLine.{LegLine}
 use Rattle.file_spec.specs.Conference.{Conference}
 use Rattle.view_spec.specs.declared.tallies.Tally.{Tally}
 use Rattle.view_spec.specs.Tallies.{tally_line}
-use Rattle.link_spec.specs.Links.{Takes}
+use Rattle.stream_spec.specs.Links.{Takes}
 use Rattle.live_spec.specs.Tally.{tally_by}
 use Rattle.live_leg.specs.declared.legs.LinkLeg.{LinkLeg}
 use Rattle.live_leg.specs.declared.tallies.LegTally.{LegTally}
 use Rattle.live_leg.specs.Tallies.{IsTally}
-use Rattle.serve_spec.specs.Served.{hearing_at}
+use Rattle.live_spec.specs.Served.{hearing_at}
 
 -- what each of these legs counted is what came of its link
 abbrev pub AreTallies : Conference → (ℕ → Takes) → List LegTally → Type 0

@@ -4,8 +4,8 @@ use Rattle.rtt_base.specs.declared.text_packets.PayloadTypes.{PayloadTypes}
 use Rattle.stream_spec.specs.Ready.{Chunk}
 use Rattle.mixer_spec.specs.Setups.{Setup}
 use Rattle.mixer_spec.specs.Table.{Call, Admit, Hush, Leave, Offer, Turn, after_calls, has_room}
-use Rattle.live_loop.specs.declared.turns.TurnsEnd.{TurnsEnd}
-use Rattle.live_loop.specs.declared.turns.TurnsEnd.TheVariants.{Stopped}
+use Rattle.mix_loop.specs.declared.live_turns.TurnsEnd.{TurnsEnd}
+use Rattle.mix_loop.specs.declared.live_turns.TurnsEnd.TheVariants.{Stopped}
 use Rattle.live_run.specs.declared.faults.LiveFault.{LiveFault}
 use Rattle.live_run.specs.declared.faults.LiveFault.TheVariants.{Link, NoMemory}
 use Rattle.live_run.specs.declared.mixer_taps.TappedMixer.{TappedMixer}

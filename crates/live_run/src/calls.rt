@@ -1,11 +1,11 @@
 //! A live call of a conference whose links are opened.
 ghost use Rattle.std.specs.Prelude.{◌≡◌, [], length, IfOk, IfErr};
 ghost use Rattle.link_io.specs.Ports.{Same};
-ghost use Rattle.conference.specs.Conferences.{meaning_of};
+ghost use Rattle.file_spec.specs.Conferences.{meaning_of};
 ghost use Rattle.mixer_spec.specs.Setups.{AllStay, setup};
 ghost use Rattle.mixer_turn.specs.States.{legs_of};
-ghost use Rattle.live_loop.specs.Clocks.{IsPaced};
-ghost use Rattle.live_loop.specs.Walks.{IsPaused};
+ghost use Rattle.mix_loop.specs.Clocks.{IsPaced};
+ghost use Rattle.mix_loop.specs.Walks.{IsPaused};
 ghost use Rattle.live_run.specs.Calls.{IsCalled, IsOfLinks};
 ghost use Rattle.live_run.specs.Ends.{packets_in};
 ghost use Rattle.live_run.specs.Mixers.{HasAll};
@@ -13,17 +13,16 @@ ghost use Rattle.live_run.specs.Spans.{span_of};
 ghost use Rattle.live_run.specs.Opened.{AreUnused, OpenEnds, OpenLegs};
 
 use crate::listeners::listeners_of;
+use crate::mixer_taps::{TapReturn, TappedMixer};
 use crate::open_links::OpenLinks;
 use crate::outputs::outputs_of;
 use crate::rooms::CallRoom;
-use crate::threads::{JobReturn, CallJob, run_job};
-use crate::mixer_taps::{TappedMixer, TapReturn};
+use crate::threads::{CallJob, JobReturn, run_job};
 use crate::{FarEnds, Listener, LiveFault, Tap, live_mixer};
-use conference::Conference;
-use item_lanes::LentGate;
+use file_spec::Conference;
 use link_io::{LinkOut, Links};
 use live_leg::LinkLeg;
-use live_loop::TurnsEnd;
+use mix_loop::TurnsEnd;
 use mixer_posts::SendingMixer;
 use rtt_base::Packet;
 use rtt_io::Gate;
@@ -31,6 +30,7 @@ use std::alloc::Global;
 use std::sync::atomic::AtomicBool;
 use std::sync::{Arc, Wait};
 use std::thread::Threads;
+use workers::LentGate;
 
 /// A call behind its last turn: how its turns ended, both ends of its links, the terminals that heard what was given, and the tap
 /// that was told of it.
@@ -43,7 +43,12 @@ pub(crate) struct CallReturn<I, O, T> {
 }
 
 /// A call that did not begin, for want of memory.
-fn not_begun<I, O, T>(alloc: Global, legs: Vec<LinkLeg<I>>, ends: Vec<O>, tap: T) -> CallReturn<I, O, T>
+fn not_begun<I, O, T>(
+    alloc: Global,
+    legs: Vec<LinkLeg<I>>,
+    ends: Vec<O>,
+    tap: T,
+) -> CallReturn<I, O, T>
     ensures turned { result.turned ≡ TurnsEnd.Stopped LiveFault.NoMemory }
     ensures legs { result.legs ≡ legs }
     ensures ends { result.ends ≡ ends }

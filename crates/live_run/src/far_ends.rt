@@ -2,10 +2,10 @@
 ghost use Rattle.std.specs.Prelude.{◌≡◌, ◌≤◌, length};
 
 use crate::{Listener, LiveFault};
-use aware_output::Packetizer;
 use link_io::{Beat, LinkOut};
 use mixer_posts::PostSink;
 use mixer_turn::Post;
+use packetizer::Packetizer;
 use rtt_base::{NoMemory, Packet};
 
 /// The outbound ends of the legs' links, the outputs that write the packets to these, and the terminals that hear what the links are

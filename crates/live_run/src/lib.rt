@@ -1,23 +1,28 @@
-//! A live call: what is heard at each link is mixed, and given to the terminals' links, turn by turn.
+//! A live call: what is heard at each link is mixed, and given to the terminals' links, turn by turn. A thread may read the last
+//! text of each leg from a board meanwhile.
 #![tactic(auto)]
 
+mod board_taps;
 mod calls;
 mod far_ends;
 mod faults;
 mod laws;
+mod lines;
 mod listeners;
+mod mixer_taps;
 mod mixers;
 mod open_links;
 mod outputs;
 mod reports;
 mod rooms;
-mod threads;
 mod services;
 mod speakers;
 mod tallies;
-mod mixer_taps;
 mod taps;
+mod threads;
 mod views;
+mod watch_calls;
+mod watchers;
 
 pub use far_ends::FarEnds;
 pub use faults::LiveFault;
@@ -28,6 +33,9 @@ pub use reports::{LiveEnd, LiveReport, Views};
 pub use services::{serve, serve_tapped};
 pub use taps::{NoTap, Tap};
 pub use views::printed;
+pub use watch_calls::serve_watched;
 
 #[cfg(test)]
 mod tests;
+#[cfg(test)]
+mod watch_tests;

@@ -5,12 +5,12 @@ ghost use Rattle.live_run.specs.Listeners.{HasHeard, HearsNext, HearsOut, NoneHe
 ghost use Rattle.rtt_base.specs.declared.limits.TheConstants.{LONGEST_WAIT, MOST_SOURCES};
 
 use crate::speakers::settings_at;
-use conference::{Conference, others};
+use file_spec::{Conference, others};
 use rtt_base::NoMemory;
 use rtt_base::limits::MOST_ARRIVALS;
 use std::alloc::Global;
 use std::marker::Model;
-use terminal::{TerminalSettings, Terminal};
+use terminal::{Terminal, TerminalSettings};
 
 /// The terminal of a leg, with what it was made with.
 #[derive(Drop)]
@@ -27,13 +27,21 @@ impl Model for Listener {
 
     ghost view = { λ l. record { terminal = l.terminal; settings = l.settings; sources = l.sources.items } };
 
-    ghost invariant = { λ l. IsListener (record { terminal = l.terminal; settings = l.settings; sources =
-        l.sources.items }) };
+    ghost invariant = { λ l. IsListener (record {
+      terminal = l.terminal;
+      settings = l.settings;
+      sources =
+          l.sources.items;
+    }) };
 }
 
 impl Listener {
     /// A terminal to which nothing came yet, for the text of these sources: 1 to 64, all different.
-    pub fn new(alloc: Global, settings: TerminalSettings, sources: Vec<u32>) -> Result<Listener, NoMemory>
+    pub fn new(
+        alloc: Global,
+        settings: TerminalSettings,
+        sources: Vec<u32>,
+    ) -> Result<Listener, NoMemory>
         requires wait { settings.wait ≤ LONGEST_WAIT }
         requires some { 0 < length sources.items }
         requires few { length sources.items ≤ MOST_SOURCES }
@@ -67,7 +75,11 @@ impl Listener {
     }
 
     /// The terminal, which was made with these, when all that was given is heard to its end.
-    pub(crate) fn finished(self, settings: TerminalSettings, sources: &[u32]) -> Result<Terminal, NoMemory>
+    pub(crate) fn finished(
+        self,
+        settings: TerminalSettings,
+        sources: &[u32],
+    ) -> Result<Terminal, NoMemory>
         ensures heard { IfOk result (HearsOut self settings sources.now) }
         ensures finished { IfOk result IsFinished }
         ensures each { IfOk result (λ terminal. length (texts_of terminal) ≡ length sources.now) }
@@ -101,7 +113,10 @@ fn listener_of(alloc: Global, conference: &Conference, own: usize) -> Result<Lis
 }
 
 /// The terminals of all legs, in leg order.
-pub(crate) fn listeners_of(alloc: Global, conference: &Conference) -> Result<Vec<Listener>, NoMemory>
+pub(crate) fn listeners_of(
+    alloc: Global,
+    conference: &Conference,
+) -> Result<Vec<Listener>, NoMemory>
     ensures each { IfOk result (λ listeners. length listeners.items ≡ length conference.now.legs) }
     ensures none { IfOk result (λ listeners. NoneHeard listeners.items) }
 {

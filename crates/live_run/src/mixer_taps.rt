@@ -4,8 +4,7 @@ ghost use Rattle.live_run.specs.Taps.{Learns, Shows, ended_with};
 
 use crate::{LiveFault, Tap};
 use link_io::Beat;
-use live_loop::TurnsEnd;
-use mix_loop::MixerCalls;
+use mix_loop::{MixerCalls, TurnsEnd};
 use rtt_base::{Chunk, Full};
 
 /// A mixer, and what is told of the chunks that it takes and of its turns.

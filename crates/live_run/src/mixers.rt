@@ -1,6 +1,6 @@
 //! The mixer of a live call.
 ghost use Rattle.std.specs.Prelude.{◌≡◌, ◌<◌, true, [], length, IfOk, IfErr};
-ghost use Rattle.conference.specs.Conferences.{meaning_of};
+ghost use Rattle.file_spec.specs.Conferences.{meaning_of};
 ghost use Rattle.mixer_spec.specs.Setups.{AllStay, setup};
 ghost use Rattle.mixer_turn.specs.Making.{source_counts};
 ghost use Rattle.mixer_turn.specs.States.{legs_of, sources_of};
@@ -10,7 +10,7 @@ ghost use Rattle.live_run.specs.Ends.{WereGiven, packets_in};
 ghost use Rattle.live_run.specs.Mixers.{HasAll, SeatsAll, all_admitted};
 
 use crate::FarEnds;
-use conference::Conference;
+use file_spec::Conference;
 use link_io::LinkOut;
 use mixer_posts::SendingMixer;
 use mixer_turn::{Batch, Mixer};

@@ -2,16 +2,16 @@
 ghost use Rattle.std.specs.Prelude.{◌≡◌, ◌<◌, ◌≤◌, ◌⊎◌, [], length, IfOk, IfErr, OnOk, OnErr};
 ghost use Rattle.std.specs.Vec.{vec_capacity};
 ghost use Rattle.link_io.specs.Ports.{NoneFalls, Same, StayOpened};
-ghost use Rattle.conference.specs.Conferences.{meaning_of};
+ghost use Rattle.file_spec.specs.Conferences.{meaning_of};
 ghost use Rattle.live_run.specs.Opened.{AreCalm, AreEmptyAt, AreStored, FaultsRose, GivesNothing, HavePorts, IsNotOpened, IsRefusedAt, LeadsAll, LeadsOne, LeadsSome, OpenEnds, OpenLegs, OpensEnd, OpensLeg, leg_settings_at, link_in};
 
 use crate::LiveFault;
-use conference::{Conference, LegLine};
-use ear::EarSettings;
-use file_lines::number_from;
+use file_spec::{Conference, LegLine};
 use link_io::{LinkIn, LinkOut, Links};
 use live_leg::{LegSettings, LinkLeg};
+use receiver::EarSettings;
 use rtt_base::NoMemory;
+use script_text::number_from;
 use std::alloc::Global;
 use std::sync::Arc;
 use std::sync::atomic::AtomicBool;
@@ -157,8 +157,7 @@ pub(crate) fn open_links<W: Links>(
     ensures each_leg { IfOk result (λ opened. length opened.legs.items ≡ length conference.now.legs) }
     ensures each_end { IfOk result (λ opened. length opened.ends.items ≡ length conference.now.legs) }
     ensures legs { IfOk result (λ opened. OpenLegs W.In.LinkIn W.tells (W.opened world.new) (meaning_of conference.now) opened.legs.items) }
-    ensures ends { IfOk result (λ opened. OpenEnds W.Out.LinkOut W.tells (meaning_of conference.now) opened.ends.items)
-        }
+    ensures ends { IfOk result (λ opened. OpenEnds W.Out.LinkOut W.tells (meaning_of conference.now) opened.ends.items) }
     ensures refused { IfErr result (IsNotOpened W.tells (W.opened world.new)
         (W.own_faults world.old) (W.own_faults world.new) (meaning_of conference.now)) }
     ensures own_never_falls { NoneFalls W.own_faults world.old world.new }

@@ -1,11 +1,11 @@
 //! The outputs to the terminals of a live call.
 ghost use Rattle.std.specs.Prelude.{◌≡◌, ◌<◌, length, IfOk};
-ghost use Rattle.conference.specs.Conferences.{meaning_of};
+ghost use Rattle.file_spec.specs.Conferences.{meaning_of};
 ghost use Rattle.live_run.specs.Outputs.{HasSentNone, NoneSent};
 
-use aware_output::Packetizer;
-use conference::Conference;
+use file_spec::Conference;
 use mixer_posts::{sources_to, stream_to};
+use packetizer::Packetizer;
 use rtt_base::NoMemory;
 use std::alloc::Global;
 
@@ -20,7 +20,10 @@ fn output_of(alloc: Global, conference: &Conference, own: usize) -> Result<Packe
 }
 
 /// The outputs to the terminals of all legs, in leg order.
-pub(crate) fn outputs_of(alloc: Global, conference: &Conference) -> Result<Vec<Packetizer>, NoMemory>
+pub(crate) fn outputs_of(
+    alloc: Global,
+    conference: &Conference,
+) -> Result<Vec<Packetizer>, NoMemory>
     ensures each { IfOk result (λ outputs. length outputs.items ≡ length conference.now.legs) }
     ensures none { IfOk result (λ outputs. NoneSent (meaning_of conference.now) outputs.items) }
 {

@@ -3,13 +3,13 @@ ghost use Rattle.std.specs.Prelude.{IfOk};
 ghost use Rattle.live_run.specs.Rooms.{HasCallRoom, IsUnusedCall};
 
 use crate::threads::LegWorker;
-use item_lanes::WorkerRoom;
 use link_io::LinkIn;
 use live_leg::{LegItem, LinkLeg};
-use live_loop::LivePort;
+use mix_loop::LivePort;
 use rtt_base::NoMemory;
 use rtt_io::Gate;
 use std::alloc::Global;
+use workers::WorkerRoom;
 
 /// All memory that the legs of a live call need to run.
 pub(crate) struct CallRoom<L: LinkIn, G: Gate> {

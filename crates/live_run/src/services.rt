@@ -1,9 +1,9 @@
 //! A live call is served.
 ghost use Rattle.std.specs.Prelude.{◌≡◌, [], IfOk, IfErr, OnErr, OnOk};
 ghost use Rattle.link_io.specs.Ports.{NoneFalls, Same};
-ghost use Rattle.conference.specs.Conferences.{meaning_of};
-ghost use Rattle.live_loop.specs.Clocks.{IsPaced};
-ghost use Rattle.live_loop.specs.Walks.{IsPaused};
+ghost use Rattle.file_spec.specs.Conferences.{meaning_of};
+ghost use Rattle.mix_loop.specs.Clocks.{IsPaced};
+ghost use Rattle.mix_loop.specs.Walks.{IsPaused};
 ghost use Rattle.live_run.specs.Calls.{BrokeOff, IsOfLinks, WasCounted, WasGivenUp, WasServed, WasTapped, answer_of};
 ghost use Rattle.live_run.specs.Spans.{span_of};
 ghost use Rattle.live_run.specs.Opened.{LeadsAll, LeadsSome};
@@ -13,9 +13,9 @@ use crate::calls::{CallReturn, call};
 use crate::open_links::{close_ends, close_legs, open_links};
 use crate::tallies::tallies_of;
 use crate::{LiveEnd, LiveFault, LiveReport, NoTap, Tap, printed};
-use conference::Conference;
+use file_spec::Conference;
 use link_io::Links;
-use live_loop::TurnsEnd;
+use mix_loop::TurnsEnd;
 use rtt_base::NoMemory;
 use rtt_io::Gate;
 use std::alloc::Global;

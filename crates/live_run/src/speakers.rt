@@ -1,9 +1,9 @@
 //! Whom the terminal of a leg hears.
 ghost use Rattle.std.specs.Prelude.{◌≡◌};
-ghost use Rattle.conference.specs.Conferences.{meaning_of};
+ghost use Rattle.file_spec.specs.Conferences.{meaning_of};
 ghost use Rattle.live_run.specs.Speakers.{terminal_settings};
 
-use conference::{Conference, LegLine};
+use file_spec::{Conference, LegLine};
 use terminal::TerminalSettings;
 
 /// What the terminal of a leg hears.

@@ -1,15 +1,14 @@
 //! What was counted of the legs of a live call.
 ghost use Rattle.std.specs.Prelude.{◌≡◌, ◌≤◌, ◌++◌, length, OnOk};
-ghost use Rattle.conference.specs.Conferences.{meaning_of};
+ghost use Rattle.file_spec.specs.Conferences.{meaning_of};
 ghost use Rattle.file_spec.specs.declared.limits.TheConstants.{MOST_LINKS};
 ghost use Rattle.view_spec.specs.Tallies.{tally_line};
 ghost use Rattle.live_run.specs.Tallies.{as_tally, asked_lines, tallies_in, tally_lines};
 
 use crate::Views;
 use arrayvec::ArrayVec;
-use conference::Conference;
-use file_spec::LegLine;
 use file_spec::limits::MOST_LINKS;
+use file_spec::{Conference, LegLine};
 use link_io::LinkIn;
 use live_leg::{LegTally, LinkLeg};
 use rtt_base::{Bytes, NoMemory};

@@ -1,18 +1,19 @@
 //! A live call runs: each leg on a thread of its own, the turns on the caller's.
 ghost use Rattle.std.specs.Prelude.{◌≡◌, ◌≤◌, ◌<◌, ◌^◌, length};
-ghost use Rattle.live_loop.specs.declared.turns.TurnsEnd.TheVariants.{Done};
-ghost use Rattle.live_loop.specs.Clocks.{IsPaced, OnlyTimePassed, StandsPaced};
+ghost use Rattle.mix_loop.specs.declared.live_turns.TurnsEnd.TheVariants.{Done};
+ghost use Rattle.mix_loop.specs.Clocks.{IsPaced, OnlyTimePassed, StandsPaced};
 ghost use Rattle.mix_loop.specs.Addresses.{AreWithin, ports_of};
-ghost use Rattle.live_loop.specs.Order.{AreInTurn};
-ghost use Rattle.live_loop.specs.Walks.{AreAt, HaltsThen, IsPaused, WasStopped};
+ghost use Rattle.mix_loop.specs.Order.{AreInTurn};
+ghost use Rattle.mix_loop.specs.Walks.{AreAt, HaltsThen, IsPaused, WasStopped};
 ghost use Rattle.live_run.specs.Jobs.{CanRun, LentCanRun, LentRanAs, RanAs, TurnsWere};
 
 use crate::LiveFault;
-use item_lanes::{Worker, WorkerRoom, WorkerSet, join_lanes, lend, start_lanes};
 use link_io::LinkIn;
 use live_leg::{LegItem, LinkLeg};
-use live_loop::{LivePort, Consumer, TurnClock, TurnsEnd, drain_all, inlets_of, ports_over, take_turns};
-use mix_loop::MixerCalls;
+use mix_loop::{
+    Consumer, LivePort, MixerCalls, TurnClock, TurnsEnd, drain_all, live_inlets_of, ports_over,
+    take_turns,
+};
 use rtt_io::Gate;
 use std::alloc::Global;
 use std::mem::ManuallyDrop;
@@ -20,6 +21,7 @@ use std::sync::atomic::{AtomicBool, Ordering};
 use std::sync::{Arc, Wait};
 use std::thread;
 use std::thread::{Scope, Threads};
+use workers::{Worker, WorkerRoom, WorkerSet, join_lanes, lend, start_lanes};
 
 /// A leg that runs.
 pub(crate) type LegWorker<L, G> = Worker<LegItem, LinkLeg<L>, G>;
@@ -48,7 +50,12 @@ pub(crate) struct JobReturn<'w, L, M, C> {
 }
 
 /// Makes the turns; then the legs are told to stop, and what they still give is let go.
-fn turn_and_stop<I: Consumer, M: MixerCalls<Fault = LiveFault, Clock = C::Clock>, C: TurnClock, R: Wait>(
+fn turn_and_stop<
+    I: Consumer,
+    M: MixerCalls<Fault = LiveFault, Clock = C::Clock>,
+    C: TurnClock,
+    R: Wait,
+>(
     rt: &R,
     ports: &mut [LivePort<I>],
     mixer: &mut M,
@@ -123,7 +130,7 @@ fn run_in<
         tick,
         turns,
     );
-    let lanes = inlets_of(ports, joined);
+    let lanes = live_inlets_of(ports, joined);
     let legs = join_lanes(rt, lanes, back);
     JobReturn {
         turned,
@@ -165,7 +172,12 @@ fn run_scope<
     C: TurnClock,
     R: Threads + Wait + Sync,
     G: Gate + Copy + Send,
->(rt: &R, gate: G, stack: usize, lent: ManuallyDrop<CallJob<'w, L, M, C, G>>) -> JobReturn<'w, L, M, C>
+>(
+    rt: &R,
+    gate: G,
+    stack: usize,
+    lent: ManuallyDrop<CallJob<'w, L, M, C, G>>,
+) -> JobReturn<'w, L, M, C>
     requires { LentCanRun L.LinkIn C.TurnClock M.legs M.turns M.addresses M.horizon lent }
     ensures { LentRanAs L.LinkIn C.TurnClock M.stands M.halted M.addresses M.unsent lent.entry result }
 {

@@ -1,14 +1,14 @@
 //! What the terminals of a live call show.
 ghost use Rattle.std.specs.Prelude.{◌≡◌, ◌<◌, true, false, length, IfOk, OnOk};
-ghost use Rattle.conference.specs.Conferences.{meaning_of};
+ghost use Rattle.file_spec.specs.Conferences.{meaning_of};
 ghost use Rattle.live_run.specs.Listeners.{AppendsView, AppendsViewTo, ArePrintedOf, AreViewsOf};
-ghost use Rattle.serve_spec.specs.Served.{end_line};
+ghost use Rattle.live_spec.specs.Served.{end_line};
 ghost use Rattle.live_run.specs.Reports.{end_of};
 
 use crate::speakers::settings_at;
 use crate::tallies::append_counted;
 use crate::{Listener, LiveEnd, Views};
-use conference::{Conference, others};
+use file_spec::{Conference, others};
 use live_leg::LegTally;
 use rtt_base::{Bytes, NoMemory};
 use std::alloc::Global;
@@ -88,7 +88,11 @@ fn add_view(
 }
 
 /// What is seen at the terminals of a conference, in leg order.
-fn views_of(alloc: Global, conference: &Conference, listeners: Vec<Listener>) -> Result<Views, NoMemory>
+fn views_of(
+    alloc: Global,
+    conference: &Conference,
+    listeners: Vec<Listener>,
+) -> Result<Views, NoMemory>
     requires each { length listeners.items ≡ length conference.now.legs }
     ensures { IfOk result (AreViewsOf (meaning_of conference.now) listeners.items) }
 {

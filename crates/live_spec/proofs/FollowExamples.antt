@@ -8,8 +8,8 @@ use Rattle.wire_spec.specs.Red.{headers_at, texts_at, red}
 use Rattle.wire_spec.specs.Text.{text_of_short, text_of}
 use Rattle.stream_spec.specs.Hearing.{marker}
 use Rattle.stream_spec.specs.Ready.{chunk}
-use Rattle.link_spec.specs.Links.{Came, Taken, Takes}
-use Rattle.link_spec.specs.Links as link
+use Rattle.stream_spec.specs.Links.{Came, Taken, Takes}
+use Rattle.stream_spec.specs.Links as link
 use Rattle.live_spec.specs.Told.{Hearing, all_by, heard_told, ready_by, told_by}
 
 -- Ann is named with the SSRC 1001, and followed

@@ -15,7 +15,7 @@ use Rattle.stream_spec.specs.Fronts.{IsFront, is_ready_by}
 use Rattle.stream_spec.specs.Still.{still, still_arrival}
 use Rattle.stream_spec.proofs.Fronts.{settled_front}
 use Rattle.stream_spec.proofs.Still.{falls_still}
-use Rattle.link_spec.specs.Links.{Came, Closed, Datagram, Large, Quiet, Taken, Takes, is_closed, is_closing}
+use Rattle.stream_spec.specs.Links.{Came, Closed, Datagram, Large, Quiet, Taken, Takes, is_closed, is_closing}
 use Rattle.live_spec.specs.Told.{Former, Hearing, Told, all_former, all_told, arrival_at, former_after, former_chunks, is_sender, last_chunks, ready_by, ready_told, ready_until, sender_chunks, taken_over, takes_over, told_by, told_came, told_moment, told_packet, with_packet}
 use Rattle.live_spec.specs.ToldLaws.{ReadyIsFront, ReadyStays}
 

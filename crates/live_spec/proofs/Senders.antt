@@ -6,7 +6,7 @@ use Rattle.wire_spec.specs.declared.faults.TextFault.{TextFault}
 use Rattle.wire_spec.specs.Packets.{Arrival, Packet}
 use Rattle.wire_spec.specs.Text.{text_of}
 use Rattle.stream_spec.specs.Fronts.{IsFront}
-use Rattle.link_spec.specs.Links.{Came, Closed, Datagram, Large, Quiet, Takes}
+use Rattle.stream_spec.specs.Links.{Came, Closed, Datagram, Large, Quiet, Takes}
 use Rattle.live_spec.specs.Told.{Former, Hearing, Told, all_former, former_after, former_chunks, is_sender, last_chunks, taken_over, takes_over, told_by, told_came, told_packet, with_packet}
 use Rattle.live_spec.specs.ToldLaws.{AreOf, AreOwn, AreSenders, FormersStay, SendersTakeOver}
 use Rattle.live_spec.proofs.Asked.{eqb_true}

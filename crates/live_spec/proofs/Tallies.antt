@@ -4,7 +4,7 @@ use Rattle.std.specs.Prelude.{suc, max, length, ◌&&◌, if◌then◌else◌}
 use Rattle.wire_spec.specs.declared.faults.TextFault.{TextFault}
 use Rattle.wire_spec.specs.Packets.{Packet, Arrival}
 use Rattle.wire_spec.specs.Text.{text_of}
-use Rattle.link_spec.specs.Links.{Came, Datagram, Large, Quiet, Closed, Takes}
+use Rattle.stream_spec.specs.Links.{Came, Datagram, Large, Quiet, Closed, Takes}
 use Rattle.live_spec.specs.Told.{Former, Hearing, Told, former_after, is_sender, taken_over, takes_over, told_by, told_came, told_packet, untold, with_packet}
 use Rattle.view_spec.specs.declared.tallies.Tally.{Tally}
 use Rattle.live_spec.specs.Tally.{tally_by, tally_came, tally_packet, untallied, with_foreign, with_refused, with_sender, with_text}

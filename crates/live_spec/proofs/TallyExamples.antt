@@ -5,8 +5,8 @@ use Rattle.std.specs.Char.{encode_utf8}
 use Rattle.wire_spec.specs.Rtp.{rtp, rtp_of_header}
 use Rattle.wire_spec.specs.Red.{headers_at, texts_at, red}
 use Rattle.wire_spec.specs.Text.{text_of_short, text_of}
-use Rattle.link_spec.specs.Links.{Taken, Takes}
-use Rattle.link_spec.specs.Links as link
+use Rattle.stream_spec.specs.Links.{Taken, Takes}
+use Rattle.stream_spec.specs.Links as link
 use Rattle.live_spec.specs.Told.{Hearing}
 use Rattle.view_spec.specs.declared.tallies.Tally.{Tally}
 use Rattle.live_spec.specs.Tally.{tally_by}

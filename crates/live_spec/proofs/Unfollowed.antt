@@ -9,7 +9,7 @@ use Rattle.wire_spec.specs.Text.{text_of}
 use Rattle.stream_spec.specs.Hearing.{heard}
 use Rattle.stream_spec.specs.Ready.{chunks}
 use Rattle.stream_spec.specs.Still.{still}
-use Rattle.link_spec.specs.Links.{Came, Datagram, Large, Quiet, Closed, Takes}
+use Rattle.stream_spec.specs.Links.{Came, Datagram, Large, Quiet, Closed, Takes}
 use Rattle.live_spec.specs.Told.{Hearing, Told, all_by, all_told, heard_told, ready_told, told_by, told_came, told_packet}
 use Rattle.live_spec.specs.ToldLaws.{IsPlain, Plain, Unfollowed, plain_by, plain_came, plain_packet}
 use Rattle.live_spec.proofs.Asked.{any_asked, eqb_true, own_asked}

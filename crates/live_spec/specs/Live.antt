@@ -6,7 +6,7 @@ use Rattle.stream_spec.specs.Fronts.{IsFront}
 use Rattle.mixer_spec.specs.Setups.{Setup}
 use Rattle.mixer_spec.specs.Table.{Table, chunks_taken, has_room, is_idle, is_seated}
 use Rattle.mixer_spec.specs.Core.{Core, Event, Enter, Stop, Depart, Push, Take, Turn, after, turns_in}
-use Rattle.link_spec.specs.Links.{Came, Datagram, Large, Quiet, Closed, Takes, is_closed}
+use Rattle.stream_spec.specs.Links.{Came, Datagram, Large, Quiet, Closed, Takes, is_closed}
 use Rattle.live_spec.specs.Told.{Hearing, all_by, ready_by}
 
 -- the span of the leg i has no room for the chunk in its hand

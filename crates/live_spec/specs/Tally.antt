@@ -5,7 +5,7 @@ use Rattle.wire_spec.specs.declared.faults.TextFault.{TextFault}
 use Rattle.wire_spec.specs.Packets.{Packet}
 use Rattle.wire_spec.specs.Text.{text_of}
 use Rattle.view_spec.specs.declared.tallies.Tally.{Tally}
-use Rattle.link_spec.specs.Links.{Came, Datagram, Large, Quiet, Closed, Takes}
+use Rattle.stream_spec.specs.Links.{Came, Datagram, Large, Quiet, Closed, Takes}
 use Rattle.live_spec.specs.Told.{Hearing, Told, is_sender, takes_over, told_by}
 
 -- a count as it is kept and printed: one that has come to 2^64 - 1 stays there

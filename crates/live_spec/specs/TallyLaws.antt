@@ -1,7 +1,7 @@
 -- What the law says of what is counted of a leg.
 use Rattle.std.specs.Prelude.{◌≡◌, ◌≤◌, ℕ, ◌+◌, Bool, true, false, List, [], ◌∷◌, length, if◌then◌else◌}
 use Rattle.wire_spec.specs.Packets.{Arrival}
-use Rattle.link_spec.specs.Links.{Came, Datagram, Large, Quiet, Closed, Takes}
+use Rattle.stream_spec.specs.Links.{Came, Datagram, Large, Quiet, Closed, Takes}
 use Rattle.live_spec.specs.Told.{Former, Hearing, Told, told_by}
 use Rattle.live_spec.specs.Tally.{tally_by}
 

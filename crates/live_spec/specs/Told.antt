@@ -11,7 +11,7 @@ use Rattle.stream_spec.specs.Hearing.{heard, marker}
 use Rattle.stream_spec.specs.Ready.{Chunk, chunk, chunks}
 use Rattle.stream_spec.specs.Fronts.{is_ready_by}
 use Rattle.stream_spec.specs.Still.{still}
-use Rattle.link_spec.specs.Links.{Came, Datagram, Large, Quiet, Closed, Takes}
+use Rattle.stream_spec.specs.Links.{Came, Datagram, Large, Quiet, Closed, Takes}
 
 -- Which packets of a leg are heard: those with these payload types, of this SSRC, or, where the leg is followed, of whoever sends.
 -- A gap in their numbers is waited for so long.

@@ -11,7 +11,7 @@ use Rattle.stream_spec.specs.Ready.{chunks}
 use Rattle.stream_spec.specs.Fronts.{IsFront, chunks_ready_by}
 use Rattle.stream_spec.specs.Still.{still, still_history}
 use Rattle.mixer_spec.specs.Chunks.{texts_of}
-use Rattle.link_spec.specs.Links.{Came, Datagram, Large, Quiet, Closed, Taken, Takes, is_closed}
+use Rattle.stream_spec.specs.Links.{Came, Datagram, Large, Quiet, Closed, Taken, Takes, is_closed}
 use Rattle.live_spec.specs.Told.{Former, Hearing, Told, all_by, all_former, heard_told, ready_by, told_by}
 
 -- ---- a leg that is not followed

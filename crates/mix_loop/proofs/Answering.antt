@@ -3,9 +3,9 @@ use Rattle.std.proofs.Common.{◌≡◌, Bool, true, false, true≢false, not, L
 use Rattle.std.proofs.lemmas.List.{append-nil}
 use Rattle.std.proofs.lemmas.Str.{IsUtf8-from_is_utf8, is_utf8-from_IsUtf8}
 use Rattle.stream_spec.specs.Ready.{Chunk}
-use Rattle.item_queue.specs.Giving.{items_by}
-use Rattle.item_lanes.specs.declared.lanes.Worker.{Worker}
-use Rattle.item_lanes.specs.Lanes.{LaneFollows, popped_of}
+use Rattle.workers.specs.Giving.{items_by}
+use Rattle.workers.specs.declared.lanes.Worker.{Worker}
+use Rattle.workers.specs.Lanes.{LaneFollows, popped_of}
 use Rattle.mix_loop.specs.declared.answers.Answer.{Answer}
 use Rattle.mix_loop.specs.declared.items.Item.{Item}
 use Rattle.mix_loop.specs.declared.items.Item.TheVariants as item

@@ -5,7 +5,7 @@ use Rattle.std.specs.Global.{Vec}
 use Rattle.std.specs.Vec.{vec_len, vec_capacity}
 use Rattle.std.proofs.lemmas.List.{append-nil, map-append}
 use Rattle.file_spec.specs.declared.conference_lines.LegLine.{LegLine}
-use Rattle.item_lanes.proofs.Matching.{Fits, fits_first, fits_next, fits_none}
+use Rattle.workers.proofs.Matching.{Fits, fits_first, fits_next, fits_none}
 use Rattle.mix_loop.specs.declared.ports.Port.{Port}
 use Rattle.mix_loop.specs.Ports.{EachNew, IsNew}
 use Rattle.mix_loop.proofs.Lists.{get_push}

@@ -1,7 +1,7 @@
 -- What a clause says of a lane of what gives answers.
 use Rattle.std.specs.Prelude.{◌≡◌, List}
-use Rattle.item_lanes.specs.declared.lanes.Worker.{Worker}
-use Rattle.item_lanes.specs.Lanes.{LaneFollows, popped_of}
+use Rattle.workers.specs.declared.lanes.Worker.{Worker}
+use Rattle.workers.specs.Lanes.{LaneFollows, popped_of}
 use Rattle.mix_loop.specs.declared.answers.Answer.{Answer}
 use Rattle.mix_loop.specs.Answers.{gave_of}
 use Rattle.mix_loop.specs.Items.{Gave}

@@ -9,3 +9,14 @@ pub mod Mixing
 pub mod Texts
 pub mod Answers
 pub mod Lanes
+pub mod Handed
+pub mod LivePorts
+pub mod Walks
+pub mod Begun
+pub mod Opening
+pub mod Clocks
+pub mod Order
+pub mod Signals
+pub mod Covers
+pub mod Laws
+pub mod Served

@@ -1,13 +1,12 @@
 //! A lane of what gives answers, as where a leg's texts come from.
 use crate::answers::Answer;
-use crate::questions::hand_out;
 use crate::inlets::Inlet;
 use crate::items::Item;
-use item_lanes::Worker;
-use item_queue::Producer;
+use crate::questions::hand_out;
 use rtt_base::Chunk;
 use rtt_io::Gate;
 use std::sync::Wait;
+use workers::{Producer, Worker};
 
 impl<F: Copy + Drop, L: Producer<Answer<F>>, G: Gate> Inlet for Worker<Answer<F>, L, G> {
     ghost use Rattle.mix_loop.specs.Lanes.{LaneStands};

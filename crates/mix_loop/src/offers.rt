@@ -64,7 +64,13 @@ impl<I: Inlet> Port<I> {
     }
 
     /// Offers what comes of the leg with this number, until a text is not taken, or nothing comes any more.
-    pub(crate) fn gather<R: Wait, M: MixerCalls>(&mut self, rt: &R, mixer: &mut M, leg: usize, now: u64)
+    pub(crate) fn gather<R: Wait, M: MixerCalls>(
+        &mut self,
+        rt: &R,
+        mixer: &mut M,
+        leg: usize,
+        now: u64,
+    )
         requires few { leg < 256 }
         requires leg { leg < M.legs mixer.old }
         requires sound { PortIsSound I.good leg self.old }

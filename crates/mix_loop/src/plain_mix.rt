@@ -7,7 +7,7 @@ ghost use Rattle.file_spec.specs.declared.limits.TheConstants.{MOST_LEGS};
 
 use crate::ports::{Port, ports_over};
 use crate::turns::mix_ports;
-use crate::{Inlet, MixerCalls, MixEnd, inlets_of};
+use crate::{Inlet, MixEnd, MixerCalls, inlets_of};
 use file_spec::LegLine;
 use rtt_base::NoMemory;
 use std::alloc::Global;

@@ -7,7 +7,7 @@ ghost use Rattle.mix_loop.specs.Calm.{IsCalmBefore};
 ghost use Rattle.mix_loop.specs.Items.{is_open};
 ghost use Rattle.mix_loop.specs.Ports.{AreNew, IsNew, counts, is_away, is_spent, is_to_leave, is_to_stop, seat_with};
 
-use crate::{TextsEnd, HasInlet, Inlet, Item};
+use crate::{HasInlet, Inlet, Item, TextsEnd};
 use file_spec::{LegLine, Stay};
 use rtt_base::Chunk;
 
@@ -150,7 +150,11 @@ fn end_of(stay: Stay) -> u64
 pub(crate) fn seat_with(listens: bool) -> SeatState
     ensures { result ≡ seat_with listens }
 {
-    if listens { SeatState::Listens } else { SeatState::Hushed }
+    if listens {
+        SeatState::Listens
+    } else {
+        SeatState::Hushed
+    }
 }
 
 impl SeatState {

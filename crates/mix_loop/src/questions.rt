@@ -7,10 +7,10 @@ ghost use Rattle.mix_loop.specs.Items.{goes_on};
 use crate::answers::Answer;
 use crate::inlets::Inlet;
 use crate::items::Item;
-use item_queue::Reusable;
 use rtt_base::{Chunk, NoMemory, Text};
 use std::alloc::Global;
 use std::sync::Wait;
+use workers::Reusable;
 
 impl<F> Reusable for Answer<F> {
     fn blank(alloc: Global) -> Result<Answer<F>, NoMemory> {

@@ -76,7 +76,12 @@ fn come_all<I: Inlet, M: MixerCalls>(ports: &mut [Port<I>], mixer: &mut M, now: 
 }
 
 /// Each leg offers what it can at the moment `now`, in leg order.
-fn gather_all<I: Inlet, M: MixerCalls, R: Wait>(rt: &R, ports: &mut [Port<I>], mixer: &mut M, now: u64)
+fn gather_all<I: Inlet, M: MixerCalls, R: Wait>(
+    rt: &R,
+    ports: &mut [Port<I>],
+    mixer: &mut M,
+    now: u64,
+)
     requires few { length ports.old ≤ MOST_LEGS }
     requires sound { AreSound I.good ports.old }
     requires legs { M.legs mixer.old ≡ length ports.old }
@@ -113,7 +118,12 @@ fn has_fault<I: Inlet>(ports: &[Port<I>]) -> bool
 }
 
 /// At the moment `now` legs go, legs come, and each offers what it can.
-fn move_all<I: Inlet, M: MixerCalls, R: Wait>(rt: &R, ports: &mut [Port<I>], mixer: &mut M, now: u64)
+fn move_all<I: Inlet, M: MixerCalls, R: Wait>(
+    rt: &R,
+    ports: &mut [Port<I>],
+    mixer: &mut M,
+    now: u64,
+)
     requires few { length ports.old ≤ MOST_LEGS }
     requires sound { AreSound I.good ports.old }
     requires legs { M.legs mixer.old ≡ length ports.old }

@@ -4,7 +4,7 @@ use Rattle.std.specs.Prelude.{◌==◌}
 use Rattle.stream_spec.specs.Own.{Sent}
 use Rattle.mixer_spec.specs.Setups.{Setup, stream}
 use Rattle.mixer_spec.specs.Table.{Call, TurnEntry, after_calls, sents}
-use Rattle.aware_output.specs.Speakers.{EachIsNext}
+use Rattle.packetizer.specs.Speakers.{EachIsNext}
 use Rattle.mixer_turn.specs.declared.batches.Post.{Post}
 use Rattle.mixer_turn.specs.States.{State}
 use Rattle.mixer_turn.specs.Standing.{MixerStandsFor}

@@ -9,9 +9,9 @@ use Rattle.file_spec.specs.Conference.{Conference}
 use Rattle.file_spec.specs.Kept.{Differ, IsConference, IsLeg}
 use Rattle.stream_spec.specs.Lists.{In}
 use Rattle.mixer_spec.specs.Setups.{generations_of, is_aware_leg, leg_at, setup, ssrc_of}
-use Rattle.aware_output.specs.declared.outputs.PacketizerSettings.{PacketizerSettings}
-use Rattle.aware_output.specs.Settings.{AreSettings}
-use Rattle.aware_output.specs.Speakers.{AreDistinct}
+use Rattle.packetizer.specs.declared.outputs.PacketizerSettings.{PacketizerSettings}
+use Rattle.packetizer.specs.OutputSettings.{AreSettings}
+use Rattle.packetizer.specs.Speakers.{AreDistinct}
 use Rattle.mixer_turn.specs.Making.{source_counts}
 use Rattle.mixer_posts.specs.Streams.{AreSourcesAt, AreSourcesOf, settings_at, payload_types_at, payload_types_of}
 

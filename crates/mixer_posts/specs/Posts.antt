@@ -4,7 +4,7 @@ use Rattle.rtt_base.specs.declared.text_packets.PayloadTypes.{PayloadTypes}
 use Rattle.stream_spec.specs.Own.{Sent}
 use Rattle.mixer_spec.specs.Setups.{Setup, stream}
 use Rattle.mixer_spec.specs.Table.{Call, Admit, Hush, Leave, Offer, Turn, after_calls}
-use Rattle.aware_output.specs.Speakers.{EachIsNext, text_of}
+use Rattle.packetizer.specs.Speakers.{EachIsNext, text_of}
 use Rattle.mixer_turn.specs.declared.batches.Post.{Post}
 use Rattle.mixer_turn.specs.Turns.{posts_at}
 use Rattle.mixer_posts.specs.Streams.{AreSourcesAt}

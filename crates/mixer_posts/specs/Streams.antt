@@ -4,7 +4,7 @@ use Rattle.rtt_base.specs.declared.text_packets.PayloadTypes.{PayloadTypes}
 use Rattle.file_spec.specs.declared.conference_lines.LegLine.{LegLine}
 use Rattle.file_spec.specs.Conference.{Conference}
 use Rattle.mixer_spec.specs.Setups.{Setup, leg_at}
-use Rattle.aware_output.specs.declared.outputs.PacketizerSettings.{PacketizerSettings}
+use Rattle.packetizer.specs.declared.outputs.PacketizerSettings.{PacketizerSettings}
 
 abbrev pub payload_types_of : Option LegLine → PayloadTypes
 payload_types_of None = record { t140 = 0; red = 0 }

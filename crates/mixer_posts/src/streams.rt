@@ -1,14 +1,14 @@
 //! The stream to each terminal of a conference, and its sources.
 ghost use Rattle.std.specs.Prelude.{◌≡◌, ◌<◌, IfOk, Some, length, map, slice_get};
 ghost use Rattle.mixer_spec.specs.Setups.{setup};
-ghost use Rattle.conference.specs.Conferences.{meaning_of};
-ghost use Rattle.aware_output.specs.Settings.{AreSettings};
-ghost use Rattle.aware_output.specs.Speakers.{AreDistinct};
+ghost use Rattle.file_spec.specs.Conferences.{meaning_of};
+ghost use Rattle.packetizer.specs.OutputSettings.{AreSettings};
+ghost use Rattle.packetizer.specs.Speakers.{AreDistinct};
 ghost use Rattle.mixer_turn.specs.Making.{source_counts};
 ghost use Rattle.mixer_posts.specs.Streams.{AreSourcesAt, settings_at, payload_types_at};
 
-use aware_output::PacketizerSettings;
-use conference::{Conference, LegLine};
+use file_spec::{Conference, LegLine};
+use packetizer::PacketizerSettings;
 use rtt_base::NoMemory;
 use std::alloc::Global;
 

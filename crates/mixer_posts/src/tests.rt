@@ -3,7 +3,7 @@ ghost use Rattle.std.specs.Prelude.{◌≡◌, IfOk};
 
 use crate::{PostSink, SendingMixer};
 use conf_text::{Form, read_conf};
-use conference::Conference;
+use file_spec::Conference;
 use link_io::Beat;
 use mix_loop::MixerCalls;
 use mixer_turn::{Batch, Mixer, Post};
@@ -26,7 +26,7 @@ struct Notes {
 impl PostSink for Notes {
     ghost use Rattle.std.proofs.Common.{rules};
     ghost use Rattle.std.specs.Prelude.{◌^◌, []};
-    ghost use Rattle.conference.specs.Conferences.{meaning_of};
+    ghost use Rattle.file_spec.specs.Conferences.{meaning_of};
     ghost use Rattle.mixer_turn.specs.Making.{source_counts};
 
     type Fault = NoMemory;
@@ -81,7 +81,11 @@ fn typed(rt: &impl Abort, alloc: Global, room: usize) -> Result<SendingMixer<Not
     };
     assert!(rt; mixer.offer(&chunk).is_ok());
     let sent = Vec::new(alloc);
-    let notes = Notes { conference, sent, room };
+    let notes = Notes {
+        conference,
+        sent,
+        room,
+    };
     Ok(SendingMixer::new(mixer, Batch::new(alloc)?, notes))
 }
 

@@ -27,9 +27,9 @@ use Rattle.file_spec.specs.Kept.{IsConference}
 use Rattle.file_spec.specs.Conference as line
 use Rattle.file_spec.specs.Services.{no_service}
 use Rattle.file_spec.specs.Conference.{Conference, conference_from, entry, leg_of, mixer_of, plan_of, stay_or_plan, time_or_other}
-use Rattle.text_spec.specs.Characters.{class_of}
-use Rattle.text_spec.specs.Ends.{ends_line, ends_sentence}
-use Rattle.text_spec.specs.Views.{label, label_after}
+use Rattle.view_spec.specs.Characters.{class_of}
+use Rattle.view_spec.specs.Ends.{ends_line, ends_sentence}
+use Rattle.view_spec.specs.TextViews.{label, label_after}
 use Rattle.mixer_spec.specs.Setups.{AllStay, setup, stream}
 use Rattle.mixer_spec.specs.Table.{Call, Admit, Hush, Leave, Offer, Turn, Taken, Table, after_calls, chunks_taken, is_due, last_media, packets, sent_from}
 use Rattle.mixer_spec.specs.Core.{Core, Event, Enter, Push, Take, after, turns_in}

@@ -4,9 +4,9 @@ use Rattle.std.specs.Prelude.{◌==◌, ◌&&◌, ◌||◌, not, if◌then◌els
 use Rattle.std.specs.List.{list_any}
 use Rattle.std.proofs.lemmas.Bool.{cases_Bool, eqb-true, or_cases, or_parts, true≢false}
 use Rattle.std.proofs.lemmas.List.Folds.{list_any-append}
-use Rattle.text_spec.specs.declared.classes.CharClass.TheVariants.{Print}
-use Rattle.text_spec.specs.Characters.{class_of, is_open_after, is_print, opens}
-use Rattle.text_spec.specs.Views.{is_bracket, is_direction, label_after, without_directions}
+use Rattle.view_spec.specs.declared.classes.CharClass.TheVariants.{Print}
+use Rattle.view_spec.specs.Characters.{class_of, is_open_after, is_print, opens}
+use Rattle.view_spec.specs.TextViews.{is_bracket, is_direction, label_after, without_directions}
 use Rattle.stream_spec.specs.Ready.{Chunk}
 use Rattle.mixer_spec.specs.Chunks.{joined, has_chunk, front}
 use Rattle.std.specs.Prelude.{chars}

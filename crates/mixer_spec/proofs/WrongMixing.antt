@@ -4,9 +4,9 @@ use Rattle.std.proofs.Common.{◌≡◌, ℕ, zero, suc, ◌+◌, ◌*◌, Bool,
 use Rattle.std.specs.Prelude.{codes, not, replicate, ◌==◌, ◌&&◌, ◌||◌, nat_le, if◌then◌else◌}
 use Rattle.std.specs.Str.{chars}
 use Rattle.std.specs.Char.{encode_utf8}
-use Rattle.text_spec.specs.Characters.{class_of}
-use Rattle.text_spec.specs.Ends.{ends_line, ends_sentence}
-use Rattle.text_spec.specs.Views.{label, label_after}
+use Rattle.view_spec.specs.Characters.{class_of}
+use Rattle.view_spec.specs.Ends.{ends_line, ends_sentence}
+use Rattle.view_spec.specs.TextViews.{label, label_after}
 use Rattle.stream_spec.specs.Ready.{Chunk, chunk}
 use Rattle.mixer_spec.specs.Chunks.{has_chunk}
 use Rattle.mixer_spec.specs.Rounds.{all_below, set_at}

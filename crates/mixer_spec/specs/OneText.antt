@@ -1,8 +1,8 @@
 -- What the laws say of a terminal that is not aware: its texts are those that its composer gives, and labels are the mixer's.
 use Rattle.std.specs.Prelude.{◌≡◌, ℕ, ◌<◌, Bool, true, false, ◌⊎◌, Option, None, Some, List, [], ◌∷◌, ◌++◌, encode_utf8_all}
 use Rattle.std.specs.List.{list_any}
-use Rattle.text_spec.specs.Characters.{is_open_after}
-use Rattle.text_spec.specs.Views.{is_bracket, is_direction, label_after}
+use Rattle.view_spec.specs.Characters.{is_open_after}
+use Rattle.view_spec.specs.TextViews.{is_bracket, is_direction, label_after}
 use Rattle.mixer_spec.specs.Composed.{Answer, Asked, from_seen, is_seen, labelled, written}
 use Rattle.stream_spec.specs.Ready.{Chunk}
 use Rattle.mixer_spec.specs.Setups.{Setup, IsAnother}

@@ -10,12 +10,12 @@ use Rattle.mixer_spec.specs.Rounds.{set_at}
 use Rattle.mixer_spec.specs.Table.{Call, Admit, Hush, Leave, Offer, Table, Terminal, is_given, has_room, give, given, free_place, come_to, admitted, hushed, freed, may_leave, after_calls}
 use Rattle.mixer_spec.specs.Calls.{turns_made}
 use Rattle.mixer_spec.proofs.Seats.{none_of}
-use Rattle.slot_table.specs.Lanes.{Waiting}
-use Rattle.slot_table.specs.Words.{listening, NoneWaits}
-use Rattle.slot_table.specs.Standing as slots
-use Rattle.slot_table.proofs.Sources.{stands_same}
-use Rattle.seating.specs.States as seats
-use Rattle.seating.specs.Standing as seatings
+use Rattle.mixer_places.specs.Lanes.{Waiting}
+use Rattle.mixer_places.specs.Words.{listening, NoneWaits}
+use Rattle.mixer_places.specs.SlotStanding as slots
+use Rattle.mixer_places.proofs.Sources.{stands_same}
+use Rattle.mixer_places.specs.States as seats
+use Rattle.mixer_places.specs.SeatStanding as seatings
 use Rattle.outlet.specs.declared.schedulers.TerminalScheduler.{TerminalScheduler}
 use Rattle.outlet.specs.Schedulers as schedulers
 use Rattle.mixer_turn.specs.Allowed.{AreAllowed}

@@ -7,10 +7,10 @@ use Rattle.std.proofs.lemmas.List.Elements.{All-nil}
 use Rattle.std.proofs.lemmas.Option.{slice_get_within}
 use Rattle.mixer_spec.specs.Setups.{Setup}
 use Rattle.mixer_spec.specs.Table.{Table, turn_at, turned_to}
-use Rattle.slot_table.specs.Lanes.{Waiting}
-use Rattle.slot_table.specs.Standing as slots
-use Rattle.slot_table.proofs.Lists.{get_read, get_set_same}
-use Rattle.seating.specs.States as seating
+use Rattle.mixer_places.specs.Lanes.{Waiting}
+use Rattle.mixer_places.specs.SlotStanding as slots
+use Rattle.mixer_places.proofs.Lists.{get_read, get_set_same}
+use Rattle.mixer_places.specs.States as seating
 use Rattle.outlet.specs.declared.schedulers.TerminalScheduler.{TerminalScheduler}
 use Rattle.outlet.specs.Schedulers as schedulers
 use Rattle.outlet.specs.Schedulers.{SameLeg, next_turn, sources_of}

@@ -11,18 +11,18 @@ use Rattle.outlet.specs.AwareStanding.{IsMadeFor}
 use Rattle.outlet.specs.declared.schedulers.TerminalScheduler.{TerminalScheduler}
 use Rattle.outlet.specs.Schedulers.{StandsNew, own_of, legs_of, next_turn, sources_of}
 use Rattle.rtt_base.specs.declared.errors.NoMemory.{NoMemory}
-use Rattle.conference.specs.Speakers.{AreNamed}
+use Rattle.file_spec.specs.Speakers.{AreNamed}
 use Rattle.mixer_turn.specs.Making.{IsMade}
 use Rattle.mixer_turn.proofs.Counting.{get_map}
 use Rattle.mixer_spec.specs.Rounds.{set_at}
 use Rattle.mixer_spec.proofs.Lists.{set_same, set_other}
 use Rattle.mixer_spec.specs.Setups.{Setup, leg_at, is_aware_leg, name_of, generations_of, setup}
 use Rattle.mixer_spec.specs.Table.{Table, empty, no_seats, is_given}
-use Rattle.slot_table.specs.Lanes.{Waiting}
-use Rattle.slot_table.specs.Words.{all_listen, listening}
-use Rattle.slot_table.specs.Standing.{SourceStands, SlotsStandFor}
-use Rattle.slot_table.proofs.Holding.{part_same}
-use Rattle.slot_table.proofs.Sources.{stands_same, get_push}
+use Rattle.mixer_places.specs.Lanes.{Waiting}
+use Rattle.mixer_places.specs.Words.{all_listen, listening}
+use Rattle.mixer_places.specs.SlotStanding.{SourceStands, SlotsStandFor}
+use Rattle.mixer_places.proofs.Holding.{part_same}
+use Rattle.mixer_places.proofs.Sources.{stands_same, get_push}
 
 -- ---- nobody listens
 -- the legs from n on listen

@@ -1,7 +1,7 @@
 -- What was sent to each terminal could be sent, each after what was sent before it.
 use Rattle.std.proofs.Common.{◌≡◌, ℕ, zero, suc, ◌<◌, Some, List, [], ◌∷◌, length, refl, arith}
 use Rattle.std.specs.Prelude.{slice_get}
-use Rattle.aware_output.specs.Speakers.{EachIsNext}
+use Rattle.packetizer.specs.Speakers.{EachIsNext}
 use Rattle.mixer_spec.specs.Setups.{Setup, stream}
 use Rattle.mixer_spec.specs.Table.{Call, Terminal, sents, after_calls}
 use Rattle.outlet.specs.declared.schedulers.TerminalScheduler.{TerminalScheduler}

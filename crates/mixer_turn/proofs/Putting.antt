@@ -6,10 +6,10 @@ use Rattle.std.proofs.lemmas.List.{take_more_set, take-set, length-take, length-
 use Rattle.mixer_spec.specs.Setups.{Setup, stream}
 use Rattle.mixer_spec.specs.Table.{Terminal, Seats, Table, is_seated, turn_at}
 use Rattle.mixer_spec.specs.Laws.{AreTexts}
-use Rattle.slot_table.specs.Lanes.{Waiting}
-use Rattle.slot_table.proofs.Lists.{get_set_same, get_read}
-use Rattle.seating.specs.States as seating
-use Rattle.seating.specs.Standing as seatings
+use Rattle.mixer_places.specs.Lanes.{Waiting}
+use Rattle.mixer_places.proofs.Lists.{get_set_same, get_read}
+use Rattle.mixer_places.specs.States as seating
+use Rattle.mixer_places.specs.SeatStanding as seatings
 use Rattle.outlet.specs.declared.schedulers.TerminalScheduler.{TerminalScheduler}
 use Rattle.outlet.specs.Turns.{SendsNext}
 use Rattle.outlet.specs.Schedulers as schedulers

@@ -5,13 +5,13 @@ use Rattle.std.proofs.lemmas.Bool.{cases_lt}
 use Rattle.mixer_spec.specs.Setups.{Setup}
 use Rattle.mixer_spec.specs.Table.{TurnEntry, Terminal, Table, is_seated, turn_at, turned_to}
 use Rattle.mixer_spec.proofs.Lists.{nil}
-use Rattle.slot_table.specs.Lanes.{Waiting}
-use Rattle.slot_table.specs.Standing as slots
-use Rattle.slot_table.proofs.Sources.{stands_same}
-use Rattle.seating.specs.declared.seats.Seat.{Seat}
-use Rattle.seating.specs.Places.{has_place, place_on}
-use Rattle.seating.specs.States as seating
-use Rattle.seating.specs.Standing as seatings
+use Rattle.mixer_places.specs.Lanes.{Waiting}
+use Rattle.mixer_places.specs.SlotStanding as slots
+use Rattle.mixer_places.proofs.Sources.{stands_same}
+use Rattle.mixer_places.specs.declared.seats.Seat.{Seat}
+use Rattle.mixer_places.specs.Places.{has_place, place_on}
+use Rattle.mixer_places.specs.States as seating
+use Rattle.mixer_places.specs.SeatStanding as seatings
 use Rattle.outlet.specs.declared.schedulers.TerminalScheduler.{TerminalScheduler}
 use Rattle.outlet.specs.Schedulers as schedulers
 use Rattle.outlet.specs.Turns.{new_entry}

@@ -4,7 +4,7 @@ use Rattle.std.specs.Prelude.{is_some, nat_le, IfSome}
 use Rattle.std.proofs.lemmas.Bool.{cases_lt, eq-eqb}
 use Rattle.stream_spec.specs.Own.{Sent, sent_of, has_text_in, nth}
 use Rattle.stream_spec.specs.Typed.{longest_step}
-use Rattle.aware_output.specs.Speakers.{IsNext}
+use Rattle.packetizer.specs.Speakers.{IsNext}
 use Rattle.mixer_spec.specs.Setups.{Setup, IsSetup, gap, stream}
 use Rattle.mixer_spec.specs.Table.{Call, TurnEntry, Terminal, Seats, Table, sents, last_media, is_seated, next_media, turn_aware, turn_unaware, turn_at, turned, after_calls}
 use Rattle.mixer_spec.specs.Core.{turns_in}

@@ -3,7 +3,7 @@ use Rattle.std.proofs.Common.{◌≡◌, ℕ, suc, ◌+◌, ◌*◌, ◌^◌, �
 use Rattle.mixer_spec.specs.Setups.{Setup}
 use Rattle.mixer_spec.specs.Table.{Call, Turn, next_media, turned_to, after_calls}
 use Rattle.mixer_spec.specs.Calls.{turns_made}
-use Rattle.slot_table.specs.Lanes.{Waiting}
+use Rattle.mixer_places.specs.Lanes.{Waiting}
 use Rattle.outlet.specs.declared.schedulers.TerminalScheduler.{TerminalScheduler}
 use Rattle.mixer_turn.specs.declared.batches.Post.{Post}
 use Rattle.mixer_turn.specs.Allowed.{MayTurn}

@@ -5,9 +5,9 @@ use Rattle.std.proofs.lemmas.Bool.{cases_eq}
 use Rattle.mixer_spec.specs.Setups.{Setup}
 use Rattle.mixer_spec.specs.Table.{TurnEntry, Terminal, Seats, Taken, Table, is_seated, turn_aware, turn_unaware, turn_at, turned_to}
 use Rattle.mixer_spec.proofs.Lists.{nil, set_same, set_other}
-use Rattle.slot_table.specs.Lanes.{Waiting}
-use Rattle.slot_table.specs.Standing as slots
-use Rattle.slot_table.proofs.Sources.{stands_same}
+use Rattle.mixer_places.specs.Lanes.{Waiting}
+use Rattle.mixer_places.specs.SlotStanding as slots
+use Rattle.mixer_places.proofs.Sources.{stands_same}
 use Rattle.outlet.specs.Turns.{Puts, new_entry, number_of, with_terminal}
 use Rattle.mixer_turn.specs.declared.batches.Post.{Post}
 use Rattle.mixer_turn.specs.Turns.{AreHeld, turned_below, post_of, posts_between, batch_with, Reaches}

@@ -15,7 +15,7 @@ use Rattle.mixer_spec.proofs.Kept.{answer_front, core_kept}
 use Rattle.mixer_spec.proofs.Parts.{part_law}
 use Rattle.mixer_spec.proofs.Seats.{leave_with}
 use Rattle.mixer_spec.proofs.Turns.{next_is}
-use Rattle.slot_table.specs.Words.{NoneWaits}
+use Rattle.mixer_places.specs.Words.{NoneWaits}
 use Rattle.unaware_view.specs.Standing.{least_ask}
 use Rattle.mixer_turn.specs.Allowed.{AreAllowed}
 use Rattle.mixer_turn.proofs.Allowing.{events_law, good_taken}

@@ -2,7 +2,7 @@
 use Rattle.std.proofs.Common.{◌≡◌, ℕ, ◌+◌, inl, inr, Some, List, length-set, set, refl, ap, subst, sym, ◌∙◌, arith}
 use Rattle.std.specs.Prelude.{slice_get}
 use Rattle.std.proofs.lemmas.Bool.{cases_eq}
-use Rattle.slot_table.proofs.Lists.{get_set_same}
+use Rattle.mixer_places.proofs.Lists.{get_set_same}
 use Rattle.outlet.specs.declared.schedulers.TerminalScheduler.{TerminalScheduler}
 use Rattle.mixer_turn.specs.Waking.{IsWoken, AreWokenBelow}
 use Rattle.mixer_spec.proofs.Lists.{get_set_other}

@@ -1,7 +1,7 @@
 -- Terminals at which a turn changes nothing.
 use Rattle.std.specs.Prelude.{◌≡◌, ℕ, true, Some, List, slice_get}
-use Rattle.seating.specs.States.{State}
-use Rattle.seating.specs.Places.{has_place}
+use Rattle.mixer_places.specs.States.{State}
+use Rattle.mixer_places.specs.Places.{has_place}
 use Rattle.outlet.specs.declared.schedulers.TerminalScheduler.{TerminalScheduler}
 use Rattle.outlet.specs.Schedulers.{IsCalmBefore}
 

@@ -9,7 +9,7 @@ use Rattle.mixer_spec.specs.Setups.{IsSetup, Setup, gap, other_places, stream}
 use Rattle.mixer_spec.specs.Table.{Call, Table, Terminal, Turn, after_calls, history_to, is_due, is_idle, is_seated, last_media, next_media, packets, rank, sent_from, shared, turn_at, turn_aware, turn_unaware}
 use Rattle.mixer_spec.specs.Calls.{AreEvents, took, turns_made}
 use Rattle.mixer_spec.specs.Laws.{AreShort, AreTexts, IsComposed, IsWaiting, Part, Tight, carried, chunks_given, count_of, texts_given, texts_sent}
-use Rattle.slot_table.specs.Words.{NoneWaits}
+use Rattle.mixer_places.specs.Words.{NoneWaits}
 use Rattle.unaware_view.specs.Standing.{least_ask}
 use Rattle.outlet.specs.Turns.{SendsNext}
 use Rattle.mixer_turn.specs.Allowed.{AreAllowed, MayTurn}

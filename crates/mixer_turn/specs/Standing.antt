@@ -3,8 +3,8 @@ use Rattle.std.specs.Prelude.{◌≡◌, ℕ, ◌<◌, ◌≤◌, Some, List, []
 use Rattle.mixer_spec.specs.Setups.{Setup, IsSetup, gap}
 use Rattle.mixer_spec.specs.Table.{Table, Terminal, Call, after_calls}
 use Rattle.mixer_spec.specs.Calls.{turns_made}
-use Rattle.slot_table.specs.Standing as slots
-use Rattle.seating.specs.Standing as seatings
+use Rattle.mixer_places.specs.SlotStanding as slots
+use Rattle.mixer_places.specs.SeatStanding as seatings
 use Rattle.outlet.specs.declared.schedulers.TerminalScheduler.{TerminalScheduler}
 use Rattle.outlet.specs.Schedulers as schedulers
 use Rattle.mixer_turn.specs.Allowed.{AreAllowed}

@@ -1,7 +1,7 @@
 -- What is known of a mixer.
 use Rattle.std.specs.Prelude.{ℕ, ◌+◌, Option, None, Some, List, length, map}
-use Rattle.slot_table.specs.Lanes.{Waiting}
-use Rattle.seating.specs.States as seatings
+use Rattle.mixer_places.specs.Lanes.{Waiting}
+use Rattle.mixer_places.specs.States as seatings
 use Rattle.outlet.specs.declared.schedulers.TerminalScheduler.{TerminalScheduler}
 use Rattle.outlet.specs.Schedulers as schedulers
 

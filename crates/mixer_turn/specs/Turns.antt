@@ -3,10 +3,10 @@ use Rattle.std.specs.Prelude.{◌≡◌, ℕ, zero, suc, ◌<◌, ◌≤◌, Opt
 use Rattle.mixer_spec.specs.Setups.{Setup, stream}
 use Rattle.mixer_spec.specs.Table.{Call, Seats, Table, TurnEntry, turn_at, turned, turned_to, after_calls}
 use Rattle.mixer_spec.specs.Laws.{AreTexts}
-use Rattle.slot_table.specs.Lanes.{Waiting}
-use Rattle.slot_table.specs.Standing as slots
-use Rattle.seating.specs.States as seating
-use Rattle.seating.specs.Standing as seatings
+use Rattle.mixer_places.specs.Lanes.{Waiting}
+use Rattle.mixer_places.specs.SlotStanding as slots
+use Rattle.mixer_places.specs.States as seating
+use Rattle.mixer_places.specs.SeatStanding as seatings
 use Rattle.outlet.specs.declared.schedulers.TerminalScheduler.{TerminalScheduler}
 use Rattle.outlet.specs.Turns.{SendsNext, new_entry, number_of, with_terminal}
 use Rattle.outlet.specs.Schedulers as schedulers

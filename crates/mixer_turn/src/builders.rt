@@ -2,15 +2,15 @@
 ghost use Rattle.std.specs.Prelude.{◌≡◌, ◌<◌, IfOk, length, map};
 ghost use Rattle.mixer_spec.specs.Setups.{Setup, setup};
 ghost use Rattle.mixer_spec.specs.Table.{empty};
-ghost use Rattle.slot_table.specs.Standing as slots;
-ghost use Rattle.conference.specs.Conferences.{meaning_of};
-ghost use Rattle.conference.specs.Speakers.{AreNamed};
+ghost use Rattle.mixer_places.specs.SlotStanding as slots;
+ghost use Rattle.file_spec.specs.Conferences.{meaning_of};
+ghost use Rattle.file_spec.specs.Speakers.{AreNamed};
 ghost use Rattle.mixer_turn.specs.Making.{AreMade, IsMade};
 
-use conference::{Conference, LegLine, name_of};
+use file_spec::{Conference, LegLine, name_of};
+use mixer_places::Slots;
 use outlet::TerminalScheduler;
 use rtt_base::{Name, NoMemory};
-use slot_table::Slots;
 use std::alloc::Global;
 
 /// The name of each leg.
@@ -38,7 +38,11 @@ pub fn silent_slots(alloc: Global, legs: usize) -> Result<Slots, NoMemory>
 }
 
 /// The outlet of the terminal of the leg with this number.
-fn scheduler_of(alloc: Global, conference: &Conference, own: usize) -> Result<TerminalScheduler, NoMemory>
+fn scheduler_of(
+    alloc: Global,
+    conference: &Conference,
+    own: usize,
+) -> Result<TerminalScheduler, NoMemory>
     requires { own < length conference.now.legs }
     ensures { IfOk result (λ o. IsMade (meaning_of conference.now) own o) }
 {
@@ -55,7 +59,10 @@ fn scheduler_of(alloc: Global, conference: &Conference, own: usize) -> Result<Te
 }
 
 /// The outlet of each leg's terminal.
-pub fn schedulers_of(alloc: Global, conference: &Conference) -> Result<Vec<TerminalScheduler>, NoMemory>
+pub fn schedulers_of(
+    alloc: Global,
+    conference: &Conference,
+) -> Result<Vec<TerminalScheduler>, NoMemory>
     ensures { IfOk result (λ v. AreMade (meaning_of conference.now) v.items) }
 {
     let mut schedulers = Vec::with_capacity(alloc, conference.legs.len())?;

@@ -1,6 +1,6 @@
 //! Turns in which nothing can happen.
 ghost use Rattle.std.specs.Prelude.{◌≡◌, ◌+◌, ◌<◌, true, Some, length, map, slice_get};
-ghost use Rattle.seating.specs.Places.{has_place};
+ghost use Rattle.mixer_places.specs.Places.{has_place};
 ghost use Rattle.outlet.specs.declared.schedulers.TerminalScheduler.{TerminalScheduler};
 ghost use Rattle.outlet.specs.Schedulers.{IsCalmBefore, sources_of};
 ghost use Rattle.mixer_turn.specs.Calm.{AreCalmBefore};
@@ -10,10 +10,9 @@ ghost use Rattle.rtt_base.specs.declared.limits.TheConstants.{END_OF_MOMENTS};
 
 use crate::batches::Batch;
 use crate::turns::turn_legs;
+use mixer_places::{SeatingPlan, Slots};
 use outlet::TerminalScheduler;
 use rtt_base::Name;
-use seating::SeatingPlan;
-use slot_table::Slots;
 
 /// Before this media time, in milliseconds, a turn changes nothing at the terminal of this leg, if no text comes: all times are
 /// before it where the leg holds no place.

@@ -2,10 +2,10 @@
 #![tactic(auto)]
 
 mod batches;
+mod builders;
 mod calm;
 mod laws;
 mod looks;
-mod builders;
 mod mixers;
 mod turns;
 mod wakes;

@@ -5,8 +5,8 @@ ghost use Rattle.mixer_spec.specs.Table.{is_done, is_quiet};
 ghost use Rattle.outlet.specs.Schedulers.{OfTerminals, legs_of};
 ghost use Rattle.mixer_turn.specs.Looks.{AreAll, OfTables, is_free_of};
 
+use mixer_places::Slots;
 use outlet::TerminalScheduler;
-use slot_table::Slots;
 
 /// Whether nothing waits at any terminal, and no text is still to be repeated.
 pub fn are_quiet(schedulers: &[TerminalScheduler], slots: &Slots) -> bool

@@ -3,22 +3,21 @@ ghost use Rattle.std.specs.Prelude.{◌≡◌, ◌+◌, ◌^◌, ◌<◌, ◌↔
 ghost use Rattle.stream_spec.specs.Ready.{chunk_of};
 ghost use Rattle.mixer_spec.specs.Setups.{setup};
 ghost use Rattle.mixer_spec.specs.Table.{Admit, Hush, Leave, Offer, Turn, free_place, has_room, is_idle, may_leave};
-ghost use Rattle.conference.specs.Conferences.{meaning_of};
+ghost use Rattle.file_spec.specs.Conferences.{meaning_of};
 ghost use Rattle.mixer_turn.specs.Making.{source_counts};
 ghost use Rattle.mixer_turn.specs.States.{State};
 ghost use Rattle.mixer_turn.specs.Insides.{state_of, IsMixer};
 
 use crate::batches::Batch;
+use crate::builders::{names_of, schedulers_of, silent_slots};
 use crate::calm::turn_from;
 use crate::looks::{are_quiet, is_done};
-use crate::builders::{names_of, schedulers_of, silent_slots};
 use crate::turns::next_media;
 use crate::wakes::wake;
-use conference::Conference;
+use file_spec::Conference;
+use mixer_places::{SeatingPlan, Slots};
 use outlet::TerminalScheduler;
 use rtt_base::{Chunk, Full, Name, NoMemory};
-use seating::SeatingPlan;
-use slot_table::Slots;
 use std::alloc::Global;
 use std::marker::Model;
 

@@ -3,18 +3,17 @@ ghost use Rattle.std.specs.Prelude.{◌≡◌, ℕ, ◌+◌, ◌^◌, ◌<◌, �
 ghost use Rattle.mixer_spec.specs.Rounds.{count_below};
 ghost use Rattle.mixer_spec.specs.Setups.{Setup};
 ghost use Rattle.mixer_spec.specs.Table.{Table, next_media};
-ghost use Rattle.seating.specs.Places.{has_place};
+ghost use Rattle.mixer_places.specs.Places.{has_place};
 ghost use Rattle.outlet.specs.Schedulers.{IsTurned, OfTurns, SameLeg, legs_of, next_turn, sources_of};
 ghost use Rattle.mixer_turn.specs.Posts.{ArePosts, KeepsPosts};
 ghost use Rattle.mixer_turn.specs.Turns.{AreSchedulersOf, IsPut, LegMayTurn, LegTurned, OfMixers, Reaches, AllTurned};
 ghost use Rattle.rtt_base.specs.declared.limits.TheConstants.{END_OF_MOMENTS};
 
 use crate::batches::{Batch, Post};
+use mixer_places::{SeatingPlan, Slots};
 use mixer_spec::limits::PLACES;
 use outlet::TerminalScheduler;
 use rtt_base::Name;
-use seating::SeatingPlan;
-use slot_table::Slots;
 
 /// The most that media time rises by in a turn, in milliseconds (profile).
 const STEP: u64 = 200;

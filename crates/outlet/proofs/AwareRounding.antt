@@ -6,8 +6,8 @@ use Rattle.std.proofs.lemmas.Bool.{cases_eq, ne_eqb}
 use Rattle.mixer_spec.specs.Rounds.{first_from, first_round}
 use Rattle.mixer_spec.specs.Setups.{Setup}
 use Rattle.mixer_spec.specs.Table.{Terminal, Table}
-use Rattle.slot_table.specs.Lanes.{Waiting}
-use Rattle.slot_table.proofs.Sources.{stands_same}
+use Rattle.mixer_places.specs.Lanes.{Waiting}
+use Rattle.mixer_places.proofs.Sources.{stands_same}
 use Rattle.outlet.specs.Turns.{with_terminal}
 use Rattle.outlet.proofs.Putting.{puts_none}
 use Rattle.outlet.specs.AwareStates.{AwareState}

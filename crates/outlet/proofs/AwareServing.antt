@@ -9,11 +9,11 @@ use Rattle.stream_spec.specs.Own.{Sent, sent_of}
 use Rattle.mixer_spec.specs.Chunks.{front}
 use Rattle.mixer_spec.specs.Setups.{Setup, stream}
 use Rattle.mixer_spec.specs.Table.{Terminal, Table, sents, last_media, serve_leg}
-use Rattle.aware_output.specs.Speakers.{IsNext}
-use Rattle.slot_table.specs.Lanes.{Waiting}
-use Rattle.slot_table.specs.Words.{take_front, fetched}
-use Rattle.slot_table.specs.Standing as slots
-use Rattle.slot_table.proofs.Sources.{stands_same}
+use Rattle.packetizer.specs.Speakers.{IsNext}
+use Rattle.mixer_places.specs.Lanes.{Waiting}
+use Rattle.mixer_places.specs.Words.{take_front, fetched}
+use Rattle.mixer_places.specs.SlotStanding as slots
+use Rattle.mixer_places.proofs.Sources.{stands_same}
 use Rattle.outlet.specs.Turns.{free_after, repeats_left, with_terminal}
 use Rattle.outlet.proofs.Putting.{puts_one}
 use Rattle.outlet.specs.AwareStates.{AwareState}

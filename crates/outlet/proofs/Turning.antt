@@ -2,9 +2,9 @@
 use Rattle.std.proofs.Common.{◌≡◌, ◌<◌, ℕ, Bool, true, false, cond, Option, None, List, refl, ap, subst, sym, ◌∙◌}
 use Rattle.mixer_spec.specs.Setups.{Setup, stream}
 use Rattle.mixer_spec.specs.Table.{Seats, Terminal, Table, is_seated, serve, served, turn_at, turn_aware, turn_unaware}
-use Rattle.slot_table.specs.Lanes.{Waiting}
-use Rattle.slot_table.specs.Standing as slots
-use Rattle.seating.specs.States.{State}
+use Rattle.mixer_places.specs.Lanes.{Waiting}
+use Rattle.mixer_places.specs.SlotStanding as slots
+use Rattle.mixer_places.specs.States.{State}
 use Rattle.outlet.specs.declared.schedulers.TerminalScheduler.TheVariants.{Aware, Unaware}
 use Rattle.outlet.specs.Turns.{Puts, SendsNext, new_entry, with_terminal}
 use Rattle.outlet.specs.AwareStates.{AwareState}

@@ -6,8 +6,8 @@ use Rattle.mixer_spec.specs.Composed.{Answer, Asked, text_given, waits_here}
 use Rattle.mixer_spec.specs.Setups.{Setup}
 use Rattle.mixer_spec.specs.Table.{Table}
 use Rattle.mixer_spec.proofs.Done.{below_all}
-use Rattle.slot_table.specs.Lanes.{Waiting}
-use Rattle.slot_table.specs.Standing as slots
+use Rattle.mixer_places.specs.Lanes.{Waiting}
+use Rattle.mixer_places.specs.SlotStanding as slots
 use Rattle.unaware_view.specs.States.{State as ComposerState}
 use Rattle.unaware_view.specs.Standing as composers
 use Rattle.unaware_view.specs.Standing.{NoneWaits, answered, asked_now, given_now}

@@ -11,10 +11,10 @@ use Rattle.mixer_spec.specs.Laws.{AreTexts}
 use Rattle.mixer_spec.specs.Setups.{Setup, stream}
 use Rattle.mixer_spec.specs.Composed.{waits_here, Answer, Asked, text_given, answer}
 use Rattle.mixer_spec.specs.Table.{TurnEntry, Terminal, Table, sents, sent_from, last_media, is_spaced, is_asked, answer_at, asked_at, repeated, compose}
-use Rattle.aware_output.specs.Speakers.{EachIsNext, IsNext}
-use Rattle.slot_table.specs.Lanes.{Waiting}
-use Rattle.slot_table.specs.Standing as slots
-use Rattle.slot_table.proofs.Sources.{stands_same}
+use Rattle.packetizer.specs.Speakers.{EachIsNext, IsNext}
+use Rattle.mixer_places.specs.Lanes.{Waiting}
+use Rattle.mixer_places.specs.SlotStanding as slots
+use Rattle.mixer_places.proofs.Sources.{stands_same}
 use Rattle.unaware_view.specs.Standing as composers
 use Rattle.unaware_view.specs.Standing.{NoneWaits, IsAsked, left_after, answered, asked_now, given_now}
 use Rattle.outlet.specs.Turns.{Puts, SendsNext, free_after, new_entry, repeats_left, with_terminal}

@@ -2,9 +2,9 @@
 use Rattle.std.specs.Prelude.{ℕ, Option, Some, List}
 use Rattle.mixer_spec.specs.Setups.{Setup, stream}
 use Rattle.mixer_spec.specs.Table.{Terminal, Table, serve, turn_aware}
-use Rattle.slot_table.specs.Lanes.{Waiting}
-use Rattle.seating.specs.States.{State}
-use Rattle.seating.specs.Standing as seatings
+use Rattle.mixer_places.specs.Lanes.{Waiting}
+use Rattle.mixer_places.specs.States.{State}
+use Rattle.mixer_places.specs.SeatStanding as seatings
 use Rattle.outlet.specs.Turns.{SendsNext}
 use Rattle.outlet.specs.AwareStates.{AwareState}
 use Rattle.outlet.specs.AwareTurns.{IsIn, IsTurned}

@@ -2,7 +2,7 @@
 use Rattle.std.specs.Prelude.{◌≡◌, ℕ, ◌<◌, false, [], length, slice_index}
 use Rattle.mixer_spec.specs.Setups.{Setup, IsSetup, stream}
 use Rattle.mixer_spec.specs.Table.{Terminal, sents, sent_from, last_media, round_start, is_due}
-use Rattle.aware_output.specs.Speakers.{EachIsNext}
+use Rattle.packetizer.specs.Speakers.{EachIsNext}
 use Rattle.outlet.specs.Turns.{free_after, repeats_left}
 use Rattle.outlet.specs.AwareStates.{AwareState}
 use Rattle.mixer_spec.specs.declared.limits.TheConstants.{PLACES}

@@ -6,9 +6,9 @@ use Rattle.stream_spec.specs.Ready.{Chunk}
 use Rattle.mixer_spec.specs.Chunks.{joined, front}
 use Rattle.mixer_spec.specs.Setups.{Setup, stream}
 use Rattle.mixer_spec.specs.Table.{Seats, Terminal, Table, is_spaced, last_media, sent_from, sents, serve_leg, served}
-use Rattle.aware_output.specs.Speakers.{IsNext}
-use Rattle.slot_table.specs.Lanes.{Waiting}
-use Rattle.slot_table.specs.Standing as slots
+use Rattle.packetizer.specs.Speakers.{IsNext}
+use Rattle.mixer_places.specs.Lanes.{Waiting}
+use Rattle.mixer_places.specs.SlotStanding as slots
 use Rattle.outlet.specs.Turns.{Puts, new_entry, with_terminal}
 use Rattle.outlet.specs.AwareStates.{AwareState}
 use Rattle.outlet.specs.AwareStanding.{AwareStandsFor}

@@ -4,10 +4,10 @@ use Rattle.stream_spec.specs.Ready.{Chunk}
 use Rattle.mixer_spec.specs.Setups.{Setup, stream}
 use Rattle.mixer_spec.specs.Laws.{AreTexts}
 use Rattle.mixer_spec.specs.Table.{Seats, Terminal, Table, empty, is_seated, turn_at}
-use Rattle.slot_table.specs.Lanes.{Waiting}
-use Rattle.slot_table.specs.Standing as slots
-use Rattle.seating.specs.States.{State}
-use Rattle.seating.specs.Standing as seatings
+use Rattle.mixer_places.specs.Lanes.{Waiting}
+use Rattle.mixer_places.specs.SlotStanding as slots
+use Rattle.mixer_places.specs.States.{State}
+use Rattle.mixer_places.specs.SeatStanding as seatings
 use Rattle.unaware_view.specs.Standing.{name_at}
 use Rattle.outlet.specs.declared.schedulers.TerminalScheduler.{TerminalScheduler}
 use Rattle.outlet.specs.declared.schedulers.TerminalScheduler.TheVariants.{Aware, Unaware}

@@ -4,7 +4,7 @@ use Rattle.wire_spec.specs.Packets.{has_text}
 use Rattle.stream_spec.specs.Own.{Sent, Stream}
 use Rattle.mixer_spec.specs.Rounds.{set_at}
 use Rattle.mixer_spec.specs.Table.{TurnEntry, Terminal, Table, sents}
-use Rattle.aware_output.specs.Speakers.{IsNext}
+use Rattle.packetizer.specs.Speakers.{IsNext}
 
 -- what was sent between these two, if anything was, may be sent
 abbrev pub SendsNext : Stream → List TurnEntry → List TurnEntry → Type 0

@@ -8,9 +8,9 @@ use Rattle.mixer_spec.specs.Composed.{Asked, text_given, waits_here}
 use Rattle.mixer_spec.specs.Setups.{Setup, IsSetup, stream}
 use Rattle.mixer_spec.specs.Laws.{AreTexts}
 use Rattle.mixer_spec.specs.Table.{Terminal, TurnEntry, Table, empty, sents, sent_from, last_media, turn_unaware}
-use Rattle.aware_output.specs.Speakers.{EachIsNext}
-use Rattle.slot_table.specs.Lanes.{Waiting}
-use Rattle.slot_table.specs.Standing as slots
+use Rattle.packetizer.specs.Speakers.{EachIsNext}
+use Rattle.mixer_places.specs.Lanes.{Waiting}
+use Rattle.mixer_places.specs.SlotStanding as slots
 use Rattle.unaware_view.specs.Standing as composers
 use Rattle.unaware_view.specs.Standing.{name_at, given_now, asked_now, answered, NoneWaits}
 use Rattle.unaware_view.specs.Standing.{own_of as own_of_composer}

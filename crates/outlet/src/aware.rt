@@ -3,8 +3,8 @@ ghost use Rattle.std.specs.Prelude.{◌≡◌, ◌-◌, ◌<◌, ◌≤◌, ◌|
 ghost use Rattle.mixer_spec.specs.Rounds.{first_from};
 ghost use Rattle.mixer_spec.specs.Setups.{Setup};
 ghost use Rattle.mixer_spec.specs.Table.{empty, has_work, is_due, is_due_at, is_quiet, last_media, sent_from, served};
-ghost use Rattle.slot_table.specs.Standing.{SlotsTell, LeadsSlots};
-ghost use Rattle.slot_table.specs.Words.{fetched};
+ghost use Rattle.mixer_places.specs.SlotStanding.{SlotsTell, LeadsSlots};
+ghost use Rattle.mixer_places.specs.Words.{fetched};
 ghost use Rattle.outlet.specs.AwareTurns.{AtTerminal, AtTable, IsCalmBefore, ServesLeg, StandsWoken, is_free, kept_served, left_behind, text_of_leg};
 ghost use Rattle.outlet.specs.Turns.{free_after};
 ghost use Rattle.outlet.specs.AwareStanding.{NoneDue};
@@ -12,11 +12,10 @@ ghost use Rattle.outlet.specs.AwareStates.{AwareState, SameLeg};
 ghost use Rattle.outlet.specs.AwareInsides.{state_of, AwareIsSound};
 ghost use Rattle.rtt_base.specs.declared.limits.TheConstants.{END_OF_MOMENTS};
 
+use mixer_places::{SeatingPlan, Slots};
 use mixer_spec::limits::PLACES;
 use rtt_base::limits::MOST_TEXT_OCTETS;
 use rtt_base::{NoMemory, Text};
-use seating::SeatingPlan;
-use slot_table::Slots;
 use std::alloc::Global;
 use std::marker::Model;
 

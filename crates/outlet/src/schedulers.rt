@@ -6,9 +6,8 @@ ghost use Rattle.rtt_base.specs.declared.limits.TheConstants.{END_OF_MOMENTS};
 
 use crate::aware::AwareScheduler;
 use crate::unaware::UnawareScheduler;
+use mixer_places::{SeatingPlan, Slots};
 use rtt_base::{Name, NoMemory, Text};
-use seating::SeatingPlan;
-use slot_table::Slots;
 use std::alloc::Global;
 
 /// What a mixer keeps of a terminal.

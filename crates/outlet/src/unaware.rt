@@ -2,15 +2,15 @@
 ghost use Rattle.std.specs.Prelude.{◌≡◌, ◌+◌, ◌<◌, ◌≤◌, ◌&&◌, ◌||◌, [], false, length, IfOk, IfSome, nat_le};
 ghost use Rattle.mixer_spec.specs.Rounds.{all_below};
 ghost use Rattle.mixer_spec.specs.Table.{has_work, is_quiet};
-ghost use Rattle.slot_table.specs.Standing.{SlotsStandFor, SlotsTell};
+ghost use Rattle.mixer_places.specs.SlotStanding.{SlotsStandFor, SlotsTell};
 ghost use Rattle.outlet.specs.Turns.{Puts, with_terminal};
 ghost use Rattle.outlet.specs.UnawareStates.{SameLeg, UnawareState, legs_of, next_turn, own_of};
 ghost use Rattle.outlet.specs.UnawareInsides.{UnawareIsSound, state_of};
 ghost use Rattle.outlet.specs.UnawareStanding.{Composes, OfAsks, OfTerminals, OfTurns, UnawareStandsFor, StandsNew, StandsWoken, entry_here, kept_sent, left_behind, none_here, turned_here};
 ghost use Rattle.rtt_base.specs.declared.limits.TheConstants.{END_OF_MOMENTS};
 
+use mixer_places::Slots;
 use rtt_base::{Name, NoMemory, Text};
-use slot_table::Slots;
 use std::alloc::Global;
 use std::marker::Model;
 use unaware_view::Composer;

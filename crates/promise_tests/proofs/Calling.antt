@@ -8,8 +8,8 @@ use Rattle.stream_spec.specs.Carries.{Carries}
 use Rattle.mixer_spec.specs.Bridged.{IsPart, told_at}
 use Rattle.mixer_spec.specs.Headline.{HeadlineAt, Hop, IsHop, hears}
 use Rattle.mixer_spec.specs.Headlines.{HopsHaveHeadline, hop_behind}
-use Rattle.serve_spec.specs.Served.{came_live}
-use Rattle.serve_spec.specs.HeadLive.{OneSenderIsHeard, inward_live}
+use Rattle.live_spec.specs.Served.{came_live}
+use Rattle.live_spec.specs.HeadLive.{OneSenderIsHeard, inward_live}
 use Rattle.promise_tests.specs.Live.{LiveCallsTellWhatWasTyped}
 use Rattle.promise_tests.proofs.Typing.{all_typed_at, only_typed, typed_but}
 

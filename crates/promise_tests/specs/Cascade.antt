@@ -5,7 +5,7 @@ use Rattle.stream_spec.specs.History.{History, Lawful, Come}
 use Rattle.mixer_spec.specs.Setups.{AllStay, leg_at}
 use Rattle.mixer_spec.specs.Bridged.{IsPair}
 use Rattle.mixer_spec.specs.Headline.{Hop}
-use Rattle.cascade_spec.specs.Splitting.{came_of}
+use Rattle.command_spec.specs.Splitting.{came_of}
 use Rattle.command_spec.specs.Work.{Contents}
 use Rattle.command_spec.specs.Bridges.{onward_from, setup_of}
 use Rattle.command_spec.specs.Cascading.{is_on_trunk, trunk_of}

@@ -7,9 +7,9 @@ use Rattle.mixer_spec.specs.Setups.{setup}
 use Rattle.mixer_spec.specs.Bridged.{IsPair, told_at}
 use Rattle.mixer_spec.specs.Headline.{Hop}
 use Rattle.mixer_spec.specs.Headlines.{hop_behind}
-use Rattle.link_spec.specs.Links.{Takes}
-use Rattle.serve_spec.specs.Served.{Closed, End}
-use Rattle.serve_spec.specs.HeadLive.{HeadLive, IsFromLive, inward_live}
+use Rattle.stream_spec.specs.Links.{Takes}
+use Rattle.live_spec.specs.Served.{Closed, End}
+use Rattle.live_spec.specs.HeadLive.{HeadLive, IsFromLive, inward_live}
 use Rattle.promise_tests.specs.Typed.{IsAllTyped, IsOnlyTyped, IsTypedBut}
 
 -- what is heard of these two hops, where the call ended so, and these texts were not given yet

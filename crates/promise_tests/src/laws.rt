@@ -4,10 +4,10 @@ ghost use Rattle.promise_tests.specs.Live.{LiveCallsTellWhatWasTyped};
 ghost use Rattle.promise_tests.specs.Cascade.{CascadesTellWhatWasTyped};
 ghost use Rattle.promise_tests.specs.Shut.{LoopholesStayShut};
 
+use live_spec::one_sender_is_heard;
 use mixer_spec::headline;
 use rtt_io::{Sink, World};
 use rtt_top::laws::statuses_are_those_of_the_command;
-use serve_spec::one_sender_is_heard;
 use stream_spec::still_keeps;
 
 /// Where `mix` ends with 0, what Bob hears as Ann's are texts that Ann typed, in her order, each at most once, and markers,

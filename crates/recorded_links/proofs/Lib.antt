@@ -1,0 +1,4 @@
+pub mod Pieces
+pub mod Under
+pub mod Fronts
+pub mod Noting

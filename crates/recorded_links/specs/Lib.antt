@@ -1,0 +1,5 @@
+pub mod Names
+pub mod Places
+pub mod Files
+pub mod Standing
+pub mod Writing

@@ -1,11 +1,11 @@
 //! Links that are recorded.
 ghost use Rattle.std.specs.Prelude.{◌≡◌, ℕ};
 
+use crate::Journals;
 use crate::ends::{RecordedIn, RecordedOut};
 use crate::noters::Noter;
 use crate::tracks::{Tracks, end_all};
 use crate::writers::Writer;
-use journal_io::Journals;
 use link_io::{Beat, Links};
 use rtt_base::{Failed, NoMemory};
 use std::alloc::Global;

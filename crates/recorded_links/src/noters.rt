@@ -1,8 +1,8 @@
 //! The end at which entries of a recording are noted.
 
+use crate::Way;
 use crate::batches::entry_size;
 use crate::shelves::{Legs, Shelf, WaitingRecords};
-use call_recorder::Way;
 use rtt_base::limits::MOST_PACKET_OCTETS;
 use std::alloc::Global;
 use std::sync::atomic::{AtomicU64, Ordering};

@@ -7,9 +7,8 @@ use crate::noters::Noter;
 use crate::shelves::{Legs, WaitingRecords};
 use crate::tracks::{Track, Tracks};
 use crate::writers::{StartFault, Writer};
-use call_recorder::{RecordFault, Recorder, Way, file_name, stem_of};
+use crate::{Journals, RecordFault, Recorder, Way, file_name, stem_of};
 use file_spec::LegLine;
-use journal_io::Journals;
 use link_io::Links;
 use rtt_base::NoMemory;
 use std::alloc::Global;
@@ -175,7 +174,12 @@ where
     J::File: 'static,
 {
     /// The links over these, of which nothing is recorded.
-    pub fn plain(rt: R, alloc: Global, links: L, journals: J) -> Result<RecordedLinks<L, J, R>, NoMemory>
+    pub fn plain(
+        rt: R,
+        alloc: Global,
+        links: L,
+        journals: J,
+    ) -> Result<RecordedLinks<L, J, R>, NoMemory>
         ensures leads { IfOk result (λ all. ⟦<RecordedLinks<L, J, R> as Links>⟧.leads all ≡ L.leads links) }
         ensures taken { IfOk result (λ all. (p : ℕ) → ⟦<RecordedLinks<L, J, R> as Links>⟧.taken_at all p ≡ L.taken_at links p) }
         ensures given { IfOk result (λ all. (p : ℕ) → ⟦<RecordedLinks<L, J, R> as Links>⟧.given_at all p ≡ L.given_at links p) }

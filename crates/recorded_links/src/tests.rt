@@ -3,11 +3,9 @@ use crate::noters::Noter;
 use crate::shelves::{WaitingRecords, exchange};
 use crate::starts::begin_track;
 use crate::tracks::Track;
-use crate::{BeginFault, LinksReturn, RecordedLinks};
-use call_recorder::{Way, stem_of};
+use crate::{BeginFault, LinksReturn, MemJournals, RecordedLinks, Way, stem_of};
 use conf_text::{Form, read_conf};
-use conference::Conference;
-use journal_io::MemJournals;
+use file_spec::Conference;
 use link_io::{Came, FailingLink, LinkIn, LinkOut, Links, MemLinks, PlannedTake};
 use rtt_base::{Bytes, NoMemory, Packet, Path};
 use rtt_io::{FailingCall, FailingWrite};
@@ -54,7 +52,10 @@ fn links(alloc: Global) -> Result<MemLinks, NoMemory> {
     links.plan(5001, PlannedTake::new(alloc, 100, Came::Datagram, TEXT)?)?;
     links.plan(5001, PlannedTake::new(alloc, 200, Came::Large, b"")?)?;
     links.plan(5001, PlannedTake::new(alloc, 250, Came::Datagram, REPORT)?)?;
-    links.plan(5001, PlannedTake::new(alloc, FIVE_HOURS, Came::Datagram, TEXT)?)?;
+    links.plan(
+        5001,
+        PlannedTake::new(alloc, FIVE_HOURS, Came::Datagram, TEXT)?,
+    )?;
     links.fail(FailingLink::Give(5001, 1))?;
     Ok(links)
 }

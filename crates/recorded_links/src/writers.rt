@@ -1,6 +1,6 @@
 //! Who writes the recordings of a call.
+use crate::Journals;
 use crate::tracks::{Round, Tracks};
-use journal_io::Journals;
 use std::alloc::Global;
 use std::sync::atomic::{AtomicBool, Ordering};
 use std::sync::{Arc, Wait};

@@ -6,11 +6,11 @@ use Rattle.std.proofs.lemmas.Bool.{lt-ltb, eq-eqb}
 use Rattle.std.proofs.lemmas.Str.{is_utf8-from_IsUtf8, IsUtf8-from_is_utf8}
 use Rattle.std.specs.Int.{w32, from_be_bytes}
 use Rattle.rtt_base.specs.Steps.{◌>>=◌}
-use Rattle.rtcp_spec.specs.declared.events.Event.{Event}
-use Rattle.rtcp_spec.specs.declared.events.Event.TheVariants as event
-use Rattle.rtcp_spec.specs.declared.faults.RtcpRefusal.{RtcpRefusal}
-use Rattle.rtcp_spec.specs.declared.faults.RtcpRefusal.TheVariants as faults
-use Rattle.rtcp_spec.specs.Rtcp.{Item, item_at, name_in, Told, and_items, items_within, items, fill, filled, chunk_at, chunks, byes}
+use Rattle.wire_spec.specs.declared.events.Event.{Event}
+use Rattle.wire_spec.specs.declared.events.Event.TheVariants as event
+use Rattle.wire_spec.specs.declared.rtcp_faults.RtcpRefusal.{RtcpRefusal}
+use Rattle.wire_spec.specs.declared.rtcp_faults.RtcpRefusal.TheVariants as faults
+use Rattle.wire_spec.specs.Rtcp.{Item, item_at, name_in, Told, and_items, items_within, items, fill, filled, chunk_at, chunks, byes}
 use Rattle.rtcp_labels.specs.Notes.{Notes, noted, all_noted, Noted, after, after_all}
 use Rattle.rtcp_labels.proofs.Noting.{noted_both, after_more}
 

@@ -4,10 +4,10 @@ use Rattle.std.specs.Prelude.{nat_lt, if◌then◌else◌}
 use Rattle.std.proofs.lemmas.List.{append-nil}
 use Rattle.std.proofs.lemmas.Bool.{lt-ltb, le-ltb, ltb-true, ltb-false}
 use Rattle.rtt_base.specs.Steps.{◌>>=◌}
-use Rattle.rtcp_spec.specs.declared.events.Event.{Event}
-use Rattle.rtcp_spec.specs.declared.faults.RtcpRefusal.{RtcpRefusal}
-use Rattle.rtcp_spec.specs.declared.faults.RtcpRefusal.TheVariants.{Many}
-use Rattle.rtcp_spec.specs.Rtcp.{Told, and_told, at_most_64}
+use Rattle.wire_spec.specs.declared.events.Event.{Event}
+use Rattle.wire_spec.specs.declared.rtcp_faults.RtcpRefusal.{RtcpRefusal}
+use Rattle.wire_spec.specs.declared.rtcp_faults.RtcpRefusal.TheVariants.{Many}
+use Rattle.wire_spec.specs.Rtcp.{Told, and_told, at_most_64}
 use Rattle.rtcp_labels.specs.Notes.{Notes, notes, noted, all_noted, after}
 
 pub noted_both : (n : Notes) (xs ys : List Event) → all_noted n (xs ++ ys) ≡ all_noted (all_noted n xs) ys

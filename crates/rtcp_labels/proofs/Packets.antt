@@ -2,10 +2,10 @@
 use Rattle.std.proofs.Common.{◌≡◌, ℕ, zero, suc, ◌+◌, ◌<◌, ◌≤◌, true, false, List, [], ◌∷◌, ◌++◌, length, Result, Ok, Err, refl, sym, subst, ◌∙◌, arith}
 use Rattle.std.specs.Prelude.{◌==◌, if◌then◌else◌}
 use Rattle.rtt_base.specs.Steps.{◌>>=◌}
-use Rattle.rtcp_spec.specs.declared.events.Event.{Event}
-use Rattle.rtcp_spec.specs.declared.faults.RtcpRefusal.{RtcpRefusal}
-use Rattle.rtcp_spec.specs.declared.faults.RtcpRefusal.TheVariants.{Many}
-use Rattle.rtcp_spec.specs.Rtcp.{Body, body_at, Told, events_of, at_most_64, packet_read, packets_within, rtcp}
+use Rattle.wire_spec.specs.declared.events.Event.{Event}
+use Rattle.wire_spec.specs.declared.rtcp_faults.RtcpRefusal.{RtcpRefusal}
+use Rattle.wire_spec.specs.declared.rtcp_faults.RtcpRefusal.TheVariants.{Many}
+use Rattle.wire_spec.specs.Rtcp.{Body, body_at, Told, events_of, at_most_64, packet_read, packets_within, rtcp}
 use Rattle.rtcp_labels.specs.Notes.{Notes, notes, all_noted, after_all}
 use Rattle.rtcp_labels.proofs.Noting.{too_many, all_fit, noted_few}
 

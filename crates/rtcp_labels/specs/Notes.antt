@@ -1,9 +1,9 @@
 -- Events that are noted one after the other: the first 64, and whether there were more.
 use Rattle.std.specs.Prelude.{ℕ, Bool, true, List, [], ◌∷◌, ◌++◌, length, Result, Ok, nat_lt, if◌then◌else◌}
 use Rattle.rtt_base.specs.Steps.{◌>>=◌}
-use Rattle.rtcp_spec.specs.declared.events.Event.{Event}
-use Rattle.rtcp_spec.specs.declared.faults.RtcpRefusal.{RtcpRefusal}
-use Rattle.rtcp_spec.specs.Rtcp.{Told}
+use Rattle.wire_spec.specs.declared.events.Event.{Event}
+use Rattle.wire_spec.specs.declared.rtcp_faults.RtcpRefusal.{RtcpRefusal}
+use Rattle.wire_spec.specs.Rtcp.{Told}
 
 pub record Notes : Type 0 where
   pub events : List Event

@@ -1,6 +1,6 @@
 -- What the code's types say in the definitions' words.
 use Rattle.std.specs.Prelude.{◌≡◌, ℕ, ◌+◌, ◌≤◌, List, length, slice_index}
-use Rattle.rtcp_spec.specs.Rtcp as rtcp
+use Rattle.wire_spec.specs.Rtcp as rtcp
 use Rattle.rtcp_labels.specs.declared.bodies.Body.{Body}
 use Rattle.rtcp_labels.specs.declared.chunks.SdesItem.{SdesItem}
 

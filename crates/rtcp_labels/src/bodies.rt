@@ -1,11 +1,11 @@
 //! One packet: its head, length and padding.
 ghost use Rattle.std.specs.Prelude.{◌≡◌, ◌+◌, ◌*◌, ◌≤◌, length, IfOk};
 ghost use Rattle.wire_spec.specs.Steps.{Gives};
-ghost use Rattle.rtcp_spec.specs.Rtcp.{unpadded, body_of, body_at};
+ghost use Rattle.wire_spec.specs.Rtcp.{unpadded, body_of, body_at};
 ghost use Rattle.rtcp_labels.specs.Views.{body_view};
 
 use crate::notes::ReadResult;
-use rtcp_spec::RtcpRefusal;
+use wire_spec::RtcpRefusal;
 
 /// How many octets a head has: version, padding bit and count, the type, and the length in two octets.
 const HEAD: usize = 4;
@@ -56,7 +56,7 @@ fn body_behind(first: u8, kind: u8, size: usize, behind: &[u8]) -> ReadResult<Bo
 }
 
 /// The packet in front.
-#[tactic(auto, unfolding(rtcp_spec::specs::Rtcp::body_at))]
+#[tactic(auto, unfolding(wire_spec::specs::Rtcp::body_at))]
 pub(crate) fn front_body(bytes: &[u8]) -> ReadResult<Body<'_>>
     ensures exact { Gives body_view result (body_at bytes.now) }
     ensures shorter { IfOk result (λ body. length body.rest.now + 4 ≤ length bytes.now) }

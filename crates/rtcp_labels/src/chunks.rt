@@ -1,12 +1,12 @@
 //! What a packet has behind its head: the chunks of a source description, or sources that leave.
 ghost use Rattle.std.specs.Prelude.{◌≡◌, ◌+◌, ◌*◌, ◌≤◌, length, Ok, None, IfOk, IfSome, option_map};
 ghost use Rattle.wire_spec.specs.Steps.{Gives};
-ghost use Rattle.rtcp_spec.specs.Rtcp.{item_at, items, fill, chunk_at, chunks, byes, leavings};
+ghost use Rattle.wire_spec.specs.Rtcp.{item_at, items, fill, chunk_at, chunks, byes, leavings};
 ghost use Rattle.rtcp_labels.specs.Views.{item_view, FitsIn};
 ghost use Rattle.rtcp_labels.specs.Notes.{notes, all_noted, after, after_all, Noted};
 
 use crate::notes::{ReadResult, note, note_item};
-use rtcp_spec::{Event, Events, RtcpRefusal};
+use wire_spec::{Event, Events, RtcpRefusal};
 
 /// How many octets an SSRC has.
 const SOURCE: usize = 4;
@@ -45,7 +45,12 @@ fn front_item(octets: &[u8]) -> ReadResult<Option<SdesItem<'_>>>
 }
 
 /// Notes what the items of a source tell, and answers what is behind them.
-fn read_items<'a>(ssrc: u32, octets: &'a [u8], out: &mut Events, many: &mut bool) -> ReadResult<&'a [u8]>
+fn read_items<'a>(
+    ssrc: u32,
+    octets: &'a [u8],
+    out: &mut Events,
+    many: &mut bool,
+) -> ReadResult<&'a [u8]>
     ensures exact { Gives (λ rest. record { noted = notes out.new.items many.new; rest = rest.now }) result (after (notes out.old.items many.old) (items ssrc octets.now)) }
     ensures shorter { IfOk result (λ rest. length rest.now ≤ length octets.now) }
 {
@@ -65,7 +70,7 @@ fn fill_of(size: usize) -> usize
 }
 
 /// Notes what a chunk tells, and answers what is behind it.
-#[tactic(auto, unfolding(rtcp_spec::specs::Rtcp::chunk_at))]
+#[tactic(auto, unfolding(wire_spec::specs::Rtcp::chunk_at))]
 fn read_chunk<'a>(octets: &'a [u8], out: &mut Events, many: &mut bool) -> ReadResult<&'a [u8]>
     ensures { Gives (λ rest. record { noted = notes out.new.items many.new; rest = rest.now }) result (after (notes out.old.items many.old) (chunk_at octets.now)) }
 {
@@ -83,7 +88,12 @@ fn read_chunk<'a>(octets: &'a [u8], out: &mut Events, many: &mut bool) -> ReadRe
 }
 
 /// Notes what so many chunks tell.
-pub(crate) fn read_chunks(count: u8, octets: &[u8], out: &mut Events, many: &mut bool) -> ReadResult<()>
+pub(crate) fn read_chunks(
+    count: u8,
+    octets: &[u8],
+    out: &mut Events,
+    many: &mut bool,
+) -> ReadResult<()>
     ensures { Gives (λ _. notes out.new.items many.new) result (after_all (notes out.old.items many.old) (chunks count octets.now)) }
 {
     let mut rest = octets;
@@ -111,7 +121,12 @@ fn note_byes(count: u8, octets: &[u8], out: &mut Events, many: &mut bool)
 }
 
 /// Notes the sources that leave.
-pub(crate) fn read_byes(count: u8, octets: &[u8], out: &mut Events, many: &mut bool) -> ReadResult<()>
+pub(crate) fn read_byes(
+    count: u8,
+    octets: &[u8],
+    out: &mut Events,
+    many: &mut bool,
+) -> ReadResult<()>
     ensures { Gives (λ _. notes out.new.items many.new) result (after_all (notes out.old.items many.old) (leavings count octets.now)) }
 {
     if octets.len() < SOURCE * usize::from(count) {

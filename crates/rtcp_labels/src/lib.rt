@@ -8,7 +8,7 @@ mod readers;
 mod writers;
 
 pub use readers::read_rtcp;
-pub use rtcp_spec::{Event, Events, RtcpRefusal, SdesName};
+pub use wire_spec::{Event, Events, RtcpRefusal, SdesName};
 pub use writers::{write_bye, write_sdes};
 
 #[cfg(test)]

@@ -1,10 +1,10 @@
 //! The events that are noted, and whether there were more than fit.
 ghost use Rattle.std.specs.Prelude.{◌≡◌, ◌≤◌, length};
-ghost use Rattle.rtcp_spec.specs.Rtcp.{name_in};
+ghost use Rattle.wire_spec.specs.Rtcp.{name_in};
 ghost use Rattle.rtcp_labels.specs.Notes.{notes, noted, all_noted};
 
-use rtcp_spec::{Event, Events, MOST_EVENTS, RtcpRefusal, SdesName};
 use simdutf8::basic::from_utf8;
+use wire_spec::{Event, Events, MOST_EVENTS, RtcpRefusal, SdesName};
 
 /// What octets tell, or why they are refused.
 pub(crate) type ReadResult<T> = Result<T, RtcpRefusal>;

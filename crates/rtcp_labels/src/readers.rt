@@ -1,14 +1,14 @@
 //! Reading RTCP packets.
 ghost use Rattle.std.specs.Prelude.{◌≡◌, ◌+◌, ◌≤◌, [], length, OnErr, IfOk};
 ghost use Rattle.wire_spec.specs.Steps.{Gives};
-ghost use Rattle.rtcp_spec.specs.Rtcp.{events_of, packet_read, rtcp};
+ghost use Rattle.wire_spec.specs.Rtcp.{events_of, packet_read, rtcp};
 ghost use Rattle.rtcp_labels.specs.Views.{body_view};
 ghost use Rattle.rtcp_labels.specs.Notes.{notes, after_all};
 
 use crate::bodies::{Body, front_body};
 use crate::chunks::{read_byes, read_chunks};
 use crate::notes::ReadResult;
-use rtcp_spec::{Events, RtcpRefusal};
+use wire_spec::{Events, RtcpRefusal};
 
 /// The type of a source description.
 const SDES: u8 = 202;

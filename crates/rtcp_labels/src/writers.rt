@@ -3,7 +3,7 @@ ghost use Rattle.std.specs.Prelude.{◌≡◌, ◌+◌, ◌-◌, ◌*◌, ◌/�
 ghost use Rattle.std.specs.Int.{w16, w32, to_be_bytes};
 ghost use Rattle.rtt_base.specs.Buffers.{Appends};
 ghost use Rattle.rtt_base.specs.declared.limits.TheConstants.{MOST_PACKET_OCTETS};
-ghost use Rattle.rtcp_spec.specs.Rtcp.{sdes_written, bye_written};
+ghost use Rattle.wire_spec.specs.Rtcp.{sdes_written, bye_written};
 
 use rtt_base::{Full, Packet};
 

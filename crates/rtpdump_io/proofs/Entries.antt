@@ -3,7 +3,7 @@ use Rattle.std.proofs.Common.{◌≡◌, ◌∙◌, ℕ, ◌-◌, ◌≤◌, ◌
 use Rattle.std.proofs.lemmas.Bool.{le-ltb}
 use Rattle.wire_spec.specs.declared.faults.DumpKind.{DumpKind}
 use Rattle.wire_spec.specs.Dump.{Place, opening, size_of, dump_step}
-use Rattle.rtcp_spec.specs.Recorded.{Entry, body_of, at_most_4224, octets_of, entries_by, entries_within, entries_at, entries_from, entries}
+use Rattle.wire_spec.specs.Recorded.{Entry, body_of, at_most_4224, octets_of, entries_by, entries_within, entries_at, entries_from, entries}
 use Rattle.rtpdump_io.specs.Input.{Passes}
 use Rattle.rtpdump_io.specs.Found.{opened_as, found_as, kind_of, kept_of, wanted_of}
 use Rattle.rtpdump_io.specs.Entries.{entry_as, entries_as, HandsOutRtcp, entries_coming}

@@ -3,7 +3,7 @@ use Rattle.std.specs.Prelude.{◌≡◌, ℕ, Bool, true, false, List, [], ◌�
 use Rattle.wire_spec.specs.declared.faults.DumpKind.{DumpKind}
 use Rattle.wire_spec.specs.Dump.{Whole}
 use Rattle.wire_spec.specs.Dump as dumps
-use Rattle.rtcp_spec.specs.Recorded.{Entry, body_of, at_most_4224, entries_at, entries}
+use Rattle.wire_spec.specs.Recorded.{Entry, body_of, at_most_4224, entries_at, entries}
 use Rattle.rtpdump_io.specs.declared.items.DumpItem.{DumpItem}
 use Rattle.rtpdump_io.specs.declared.items.DumpItem.TheVariants.{Packet, Rtcp, Cut, Large, End}
 use Rattle.rtpdump_io.specs.declared.items.DumpFault.{DumpFault}

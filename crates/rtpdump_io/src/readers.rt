@@ -37,7 +37,7 @@ pub struct DumpReader<S> {
 impl<S: Source> DumpReader<S> {
     ghost use Rattle.std.specs.Prelude.{◌≡◌, ◌<◌, ◌≤◌, true, false, Ok, OnOk, OnErr, IfOk, length, take};
     ghost use Rattle.wire_spec.specs.Dump.{dump, usual_limit};
-    ghost use Rattle.rtcp_spec.specs.Recorded.{entries};
+    ghost use Rattle.wire_spec.specs.Recorded.{entries};
     ghost use Rattle.rtpdump_io.specs.Reading.{to_come, most_answers, is_ended, source_of, unread_by};
     ghost use Rattle.rtpdump_io.specs.Structures.{Starts, IsLineOrHead, all_octets, octets_around};
     ghost use Rattle.rtpdump_io.specs.Steps.{OnFound, OnRecord, IsOfRecording, Opens, IsReady, Finds, Comes};

@@ -8,7 +8,7 @@ use Rattle.file_spec.specs.declared.limits.TheConstants.{LONGEST_NAME}
 use Rattle.file_spec.specs.declared.conference_lines.LegLine.{LegLine}
 use Rattle.file_spec.specs.declared.conference_lines.Stay.{Stay}
 use Rattle.file_spec.specs.Conference.{change_leg, is_name, is_name_octet, with_stay}
-use Rattle.conference.specs.Changes.{with_name}
+use Rattle.file_spec.specs.Changes.{with_name}
 use Rattle.command_spec.specs.Attending as attending
 use Rattle.command_spec.specs.Attending.{as_name, is_free, left_so, named_so, told_legs, told_so, until_then}
 use Rattle.rtt_attend.specs.declared.sender_reports.SenderReport.{SenderReport}

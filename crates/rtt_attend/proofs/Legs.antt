@@ -16,7 +16,7 @@ use Rattle.command_spec.specs.Work.{Contents}
 use Rattle.command_spec.specs.Mixing.{hears_of, input_at, makes}
 use Rattle.command_spec.specs.Attending.{named, named_by, says_of}
 use Rattle.command_spec.proofs.Naming.{same_named}
-use Rattle.leg_items.specs.Answers.{read_well}
+use Rattle.leg.specs.Answers.{read_well}
 use Rattle.bridge_run.specs.declared.results.MixFault.{MixFault}
 use Rattle.bridge_run.specs.declared.results.MixFault.TheVariants.{Open, Dump, TooLong, NoMemory}
 use Rattle.command_spec.specs.Inputs.{AllLie, LieBelow, NoneFailedBelow, inputs_under, octets_under}

@@ -10,9 +10,9 @@ use Rattle.rtt_attend.specs.Counted.{CountsFate, IsCounted, fate_in}
 use Rattle.rtt_attend.proofs.Tallying.{StayFew, all_counted, item_counted, stay_few}
 use Rattle.rtt_io.specs.Counts.{Rose}
 use Rattle.bridge_run.proofs.Answering.{source_read}
-use Rattle.rtcp_spec.specs.declared.faults.RtcpRefusal.TheVariants.{Short}
-use Rattle.rtcp_spec.specs.Rtcp.{packets_within, rtcp}
-use Rattle.rtcp_spec.specs.Recorded.{Entry, entries}
+use Rattle.wire_spec.specs.declared.rtcp_faults.RtcpRefusal.TheVariants.{Short}
+use Rattle.wire_spec.specs.Rtcp.{packets_within, rtcp}
+use Rattle.wire_spec.specs.Recorded.{Entry, entries}
 use Rattle.rtpdump_io.specs.declared.items.DumpItem.{DumpItem}
 use Rattle.rtpdump_io.specs.declared.items.DumpItem.TheVariants.{Packet, Rtcp, Cut, Large, End}
 use Rattle.rtpdump_io.specs.declared.items.DumpFault.{DumpFault}

@@ -1,11 +1,11 @@
 -- What is heard of one input, by the octets of its recording.
 use Rattle.std.specs.Prelude.{◌≡◌, ℕ, Bool, true, false, None, Some, Option, List, Result, Ok, Err, IfErr, if◌then◌else◌}
 use Rattle.wire_spec.specs.Dump.{Recording, dump}
-use Rattle.rtcp_spec.specs.Recorded.{Entry}
+use Rattle.wire_spec.specs.Recorded.{Entry}
 use Rattle.view_spec.specs.Seen.{Reception}
 use Rattle.view_spec.specs.Tallies.{tally_at}
 use Rattle.rtt_io.specs.Counts.{Rose}
-use Rattle.rtcp_spec.specs.Rtcp.{rtcp}
+use Rattle.wire_spec.specs.Rtcp.{rtcp}
 use Rattle.rtpdump_io.specs.declared.items.DumpItem.{DumpItem}
 use Rattle.rtpdump_io.specs.declared.items.DumpItem.TheVariants.{Packet, Rtcp, Cut, Large, End}
 use Rattle.rtpdump_io.specs.declared.items.DumpFault.{DumpFault}

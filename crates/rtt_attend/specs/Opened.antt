@@ -9,7 +9,7 @@ use Rattle.mixer_spec.specs.Setups.{leg_at, ssrc_of}
 use Rattle.command_spec.specs.Work.{Contents}
 use Rattle.view_spec.specs.Seen.{Reception}
 use Rattle.command_spec.specs.Mixing.{input_at}
-use Rattle.leg_items.specs.Answers.{read_well}
+use Rattle.leg.specs.Answers.{read_well}
 use Rattle.command_spec.specs.Inputs.{NoneFailedBelow, inputs_under}
 use Rattle.bridge_run.specs.Mixes.{RoseAt}
 use Rattle.bridge_run.specs.declared.results.MixFault.{MixFault}

@@ -5,7 +5,7 @@ ghost use Rattle.rtt_io.specs.Names.{CountsNoOther, NoneFalls, Same};
 ghost use Rattle.rtpdump_io.specs.Reading.{UnlessOfSource};
 ghost use Rattle.wire_spec.specs.declared.limits.TheConstants.{MOST_RECORDING_OCTETS};
 ghost use Rattle.file_spec.specs.declared.limits.TheConstants.{MOST_LEGS};
-ghost use Rattle.conference.specs.Conferences.{meaning_of};
+ghost use Rattle.file_spec.specs.Conferences.{meaning_of};
 ghost use Rattle.bridge_run.specs.Mixes.{IsFirstIn, StopsIn};
 ghost use Rattle.command_spec.specs.Mixing.{counts_lines, hears_of};
 ghost use Rattle.rtt_attend.specs.Heard.{Hears};
@@ -16,17 +16,16 @@ ghost use Rattle.rtt_attend.specs.Named.{AreCounted, AreTold, IsNamed, IsNamedSo
 
 use crate::inputs::{InputNames, hear_input};
 use crate::open_inputs::{close_inputs, open_inputs};
-use crate::sender_reports::SenderReport;
 use crate::reports::tell_legs;
+use crate::sender_reports::SenderReport;
 use bridge_run::{MixFault, input_limit};
-use conference::Conference;
-use file_spec::LegLine;
-use rtcp_spec::Events;
+use file_spec::{Conference, LegLine};
 use rtpdump_io::DumpFault;
 use rtt_base::{Bytes, NoMemory, Packet, TextPacket};
 use rtt_io::World;
 use std::alloc::Global;
 use t140_text::views::append_tally;
+use wire_spec::Events;
 
 /// What the input of a leg tells of it. Its source, of which nothing was read, is handed back.
 fn hear_leg<W: World>(
@@ -49,7 +48,15 @@ fn hear_leg<W: World>(
     ensures same_own { Same W.own_faults world.old world.new }
     ensures same_contents { W.tells → Same W.contents world.old world.new }
 {
-    let InputNames { source, said } = hear_input(source, leg.ssrc, leg.payload_types, limit, octets, text, events);
+    let InputNames { source, said } = hear_input(
+        source,
+        leg.ssrc,
+        leg.payload_types,
+        limit,
+        octets,
+        text,
+        events,
+    );
     world.done_src(source);
     said
 }
@@ -111,7 +118,11 @@ fn hear_inputs<W: World>(
 
 /// What the inputs of all legs tell of them, in leg order. All are opened before one is read, and each is handed back. A fault
 /// means what it means of a mixing of the same conference.
-fn hear_all<W: World>(alloc: Global, conference: &Conference, world: &mut W) -> Result<Vec<SenderReport>, MixFault>
+fn hear_all<W: World>(
+    alloc: Global,
+    conference: &Conference,
+    world: &mut W,
+) -> Result<Vec<SenderReport>, MixFault>
     ensures told { W.tells → IfOk result (λ all. AreTold (W.contents world.old) (meaning_of conference.now) all.items) }
     ensures count { IfOk result (λ all. length all.items ≡ length conference.now.legs) }
     ensures stops { IfErr result (StopsIn W.tells W.contents W.own_faults W.object_faults
@@ -146,7 +157,11 @@ fn hear_all<W: World>(alloc: Global, conference: &Conference, world: &mut W) -> 
 /// The conference with the names and the leavings that the RTCP records of its inputs tell. All inputs are opened in leg
 /// order before one is read, and each is handed back. A fault means what it means of a mixing of the same conference, and the
 /// conference is as before then.
-pub fn hear_names<W: World>(alloc: Global, conference: &mut Conference, world: &mut W) -> Result<(), MixFault>
+pub fn hear_names<W: World>(
+    alloc: Global,
+    conference: &mut Conference,
+    world: &mut W,
+) -> Result<(), MixFault>
     ensures named { W.tells → OnOk result (IsNamed (W.contents world.old) (meaning_of conference.old)
         (meaning_of conference.new)) }
     ensures named_some { OnOk result (IsNamedSome (meaning_of conference.old) (meaning_of conference.new)) }
@@ -189,7 +204,11 @@ fn lines_of(alloc: Global, conference: &Conference, all: &[SenderReport]) -> Res
 
 /// What is counted of the inputs, one line for each leg, in leg order; nothing, where the conference doesn't ask for it. Each input
 /// is read to its end. A fault means what it means of a mixing of the same conference.
-pub fn count_inputs<W: World>(alloc: Global, conference: &Conference, world: &mut W) -> Result<Bytes, MixFault>
+pub fn count_inputs<W: World>(
+    alloc: Global,
+    conference: &Conference,
+    world: &mut W,
+) -> Result<Bytes, MixFault>
     ensures counted { W.tells → IfOk result (AreCounted (W.contents world.old) (meaning_of conference.now)) }
     ensures stops { IfErr result (StopsIn W.tells W.contents W.own_faults W.object_faults
         world.old world.new (meaning_of conference.now)) }

@@ -6,12 +6,12 @@ ghost use Rattle.wire_spec.specs.declared.limits.TheConstants.{MOST_RECORDING_OC
 ghost use Rattle.rtt_attend.specs.Counted.{hears_so};
 ghost use Rattle.rtt_attend.specs.Heard.{Hears, HearsAll, IsRead, TellsItem, moment_of, is_rtcp, said_of};
 
-use crate::sums::count_item;
 use crate::sender_reports::{SenderReport, hear_rtcp};
-use rtcp_spec::Events;
+use crate::sums::count_item;
 use rtpdump_io::{DumpFault, DumpItem, DumpReader};
 use rtt_base::{Packet, PayloadTypes, TextPacket};
 use rtt_io::Source;
+use wire_spec::Events;
 
 /// The moment of a record; none at the end.
 fn moment_of(item: DumpItem) -> Option<u32>

@@ -1,12 +1,12 @@
 //! What a conference's inputs tell: the names of those who speak, and when they left, by RTCP; and how much came.
 #![tactic(auto)]
 
-mod sums;
 mod input_notes;
 mod inputs;
 mod open_inputs;
-mod sender_reports;
 mod reports;
+mod sender_reports;
+mod sums;
 
 pub use input_notes::{count_inputs, hear_names};
 

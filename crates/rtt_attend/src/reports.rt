@@ -7,11 +7,10 @@ ghost use Rattle.rtt_attend.specs.Heard.{said_of};
 ghost use Rattle.rtt_attend.specs.Named.{says_in, shaped};
 
 use crate::sender_reports::SenderReport;
-use conference::{Legs, has_name, is_name_octet, set_name, set_stay};
 use file_spec::limits::{LAST_MOMENT, LONGEST_NAME};
-use file_spec::{LegLine, Stay};
-use rtcp_spec::SdesName;
+use file_spec::{LegLine, Legs, Stay, has_name, is_name_octet, set_name, set_stay};
 use rtt_base::Name;
+use wire_spec::SdesName;
 
 /// `_` for a space.
 fn without_space(octet: u8) -> u8

@@ -1,13 +1,13 @@
 //! What is told of one sender.
 ghost use Rattle.std.specs.Prelude.{◌≡◌, ◌==◌, Some, if◌then◌else◌};
-ghost use Rattle.rtcp_spec.specs.Rtcp.{rtcp};
+ghost use Rattle.wire_spec.specs.Rtcp.{rtcp};
 ghost use Rattle.command_spec.specs.Attending.{and_event, and_events, and_read, nothing, or_first};
 ghost use Rattle.rtt_attend.specs.Counted.{untallied};
 ghost use Rattle.rtt_attend.specs.Heard.{said_of};
 
 use rtcp_labels::read_rtcp;
-use rtcp_spec::{Event, Events, SdesName};
 use view_spec::Tally;
+use wire_spec::{Event, Events, SdesName};
 
 /// What is told of a sender: of each kind what was told first, and what is counted.
 #[derive(Drop)]
@@ -92,7 +92,13 @@ fn hear_events(ssrc: u32, at: u32, events: &[Event], said: &mut SenderReport)
 }
 
 /// What the octets of a record of RTCP tell of this sender; what is refused tells nothing.
-pub(crate) fn hear_rtcp(ssrc: u32, at: u32, octets: &[u8], events: &mut Events, said: &mut SenderReport)
+pub(crate) fn hear_rtcp(
+    ssrc: u32,
+    at: u32,
+    octets: &[u8],
+    events: &mut Events,
+    said: &mut SenderReport,
+)
     ensures said { said_of said.new ≡ and_read ssrc at (said_of said.old) (rtcp octets.now) }
     ensures tally { said.new.tally ≡ said.old.tally }
 {

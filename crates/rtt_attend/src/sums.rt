@@ -5,7 +5,7 @@ ghost use Rattle.view_spec.specs.Seen.{Text, fate_of};
 ghost use Rattle.view_spec.specs.Seen as seen;
 ghost use Rattle.rtt_attend.specs.Counted.{CountsFate, IsFew, fate_in, fate_of_fault, hears_so};
 
-use red_blocks::read_text;
+use rtp_text::read_text;
 use rtpdump_io::DumpItem;
 use rtt_base::{PayloadTypes, TextPacket};
 use view_spec::Tally;
@@ -42,7 +42,13 @@ fn count_refused(tally: &mut Tally)
 }
 
 /// Counts a packet that has these octets, where this sender is heard.
-fn count_packet(octets: &[u8], ssrc: u32, payload_types: PayloadTypes, text: &mut TextPacket, tally: &mut Tally)
+fn count_packet(
+    octets: &[u8],
+    ssrc: u32,
+    payload_types: PayloadTypes,
+    text: &mut TextPacket,
+    tally: &mut Tally,
+)
     requires few { IsFew tally.old }
     ensures { CountsFate (fate_of (text_of octets.now (Some ssrc) payload_types)) tally.old tally.new }
 {

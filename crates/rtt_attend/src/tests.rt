@@ -2,8 +2,7 @@
 use crate::hear_names;
 use bridge_run::MixFault;
 use conf_text::read_conf;
-use conference::Conference;
-use file_spec::Form;
+use file_spec::{Conference, Form};
 use rtpdump_io::{DumpFault, write_opening};
 use rtt_base::{Bytes, NoMemory, Path};
 use rtt_io::{FailingCall, MemWorld};

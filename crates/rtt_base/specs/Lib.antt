@@ -2,3 +2,4 @@ pub mod Timestamps
 pub mod Buffers
 pub mod Steps
 pub mod Lends
+pub mod Dates

@@ -1,9 +1,9 @@
 -- What is told of what was answered.
 use Rattle.std.proofs.Common.{◌≡◌, Option, ap, ◌∙◌}
 use Rattle.std.specs.Prelude.{IfOk, Result, Ok, Err}
-use Rattle.check_spec.specs.declared.ports.PortFault.{PortFault}
-use Rattle.check_spec.specs.Checking as checking
-use Rattle.check_spec.specs.Ports.{unless_refused}
+use Rattle.report_spec.specs.declared.ports.PortFault.{PortFault}
+use Rattle.report_spec.specs.Checking as checking
+use Rattle.report_spec.specs.Ports.{unless_refused}
 use Rattle.rtt_check.specs.declared.reports.Report.{Report}
 use Rattle.rtt_check.specs.Reports.{told_of}
 

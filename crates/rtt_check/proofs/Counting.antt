@@ -3,7 +3,7 @@ use Rattle.std.proofs.Common.{◌≡◌, ◌≤◌, ℕ, ◌+◌, List, [], ◌�
 use Rattle.wire_spec.specs.Dump.{Item, What, Whole, Rtcp, Cut, Large}
 use Rattle.rtpdump_io.specs.declared.readers.DumpReader.{DumpReader}
 use Rattle.rtpdump_io.proofs.Records.{ReadSome}
-use Rattle.check_spec.specs.Checking.{packets_in, packets_of}
+use Rattle.report_spec.specs.Checking.{packets_in, packets_of}
 
 at_most_one : (what : What) → packets_of what ≤ 1
 at_most_one (Whole octets) = omega arith

@@ -5,8 +5,8 @@ use Rattle.wire_spec.specs.Dump.{Item}
 use Rattle.file_spec.specs.declared.conference_lines.LegLine.{LegLine}
 use Rattle.rtpdump_io.specs.declared.readers.DumpReader.{DumpReader}
 use Rattle.rtpdump_io.proofs.Records.{ReadSome}
-use Rattle.check_spec.specs.declared.streams.Stream.{Stream}
-use Rattle.check_spec.specs.Inputs.{first_stream, is_of_leg, or_later, stream_of}
+use Rattle.report_spec.specs.declared.streams.Stream.{Stream}
+use Rattle.report_spec.specs.Inputs.{first_stream, is_of_leg, or_later, stream_of}
 
 or_right : (a b c : Bool) → (a || (b || c)) ≡ ((a || b) || c)
 or_right true b c = refl

@@ -1,6 +1,6 @@
 -- Lines by their numbers.
 use Rattle.std.proofs.Common.{◌≡◌, ℕ, zero, suc, ◌-◌, List, ◌∷◌, refl, ap, arith}
-use Rattle.check_spec.specs.Checking.{line_at}
+use Rattle.report_spec.specs.Checking.{line_at}
 
 -- the line behind the first one
 pub behind_first : (n : ℕ) (line : List ℕ) (more : List (List ℕ)) → (n ≡ 0 → ⊥) → (n ≡ 1 → ⊥) → line_at n (line ∷ more) ≡ line_at (n - 1) more

@@ -1,1 +1,3 @@
+pub mod Causes
+pub mod MemPorts
 pub mod Reports

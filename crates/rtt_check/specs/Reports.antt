@@ -2,7 +2,7 @@
 use Rattle.std.specs.Prelude.{Option, None, Some}
 use Rattle.wire_spec.specs.Dump as dumps
 use Rattle.rtpdump_io.specs.declared.items.DumpFault.{DumpFault}
-use Rattle.check_spec.specs.Checking as checking
+use Rattle.report_spec.specs.Checking as checking
 use Rattle.rtt_check.specs.declared.reports.Report.{Report}
 
 abbrev pub as_told : Report → checking.Report

@@ -1,12 +1,12 @@
 //! What a file is.
 ghost use Rattle.std.specs.Prelude.{◌≡◌, IfOk};
 ghost use Rattle.std.specs.Str.Lines.{lines};
-ghost use Rattle.check_spec.specs.Forms.{begins, conference_of, fault_line, first_said, foreign, form_of, furthest, goes_further, has_mark, is_right_to, is_utf16, mixed_of, other_text, text_form, without_mark};
+ghost use Rattle.report_spec.specs.Forms.{begins, conference_of, fault_line, first_said, foreign, form_of, furthest, goes_further, has_mark, is_right_to, is_utf16, mixed_of, other_text, text_form, without_mark};
 
 use crate::lines::{begins_with_moment, first_said, has_conference, has_link, has_recording};
-use check_spec::FileForm;
 use conf_text::{ConfFault, read_conf};
 use file_spec::Form;
+use report_spec::FileForm;
 use rtt_base::NoMemory;
 use std::alloc::Global;
 

@@ -3,9 +3,9 @@ ghost use Rattle.std.specs.Prelude.{◌≡◌, ◌≤◌, ◌++◌, codes, optio
 ghost use Rattle.std.specs.Str.Lines.{lines};
 ghost use Rattle.wire_spec.specs.Dump.{dump};
 ghost use Rattle.wire_spec.specs.declared.limits.TheConstants.{MOST_RECORDING_OCTETS};
-ghost use Rattle.check_spec.specs.Checking.{line_at};
-ghost use Rattle.check_spec.specs.Inputs as inputs;
-ghost use Rattle.check_spec.specs.Looks.{legs_as, legs_in, legs_read, legs_unless};
+ghost use Rattle.report_spec.specs.Checking.{line_at};
+ghost use Rattle.report_spec.specs.Inputs as inputs;
+ghost use Rattle.report_spec.specs.Looks.{legs_as, legs_in, legs_read, legs_unless};
 ghost use Rattle.command_spec.specs.Cascading.{odd_line};
 ghost use Rattle.file_spec.specs.Conference.{conference_from};
 ghost use Rattle.file_spec.specs.declared.conference_lines.Form.TheVariants.{Files};
@@ -13,19 +13,18 @@ ghost use Rattle.rtt_check.specs.Reports.{as_told, dump_fault};
 
 use crate::forms::{foreign, form_of};
 use crate::lines::line_at;
+use crate::name_texts::append_told;
 use crate::refusals::{append_dump, append_shown, append_shown_at};
 use crate::reports::{Report, begin, copy_of, end};
 use crate::sentences::{STREAM_SENTENCE, form_name, input_dump_sentence, input_sentence};
 use crate::streams::{LegContent, hear_leg};
-use crate::name_texts::append_told;
 use crate::trunks::odd_line;
-use check_spec::limits::MOST_CHECKED_OCTETS;
-use check_spec::{FileForm, Stream};
 use conf_text::{ConfFault, read_conf};
-use conference::Legs;
-use file_spec::{Form, LegLine};
+use file_spec::{Form, LegLine, Legs};
 use itoa::Buffer;
 use mixer_spec::limits::{MOST_INPUT_OF_MANY, PLACES};
+use report_spec::limits::MOST_CHECKED_OCTETS;
+use report_spec::{FileForm, Stream};
 use rtpdump_io::{DumpFault, DumpReader, RecordingFault};
 use rtt_base::{Bytes, NoMemory};
 use rtt_io::SteadySource;
@@ -234,7 +233,7 @@ fn input_told(
     recording_told(alloc, limit, leg, line, octets)
 }
 
-/// What is told of the IN of a leg of the conference with the octets `conference`, where it may have `limit` octets and has these. Nothing
+/// What is told of the IN of a leg of the conference with the octets `file_spec`, where it may have `limit` octets and has these. Nothing
 /// is where all is well.
 pub fn leg_told(
     alloc: Global,
@@ -244,8 +243,7 @@ pub fn leg_told(
     octets: &[u8],
 ) -> Result<Option<Report>, NoMemory>
     requires { limit ≤ MOST_RECORDING_OCTETS }
-    ensures { IfOk result (λ found. option_map as_told found ≡ inputs.leg_told limit conference.now leg.now octets.now)
-        }
+    ensures { IfOk result (λ found. option_map as_told found ≡ inputs.leg_told limit conference.now leg.now octets.now) }
 {
     input_told(alloc, limit, leg, line_at(conference, leg.line), octets)
 }

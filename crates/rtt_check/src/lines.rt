@@ -6,12 +6,12 @@ ghost use Rattle.std.specs.Str.Lines.{lines};
 ghost use Rattle.file_spec.specs.Conference.{is_blank};
 ghost use Rattle.file_spec.specs.Lines.{words};
 ghost use Rattle.file_spec.specs.Numbers.{is_number};
-ghost use Rattle.check_spec.specs.Checking.{line_at, word_in};
-ghost use Rattle.check_spec.specs.Forms.{begins_with_moment, first_said, is_conference_word, is_of_conference, is_linked, is_of_link, is_of_moment, is_of_recording, has_leg_words, leg_is_linked, leg_is_recorded, line_word, packet_word, said, service_word, time_word, word_of};
+ghost use Rattle.report_spec.specs.Checking.{line_at, word_in};
+ghost use Rattle.report_spec.specs.Forms.{begins_with_moment, first_said, is_conference_word, is_of_conference, is_linked, is_of_link, is_of_moment, is_of_recording, has_leg_words, leg_is_linked, leg_is_recorded, line_word, packet_word, said, service_word, time_word, word_of};
 
-use check_spec::LineWord;
-use file_lines::{next_line, says_nothing, text_of};
+use report_spec::LineWord;
 use rtt_base::NoMemory;
+use script_text::{next_line, says_nothing, text_of};
 use std::alloc::Global;
 
 fn all_spaces(line: &[u8]) -> bool

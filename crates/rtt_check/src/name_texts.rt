@@ -1,7 +1,7 @@
 //! Names as they are told.
 ghost use Rattle.std.specs.Prelude.{◌≡◌, ◌++◌, encode_utf8, OnOk};
-ghost use Rattle.text_spec.specs.Views.{is_direction};
-ghost use Rattle.check_spec.specs.Told.{told_character, told_name};
+ghost use Rattle.view_spec.specs.TextViews.{is_direction};
+ghost use Rattle.report_spec.specs.Told.{told_character, told_name};
 
 use rtt_base::{Bytes, NoMemory};
 

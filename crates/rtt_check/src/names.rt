@@ -2,8 +2,7 @@
 ghost use Rattle.std.specs.Prelude.{◌≡◌};
 ghost use Rattle.command_spec.specs.Messages.{conf_kind_name, frame_kind_name};
 
-use file_spec::ConfKind;
-use frame_spec::FrameKind;
+use file_spec::{ConfKind, FrameKind};
 
 /// The name of a fault of a script or a conference.
 pub fn conf_kind_name(kind: ConfKind) -> &'static [u8]

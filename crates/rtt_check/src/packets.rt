@@ -3,7 +3,7 @@ ghost use Rattle.std.specs.Prelude.{◌≡◌, List, ℕ, IfOk};
 ghost use Rattle.rtpdump_io.specs.Answers.{record_of};
 ghost use Rattle.rtpdump_io.specs.Calls.{ReadsToEnd};
 ghost use Rattle.rtpdump_io.specs.Reading.{to_come};
-ghost use Rattle.check_spec.specs.Checking.{packets_in, packets_of};
+ghost use Rattle.report_spec.specs.Checking.{packets_in, packets_of};
 
 use rtpdump_io::{DumpItem, DumpReader, RecordingFault};
 use rtt_base::Packet;

@@ -1,28 +1,27 @@
 //! What is told of the ports of a conference of links.
 ghost use Rattle.std.specs.Prelude.{◌≡◌, ◌++◌, None, option_map, OnOk, IfOk};
-ghost use Rattle.check_spec.specs.Checking as checking;
-ghost use Rattle.check_spec.specs.Ports as told;
-ghost use Rattle.check_spec.specs.Looks.{links_as, links_in, links_read};
-ghost use Rattle.conference.specs.Conferences.{meaning_of};
+ghost use Rattle.report_spec.specs.Checking as checking;
+ghost use Rattle.report_spec.specs.Ports as told;
+ghost use Rattle.report_spec.specs.Looks.{links_as, links_in, links_read};
+ghost use Rattle.file_spec.specs.Conferences.{meaning_of};
 ghost use Rattle.file_spec.specs.Conference.{conference_from};
 ghost use Rattle.file_spec.specs.declared.conference_lines.Form.TheVariants as of;
 ghost use Rattle.rtt_check.specs.Reports.{as_told, told_of};
 
+use crate::Ports;
 use crate::forms::{foreign, form_of};
 use crate::inputs::fault_ended;
 use crate::lines::line_at;
+use crate::name_texts::append_told;
 use crate::reports::{Report, begin};
 use crate::sentences::port_sentence;
-use crate::name_texts::append_told;
-use check_spec::limits::MOST_CHECKED_OCTETS;
-use check_spec::{FileForm, PortFault};
 use conf_text::{ConfFault, read_conf};
-use conference::Conference;
-use file_lines::number_from;
-use file_spec::{Form, LegLine, OperatorLine};
+use file_spec::{Conference, Form, LegLine, OperatorLine};
 use itoa::Buffer;
-use port_io::Ports;
+use report_spec::limits::MOST_CHECKED_OCTETS;
+use report_spec::{FileForm, PortFault};
 use rtt_base::{Bytes, NoMemory};
+use script_text::number_from;
 use std::alloc::Global;
 
 /// The peer of a link at the port of an operator, who is anywhere on this machine.
@@ -63,7 +62,7 @@ fn append_had(text: &mut Bytes, fault: PortFault, leg: &LegLine) -> Result<(), N
     }
 }
 
-/// A leg of the conference with the octets `conference` whose port can't be had.
+/// A leg of the conference with the octets `file_spec` whose port can't be had.
 fn link_told(
     alloc: Global,
     conference: &[u8],

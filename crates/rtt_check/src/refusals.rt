@@ -2,16 +2,15 @@
 ghost use Rattle.std.specs.Prelude.{◌≡◌, ◌<◌, ◌++◌, drop, flat_map, map, take, option_map, OnOk};
 ghost use Rattle.command_spec.specs.declared.faults.Refusal.TheVariants.{AtByte, AtFrame, AtLine, AtTrunk};
 ghost use Rattle.command_spec.specs.Messages.{byte_message, line_message, refusal_message};
-ghost use Rattle.check_spec.specs.Checking.{hex_digit, hex_octet, shown, shown_at, shown_line, shown_octet, shown_octets};
-ghost use Rattle.check_spec.specs.Told.{told_name};
+ghost use Rattle.report_spec.specs.Checking.{hex_digit, hex_octet, shown, shown_at, shown_line, shown_octet, shown_octets};
+ghost use Rattle.report_spec.specs.Told.{told_name};
 
-use crate::names::{conf_kind_name, frame_kind_name};
 use crate::name_texts::append_told;
-use check_spec::limits::{MOST_SHOWN_AT_BYTE, MOST_SHOWN_OCTETS};
+use crate::names::{conf_kind_name, frame_kind_name};
 use command_spec::dump_kind_name;
-use file_spec::ConfKind;
-use frame_spec::FrameKind;
+use file_spec::{ConfKind, FrameKind};
 use itoa::Buffer;
+use report_spec::limits::{MOST_SHOWN_AT_BYTE, MOST_SHOWN_OCTETS};
 use rtt_base::{Bytes, NoMemory};
 use wire_spec::DumpKind;
 

@@ -1,9 +1,9 @@
 //! What is told of a file.
 ghost use Rattle.std.specs.Prelude.{◌≡◌, ◌++◌, [], codes, false, IfOk};
 ghost use Rattle.std.specs.Str.Lines.{lines};
-ghost use Rattle.check_spec.specs.declared.forms.FileForm.TheVariants as form;
-ghost use Rattle.check_spec.specs.Checking as checking;
-ghost use Rattle.check_spec.specs.Sentences.{dump_sentence, form_name, frame_sentence};
+ghost use Rattle.report_spec.specs.declared.forms.FileForm.TheVariants as form;
+ghost use Rattle.report_spec.specs.Checking as checking;
+ghost use Rattle.report_spec.specs.Sentences.{dump_sentence, form_name, frame_sentence};
 ghost use Rattle.command_spec.specs.Cascading.{odd_line};
 ghost use Rattle.command_spec.specs.Frames.{AreTyped};
 ghost use Rattle.command_spec.specs.Scripts.{full_line};
@@ -21,19 +21,17 @@ use crate::sentences::{
     frame_sentence, script_sentence, trunk_sentence,
 };
 use crate::trunks::{is_on_trunk, odd_line};
-use check_spec::FileForm;
-use check_spec::limits::MOST_CHECKED_OCTETS;
 use conf_text::{ConfFault, read_conf};
-use file_spec::{ConfKind, Form, LegLine};
-use frame_spec::FrameRefusal;
+use file_spec::{ConfKind, Form, FrameRefusal, LegLine};
 use itoa::Buffer;
+use report_spec::FileForm;
+use report_spec::limits::MOST_CHECKED_OCTETS;
 use rtpdump_io::{DumpFault, DumpReader, RecordingFault};
 use rtt_base::{Bytes, NoMemory};
 use rtt_io::SteadySource;
-use rtt_relay::{RelayFault, relay_frames};
-use rtt_send::{SendFault, send_script, usual_settings};
 use script_text::{Script, read_script};
 use std::alloc::Global;
+use text_conversions::{RelayFault, SendFault, relay_frames, send_script, usual_settings};
 
 /// What is told of a file, and whether the program takes it.
 #[derive(Debug, Drop)]
@@ -287,7 +285,12 @@ fn conference_whole(
     }
 }
 
-fn conference_report(alloc: Global, form: Form, name: &str, octets: &[u8]) -> Result<Report, NoMemory>
+fn conference_report(
+    alloc: Global,
+    form: Form,
+    name: &str,
+    octets: &[u8],
+) -> Result<Report, NoMemory>
     ensures { IfOk result (λ report. as_told report ≡ checking.conference_report form name.now octets.now) }
 {
     match read_conf(alloc, octets, form) {

@@ -1,10 +1,9 @@
 //! What is wrong with a file, and what to do.
 ghost use Rattle.std.specs.Prelude.{◌≡◌};
-ghost use Rattle.check_spec.specs.Sentences.{clash_sentence, conference_sentence, count_sentence, dump_sentence, form_name, form_sentence, frame_sentence, input_dump_sentence, input_sentence, many_sentence, name_sentence, number_sentence, port_sentence, script_sentence, trunk_sentence, twice_sentence, word_sentence};
+ghost use Rattle.report_spec.specs.Sentences.{clash_sentence, conference_sentence, count_sentence, dump_sentence, form_name, form_sentence, frame_sentence, input_dump_sentence, input_sentence, many_sentence, name_sentence, number_sentence, port_sentence, script_sentence, trunk_sentence, twice_sentence, word_sentence};
 
-use check_spec::{FileForm, LineWord, PortFault};
-use file_spec::{ConfKind, Form};
-use frame_spec::FrameKind;
+use file_spec::{ConfKind, Form, FrameKind};
+use report_spec::{FileForm, LineWord, PortFault};
 use wire_spec::DumpKind;
 
 /// What a file is.
@@ -364,7 +363,8 @@ fn clash_sentence(form: Form, word: LineWord) -> &'static [u8]
         (Form::Files, LineWord::Leg) =>
             b"the SSRC is that of a leg or the mixer above, the OUT is that of a leg above, an OUT is an IN, or the two payload types are the same: give each its own",
         (Form::Files, LineWord::Mixer) => b"a leg above has this SSRC: give the mixer its own",
-        (Form::Files, LineWord::Generations) => b"a leg above has this SSRC: give the mixer its own",
+        (Form::Files, LineWord::Generations) =>
+            b"a leg above has this SSRC: give the mixer its own",
         (Form::Files, LineWord::Stay) => b"a leg above has this SSRC: give the mixer its own",
         (Form::Files, LineWord::Tick) => b"a leg above has this SSRC: give the mixer its own",
         (Form::Files, LineWord::Spacing) => b"a leg above has this SSRC: give the mixer its own",
@@ -384,7 +384,8 @@ fn clash_sentence(form: Form, word: LineWord) -> &'static [u8]
         (Form::Links, LineWord::Leg) =>
             b"the SSRC is that of a leg or the mixer above, the IN is that of a leg or the operator above, the OUT is that of a leg above, or the two payload types are the same: give each its own",
         (Form::Links, LineWord::Mixer) => b"a leg above has this SSRC: give the mixer its own",
-        (Form::Links, LineWord::Generations) => b"a leg above has this SSRC: give the mixer its own",
+        (Form::Links, LineWord::Generations) =>
+            b"a leg above has this SSRC: give the mixer its own",
         (Form::Links, LineWord::Stay) => b"a leg above has this SSRC: give the mixer its own",
         (Form::Links, LineWord::Tick) => b"a leg above has this SSRC: give the mixer its own",
         (Form::Links, LineWord::Spacing) => b"a leg above has this SSRC: give the mixer its own",

@@ -6,11 +6,11 @@ ghost use Rattle.wire_spec.specs.Rtp.{rtp};
 ghost use Rattle.rtpdump_io.specs.Answers.{record_of};
 ghost use Rattle.rtpdump_io.specs.Calls.{ReadsToEnd};
 ghost use Rattle.rtpdump_io.specs.Reading.{to_come};
-ghost use Rattle.check_spec.specs.Inputs.{first_stream, is_of_leg, is_stream_of, or_later, stream_of, stream_read};
+ghost use Rattle.report_spec.specs.Inputs.{first_stream, is_of_leg, is_stream_of, or_later, stream_of, stream_read};
 
-use check_spec::Stream;
 use file_spec::LegLine;
-use rtp_header::read_rtp;
+use report_spec::Stream;
+use rtp_text::read_rtp;
 use rtpdump_io::{DumpItem, DumpReader, RecordingFault};
 use rtt_base::Packet;
 use rtt_io::Source;
@@ -43,7 +43,8 @@ fn stream_of(item: DumpItem, octets: &[u8]) -> Option<Stream>
 fn is_stream_of(leg: &LegLine, stream: Stream) -> bool
     ensures { result ≡ is_stream_of leg.now stream }
 {
-    stream.ssrc == leg.ssrc && (stream.pt == leg.payload_types.t140 || stream.pt == leg.payload_types.red)
+    stream.ssrc == leg.ssrc
+        && (stream.pt == leg.payload_types.t140 || stream.pt == leg.payload_types.red)
 }
 
 /// Whether there is one, and it is.

@@ -1,6 +1,5 @@
-use crate::{leg_told, legs_in, links_in, most_of_input, ports_told, report_of};
-use check_spec::PortFault;
-use port_io::MemPorts;
+use crate::{MemPorts, leg_told, legs_in, links_in, most_of_input, ports_told, report_of};
+use report_spec::PortFault;
 use rtt_base::{Bytes, NoMemory};
 use std::alloc::Global;
 use std::test::Fail;

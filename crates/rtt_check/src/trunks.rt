@@ -16,7 +16,8 @@ pub fn is_on_trunk(leg: &LegLine) -> bool
 fn has_other_types(leg: &LegLine) -> bool
     ensures { result ≡ has_other_types leg.now }
 {
-    is_on_trunk(leg) && !(leg.payload_types.t140 == USUAL_T140 && leg.payload_types.red == USUAL_RED)
+    is_on_trunk(leg)
+        && !(leg.payload_types.t140 == USUAL_T140 && leg.payload_types.red == USUAL_RED)
 }
 
 /// The line of the first leg behind the other mixer that has other payload types than the recording.

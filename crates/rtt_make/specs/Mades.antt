@@ -1,6 +1,6 @@
 -- What the code makes of a number, in the words of the definitions.
 use Rattle.std.specs.Prelude.{◌≡◌, ℕ}
-use Rattle.conference.specs.Conferences.{meaning_of}
+use Rattle.file_spec.specs.Conferences.{meaning_of}
 use Rattle.command_spec.specs.Generated.{Generated, generated}
 use Rattle.rtt_make.specs.declared.conferences.Made.{Made}
 

@@ -1,7 +1,7 @@
 //! The conference, with the script and the first sequence number of each leg.
 ghost use Rattle.std.specs.Prelude.{◌≡◌, ◌==◌, ◌<◌, ◌≤◌, ◌++◌, [], ◌∷◌, map, IfOk};
 ghost use Rattle.file_spec.specs.Kept.{IsConference};
-ghost use Rattle.conference.specs.Conferences.{meaning_of};
+ghost use Rattle.file_spec.specs.Conferences.{meaning_of};
 ghost use Rattle.command_spec.specs.Draws.{times};
 ghost use Rattle.command_spec.specs.Generated.{conference_of, generated, typist};
 ghost use Rattle.rtt_make.specs.Mades.{made_of};
@@ -10,8 +10,8 @@ use crate::draws::Draws;
 use crate::legs::legs_of;
 use crate::plans::draw_plan;
 use crate::scripts::draw_typist;
-use conference::{Conference, MixerLine, Plan, Service};
 use file_spec::limits::{MOST_TURNS, USUAL_SPACING, USUAL_TICK};
+use file_spec::{Conference, MixerLine, Plan, Service};
 use rtt_base::limits::USUAL_WAIT;
 use rtt_base::{GrowingList, NoMemory};
 use script_text::Script;

@@ -3,8 +3,8 @@ ghost use Rattle.std.specs.Prelude.{◌≡◌, ◌≤◌, ◌<◌, ◌++◌, cod
 ghost use Rattle.std.specs.List.{range_with_len};
 ghost use Rattle.command_spec.specs.Generated.{leg};
 
-use conference::{LegLine, Legs, Stay, name_of};
 use file_spec::limits::{USUAL_GENERATIONS, USUAL_RED, USUAL_T140};
+use file_spec::{LegLine, Legs, Stay, name_of};
 use rtt_base::{Name, NoMemory, Path, PayloadTypes};
 use std::alloc::Global;
 

@@ -1,10 +1,10 @@
 //! The conference that is made from a number, and what is typed in it.
 #![tactic(auto)]
 
+mod conferences;
 mod counts;
 mod draws;
 mod legs;
-mod conferences;
 mod plans;
 mod scripts;
 mod senders;

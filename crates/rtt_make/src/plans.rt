@@ -6,7 +6,7 @@ ghost use Rattle.command_spec.specs.Draws.{times};
 ghost use Rattle.command_spec.specs.Generated.{plan_line, what, without_repeats};
 
 use crate::draws::Draws;
-use conference::{Plan, PlanLine, What, is_planned};
+use file_spec::{Plan, PlanLine, What, is_planned};
 use rtt_base::NoMemory;
 use std::alloc::Global;
 

@@ -6,8 +6,8 @@ ghost use Rattle.rtt_make.specs.Mades.{made_of, IsGenerated};
 use crate::Made;
 use crate::legs::leg_ssrc;
 use rtt_base::{Bytes, NoMemory};
-use rtt_send::{SendFault, send_script, usual_settings};
 use std::alloc::Global;
+use text_conversions::{SendFault, send_script, usual_settings};
 
 /// The recording of what a leg sends of its script.
 fn recording_of(alloc: Global, made: &Made, leg: usize) -> Result<Bytes, NoMemory>

@@ -1,7 +1,7 @@
 //! Conferences that another program made from the same numbers.
 use crate::draws::Draws;
-use crate::{Totals, Made, make_conf, recordings_of, summary_of};
-use conference::{PlanLine, What};
+use crate::{Made, Totals, make_conf, recordings_of, summary_of};
+use file_spec::{PlanLine, What};
 use std::test::Fail;
 
 #[test]

@@ -1,11 +1,10 @@
 //! What the conference of a live call says of its links, of an operator and of recordings, before the call begins.
+use call_links::{Desk, Operator, RealPort};
 use conf_text::{ConfFault, Form, read_conf};
-use conference::Conference;
+use file_spec::Conference;
 use file_spec::limits::MOST_CONFERENCE_OCTETS;
-use journal_io::Journals;
 use link_io::Links;
-use operated_links::{Desk, Operator, RealPort};
-use recorded_links::{BeginFault, RecordedLinks, start_of};
+use recorded_links::{BeginFault, Journals, RecordedLinks, start_of};
 use rtt_base::NoMemory;
 use rtt_io::{ReadFault, World, read_whole};
 use rtt_words::{Command, WordFault, command_of};
@@ -87,7 +86,11 @@ fn conference_under<W: World>(
 }
 
 /// The operator of the call of this conference, at the port that it says. Where the system does not give the port, nobody can be heard.
-fn operator_of<R: Net>(rt: &R, alloc: Global, conference: Conference) -> Result<Operator<RealPort>, NoMemory> {
+fn operator_of<R: Net>(
+    rt: &R,
+    alloc: Global,
+    conference: Conference,
+) -> Result<Operator<RealPort>, NoMemory> {
     let port = match &conference.service.operator {
         Some(operator) => operator.port,
         None => return Ok(Operator::Nobody),

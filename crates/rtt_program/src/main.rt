@@ -6,7 +6,7 @@ mod calls;
 
 ghost use Rattle.std.specs.Prelude.{◌≡◌, ◌≢◌, ◌++◌, true, None, Ok, drop, codes, string_bytes, IfOk, IfSome, IsSome, OnErr};
 ghost use Rattle.std.specs.Process.{exit_status};
-ghost use Rattle.check_spec.specs.Told.{told_name};
+ghost use Rattle.report_spec.specs.Told.{told_name};
 ghost use Rattle.command_spec.specs.Messages.{trouble};
 ghost use Rattle.rtt_io.specs.Counts.{Rose};
 ghost use Rattle.rtt_top.specs.Lives.{RunsCall, uses_no_link};
@@ -14,15 +14,13 @@ ghost use Rattle.rtt_top.specs.Outside.{outside_over, output_at};
 ghost use Rattle.rtt_top.specs.Runs.{asked_by, Runs};
 ghost use Rattle.rtt_top.specs.Trials.{RunsLook, tries_no_port};
 
+use call_links::{LeavingLinks, OperatedLinks, Operator, OperatorPort, Silence};
 use calls::{CallFault, CallService, service_of};
 use command_spec::Fault;
-use journal_io::{Journals, RealJournals};
-use leaving_links::{LeavingLinks, Silence};
 use link_io::{Links, RealLinks};
-use operated_links::{OperatedLinks, Operator, OperatorPort};
-use port_io::{Ports, RealPorts};
-use recorded_links::{LinksReturn, RecordedLinks};
+use recorded_links::{Journals, LinksReturn, RealJournals, RecordedLinks};
 use rtt_base::NoMemory;
+use rtt_check::{Ports, RealPorts};
 use rtt_io::{RealWorld, Sink, StandardError, StandardOutput, StillGate, World};
 use rtt_top::{finish_with, run};
 use std::alloc::{AllocError, Global};

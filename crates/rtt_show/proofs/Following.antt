@@ -14,10 +14,10 @@ use Rattle.gap_tracker.specs.States.{State, current_of, with_packet}
 use Rattle.gap_tracker.specs.Tracks.{Tracks}
 use Rattle.gap_tracker.specs.Told.{LeadsStory, TellsStory, Gives, came_current, is_current_in_time}
 use Rattle.gap_tracker.proofs.Steps.{tracks_with}
-use Rattle.ear.specs.Hears.{IsToldOf}
-use Rattle.ear.proofs.ReadyBy.{told_arrived}
-use Rattle.show_spec.specs.Missed.{lost_count}
-use Rattle.show_spec.specs.Showing.{numbers_of}
+use Rattle.receiver.specs.Hears.{IsToldOf}
+use Rattle.receiver.proofs.ReadyBy.{told_arrived}
+use Rattle.report_spec.specs.Missed.{lost_count}
+use Rattle.report_spec.specs.Showing.{numbers_of}
 use Rattle.rtt_show.specs.declared.losses.Losses.{Losses}
 use Rattle.rtt_show.specs.declared.spreads.Spread.{Spread}
 use Rattle.rtt_show.specs.declared.strays.NumberedPacket.{NumberedPacket}

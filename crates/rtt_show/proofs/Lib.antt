@@ -1,3 +1,4 @@
+pub mod Beginning
 pub mod Surveying
 pub mod Signing
 pub mod Firsts

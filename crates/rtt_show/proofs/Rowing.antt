@@ -22,9 +22,9 @@ use Rattle.command_spec.specs.Firsts.{Firsts, firsts, with_name}
 use Rattle.command_spec.specs.Streams.{source_in, sources, text_at}
 use Rattle.command_spec.specs.Showing.{hearing, is_refused_as}
 use Rattle.command_spec.specs.Reading.{usual_wait}
-use Rattle.times_spec.specs.Numbers.{late, lost_among, lost_from}
-use Rattle.times_spec.specs.Times.{number_lines}
-use Rattle.show_spec.specs.Missed.{late_count}
+use Rattle.report_spec.specs.Numbers.{late, lost_among, lost_from}
+use Rattle.report_spec.specs.Times.{number_lines}
+use Rattle.report_spec.specs.Missed.{late_count}
 use Rattle.stream_spec.proofs.Rising.{length_by_number}
 use Rattle.rtt_show.specs.declared.origins.Origin.{Origin}
 use Rattle.rtt_show.specs.declared.rows.Row.{Row}

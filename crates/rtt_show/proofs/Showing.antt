@@ -8,8 +8,8 @@ use Rattle.std.proofs.Math.ListN.{drop_of_length-le}
 use Rattle.rtt_base.specs.declared.text_packets.PayloadTypes.{PayloadTypes}
 use Rattle.rtt_base.specs.declared.limits.TheConstants.{MOST_SOURCES}
 use Rattle.wire_spec.specs.Dump.{Item, sent_item}
-use Rattle.source_receiver.specs.declared.source_texts.SourceText.{SourceText}
-use Rattle.text_spec.specs.Shown.{shown}
+use Rattle.receiver.specs.declared.source_texts.SourceText.{SourceText}
+use Rattle.view_spec.specs.Shown.{shown}
 use Rattle.view_spec.specs.declared.counts.Counts.{Counts}
 use Rattle.view_spec.specs.Seen.{Reception, text_at, source_at, counts_at}
 use Rattle.view_spec.specs.Views.{Source, source_view, counts_line}
@@ -17,9 +17,9 @@ use Rattle.command_spec.specs.Firsts.{Firsts}
 use Rattle.command_spec.specs.Streams.{Sort, sort_of, is_name, naming, stream_of, pair_of, sources, source_in, is_dynamic, is_like_text, are_like_text, type_inside, may_be_red}
 use Rattle.command_spec.specs.Streams as streams
 use Rattle.command_spec.specs.Showing.{hearing, speaker, sources_seen, refusals, place_of, refusal_line, refusal_lines, refused_as, number_line, other_lines, how_many, least_time, greatest_time}
-use Rattle.show_spec.specs.Showing.{numbers_of, title_of, stream_title, stream_view, pair_view, items_view}
-use Rattle.show_spec.specs.Guesses.{has_payload, filled, is_accepted, accepted, are_mostly_text, may_be_plain, guess, guess_line}
-use Rattle.show_spec.specs.Missed.{lost_count, late_count}
+use Rattle.report_spec.specs.Showing.{numbers_of, title_of, stream_title, stream_view, pair_view, items_view}
+use Rattle.report_spec.specs.Guesses.{has_payload, filled, is_accepted, accepted, are_mostly_text, may_be_plain, guess, guess_line}
+use Rattle.report_spec.specs.Missed.{lost_count, late_count}
 use Rattle.command_spec.specs.Reading.{usual_wait}
 use Rattle.rtt_show.specs.declared.losses.Losses.{Losses}
 use Rattle.rtt_show.specs.Missed.{IsMissed, IsMissedOf}

@@ -10,7 +10,7 @@ use Rattle.command_spec.specs.Streams.{payload_of, first_type, has_redundant, ty
 use Rattle.rtt_show.specs.declared.signs.Signs.{Signs}
 use Rattle.rtt_show.specs.Signs.{AreSigns, SignsMore}
 use Rattle.rtt_show.specs.Finds.{one_if}
-use Rattle.show_spec.specs.Guesses.{has_payload}
+use Rattle.report_spec.specs.Guesses.{has_payload}
 use Rattle.rtt_show.proofs.Surveying.{count_more}
 
 or_false : (b : Bool) → (b || false) ≡ b

@@ -13,8 +13,8 @@ use Rattle.stream_spec.proofs.GivingUp.{has_in, in_has}
 use Rattle.stream_spec.proofs.Matched.{used_in}
 use Rattle.stream_spec.proofs.Rising.{new_number, length_by_number}
 use Rattle.command_spec.specs.Reading.{usual_wait}
-use Rattle.times_spec.specs.Numbers.{is_late, late}
-use Rattle.show_spec.specs.Missed.{late_count}
+use Rattle.report_spec.specs.Numbers.{is_late, late}
+use Rattle.report_spec.specs.Missed.{late_count}
 use Rattle.rtt_show.specs.declared.strays.NumberedPacket.{NumberedPacket}
 use Rattle.rtt_show.specs.declared.strays.Strays.{Strays}
 use Rattle.rtt_show.specs.Finds.{one_if}

@@ -19,7 +19,7 @@ use Rattle.rtt_show.specs.Surveys.{seen, is_like, is_read, all_faults, IsSurvey,
 use Rattle.rtt_show.specs.Spreads.{IsSpread}
 use Rattle.rtt_show.specs.declared.spreads.Spread.{Spread}
 use Rattle.rtt_show.specs.Finds.{one_if}
-use Rattle.show_spec.specs.Guesses.{is_ok}
+use Rattle.report_spec.specs.Guesses.{is_ok}
 use Rattle.rtt_show.specs.declared.surveys.Survey.{Survey}
 
 pub least_more : (came : List Item) (item : Item) → least_time (came ++ item ∷ []) ≡ min (least_time came) item.time

@@ -1,3 +1,5 @@
+pub mod Openings
+pub mod Heads
 pub mod Records
 pub mod Spreads
 pub mod Surveys

@@ -4,8 +4,8 @@ use Rattle.rtt_base.specs.declared.text_packets.PayloadTypes.{PayloadTypes}
 use Rattle.wire_spec.specs.Dump.{Item}
 use Rattle.stream_spec.specs.Numbering.{used}
 use Rattle.command_spec.specs.Reading.{usual_wait}
-use Rattle.show_spec.specs.Missed.{lost_count, late_count}
-use Rattle.show_spec.specs.Showing.{numbers_of}
+use Rattle.report_spec.specs.Missed.{lost_count, late_count}
+use Rattle.report_spec.specs.Showing.{numbers_of}
 use Rattle.rtt_show.specs.declared.losses.Losses.{Losses}
 use Rattle.rtt_show.specs.declared.spreads.Spread.{Spread}
 use Rattle.rtt_show.specs.Spreads.{IsSpread}

@@ -6,7 +6,7 @@ use Rattle.wire_spec.specs.Dump.{Item}
 use Rattle.view_spec.specs.Views.{printed_line, source_view, counts_line}
 use Rattle.command_spec.specs.Reading.{usual_wait}
 use Rattle.command_spec.specs.Showing.{refusals, place_of, refusal_line, number_line}
-use Rattle.show_spec.specs.Guesses.{guess_line}
+use Rattle.report_spec.specs.Guesses.{guess_line}
 use Rattle.terminal.specs.declared.settings.TerminalSettings.{TerminalSettings}
 use Rattle.terminal.specs.declared.terminals.Terminal.{Terminal}
 use Rattle.terminal.specs.Terminals.{texts_of, counts_of}

@@ -5,7 +5,7 @@ use Rattle.wire_spec.specs.Packets.{has_text}
 use Rattle.rtt_base.specs.declared.text_packets.PayloadTypes.{PayloadTypes}
 use Rattle.wire_spec.specs.Dump.{Item, Whole}
 use Rattle.command_spec.specs.Streams.{payload_of, first_type, has_redundant, type_inside}
-use Rattle.show_spec.specs.Guesses.{filled, is_accepted}
+use Rattle.report_spec.specs.Guesses.{filled, is_accepted}
 use Rattle.rtt_show.specs.Finds.{one_if}
 use Rattle.rtt_show.specs.declared.signs.Signs.{Signs}
 

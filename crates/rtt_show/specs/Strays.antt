@@ -10,8 +10,8 @@ use Rattle.command_spec.specs.Reading.{usual_wait}
 use Rattle.gap_tracker.specs.Stories.{Story, Given}
 use Rattle.gap_tracker.specs.States.{State, arrival_count, has_ready, current_of}
 use Rattle.gap_tracker.specs.Tracks.{Tracks}
-use Rattle.ear.specs.Hears.{IsToldOf}
-use Rattle.show_spec.specs.Missed.{late_count}
+use Rattle.receiver.specs.Hears.{IsToldOf}
+use Rattle.report_spec.specs.Missed.{late_count}
 use Rattle.rtt_show.specs.declared.strays.NumberedPacket.{NumberedPacket}
 use Rattle.rtt_show.specs.declared.strays.Follower.{Follower}
 use Rattle.rtt_show.specs.declared.strays.Strays.{Strays}

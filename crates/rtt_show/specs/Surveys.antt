@@ -5,11 +5,11 @@ use Rattle.wire_spec.specs.declared.faults.TextFault.{TextFault}
 use Rattle.wire_spec.specs.declared.faults.TextFault.TheVariants.{Long, NotText, Foreign}
 use Rattle.wire_spec.specs.Packets.{Packet}
 use Rattle.wire_spec.specs.Dump.{Item}
-use Rattle.rtp_header.specs.Headers.{reading}
+use Rattle.rtp_text.specs.Headers.{reading}
 use Rattle.command_spec.specs.Firsts.{Firsts, with_name}
 use Rattle.command_spec.specs.Streams.{Sort}
 use Rattle.command_spec.specs.Streams as sorts
-use Rattle.show_spec.specs.Showing.{numbers_of}
+use Rattle.report_spec.specs.Showing.{numbers_of}
 use Rattle.command_spec.specs.Showing.{refusals, place_of, hearing, least_time, greatest_time, refused_as}
 use Rattle.rtt_show.specs.declared.surveys.Survey.{Survey}
 use Rattle.rtt_show.specs.declared.sorts.RecordClass.{RecordClass}

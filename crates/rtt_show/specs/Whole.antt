@@ -4,7 +4,7 @@ use Rattle.wire_spec.specs.Dump.{Item, Fault}
 use Rattle.rtpdump_io.specs.declared.items.DumpFault.{DumpFault}
 use Rattle.command_spec.specs.Streams.{Sort, naming}
 use Rattle.command_spec.specs.Showing.{number_line}
-use Rattle.show_spec.specs.Showing.{stream_view, pair_view, recording_view}
+use Rattle.report_spec.specs.Showing.{stream_view, pair_view, recording_view}
 use Rattle.rtt_show.specs.declared.views.Shape.{Shape}
 use Rattle.rtt_show.specs.declared.views.Shape.TheVariants.{Stream, Pair}
 use Rattle.rtt_show.specs.declared.groups.Group.{Group}

@@ -2,14 +2,14 @@
 ghost use Rattle.std.specs.Prelude.{◌≡◌, ℕ, ◌+◌, ◌<◌, ◌≤◌, ◌^◌, [], length, OnOk, Bool};
 ghost use Rattle.wire_spec.specs.Dump.{Whole, sent_item};
 ghost use Rattle.command_spec.specs.Streams.{Headed, sort_of, sort_of_what};
-ghost use Rattle.rtp_header.specs.Headers.{reading};
+ghost use Rattle.rtp_text.specs.Headers.{reading};
 ghost use Rattle.rtpdump_io.specs.Answers.{record_of, is_end};
 ghost use Rattle.rtt_base.specs.declared.limits.TheConstants.{MOST_PACKET_OCTETS};
 ghost use Rattle.rtt_show.specs.Finds.{FindsMore, IsFound, IsNoPacket, IsSmall, Tallies, unread_sort};
 
 use crate::groups::Groups;
 use crate::sorts::{RecordClass, has_text_type, sort_packet};
-use rtp_header::RtpView;
+use rtp_text::RtpView;
 use rtpdump_io::DumpItem;
 use rtt_base::{NoMemory, PayloadTypes};
 use std::alloc::Global;

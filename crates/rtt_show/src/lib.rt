@@ -1,16 +1,17 @@
-//! All that a recording has: what was typed in each stream of text, and what else is there.
+//! All that a recording has: when it began, what was typed in each stream of text, and what else is there.
 #![tactic(auto)]
 
-mod sums;
-mod first_sources;
+mod clock;
 mod findings;
+mod first_sources;
 mod groups;
-mod receptions;
+mod heads;
 mod likes;
 mod losses;
 mod origins;
 mod pairs;
 mod print_lines;
+mod receptions;
 mod rows;
 mod shows;
 mod signs;
@@ -18,15 +19,20 @@ mod sorts;
 mod spreads;
 mod strays;
 mod streams;
+mod sums;
 mod surveys;
 mod views;
 
-pub use first_sources::FirstSources;
+pub use clock::{append_began, append_day_line, append_time, day_of};
 pub use findings::Findings;
+pub use first_sources::FirstSources;
 pub use groups::{Group, Groups};
+pub use heads::HeadReader;
 pub use rows::{Row, row_of};
 pub use shows::{gather, show_recording};
 pub use views::append_end;
 
+#[cfg(test)]
+mod start_tests;
 #[cfg(test)]
 mod tests;

@@ -4,17 +4,23 @@ ghost use Rattle.wire_spec.specs.Text.{text_of};
 ghost use Rattle.command_spec.specs.Streams.{are_like_text};
 ghost use Rattle.rtt_show.specs.Records.{OfRecords};
 ghost use Rattle.rtpdump_io.specs.InMemory.{HasRecords};
-ghost use Rattle.show_spec.specs.Guesses.{accepted};
+ghost use Rattle.report_spec.specs.Guesses.{accepted};
 ghost use Rattle.rtt_show.specs.Surveys.{seen, is_like};
 ghost use Rattle.rtt_show.specs.Signs.{is_filled_text};
 
-use crate::sums::one_if;
 use crate::sorts::{has_octets, is_near_text, is_text, payload_of, read_source};
+use crate::sums::one_if;
 use rtpdump_io::next_record;
 use rtt_base::{PayloadTypes, TextPacket};
 
 /// Whether those before are near texts, and this packet too, which is not read where one before was none.
-fn and_near_text(before: bool, octets: &[u8], ssrc: u32, payload_types: PayloadTypes, packet: &mut TextPacket) -> bool
+fn and_near_text(
+    before: bool,
+    octets: &[u8],
+    ssrc: u32,
+    payload_types: PayloadTypes,
+    packet: &mut TextPacket,
+) -> bool
     ensures { result ≡ (before && is_like (seen (text_of octets.now (Some ssrc) payload_types))) }
 {
     if !before {
@@ -39,7 +45,12 @@ pub(crate) fn all_near_text(records: &[u8], ssrc: u32, payload_types: PayloadTyp
 }
 
 /// Whether a packet has a payload, and is a text of this SSRC and these payload types.
-fn is_accepted(octets: &[u8], ssrc: u32, payload_types: PayloadTypes, packet: &mut TextPacket) -> bool
+fn is_accepted(
+    octets: &[u8],
+    ssrc: u32,
+    payload_types: PayloadTypes,
+    packet: &mut TextPacket,
+) -> bool
     ensures { result ≡ is_filled_text ssrc payload_types octets.now }
 {
     if !has_octets(payload_of(octets)) {

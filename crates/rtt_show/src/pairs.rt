@@ -1,7 +1,7 @@
 //! What is shown of the packets of another payload type.
 ghost use Rattle.std.specs.Prelude.{◌≡◌, ◌==◌, ◌&&◌, ◌++◌, not, nat_lt, length, OnOk};
 ghost use Rattle.command_spec.specs.Streams.{are_like_text, is_dynamic};
-ghost use Rattle.show_spec.specs.Guesses.{filled, are_mostly_text, guess_line};
+ghost use Rattle.report_spec.specs.Guesses.{filled, are_mostly_text, guess_line};
 ghost use Rattle.rtpdump_io.specs.InMemory.{HasRecords};
 ghost use Rattle.rtt_show.specs.Records.{OfRecords};
 ghost use Rattle.rtt_show.specs.Signs.{AreSigns};
@@ -47,7 +47,13 @@ fn has_filled(signs: Signs) -> bool
 
 /// Whether that is so, and of those of these packets that have a payload, so many, at least half are texts of this SSRC and
 /// these payload types.
-fn are_mostly_texts(near: bool, records: &[u8], ssrc: u32, payload_types: PayloadTypes, number: u64) -> bool
+fn are_mostly_texts(
+    near: bool,
+    records: &[u8],
+    ssrc: u32,
+    payload_types: PayloadTypes,
+    number: u64,
+) -> bool
     requires { HasRecords records.now }
     ensures { OfRecords records.now (λ came. number ≡ length (filled came) → result ≡ (near && are_mostly_text ssrc payload_types came)) }
 {

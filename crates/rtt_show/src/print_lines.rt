@@ -1,7 +1,7 @@
 //! Lines of print. Where memory runs out a part of one may be appended.
 ghost use Rattle.std.specs.Prelude.{◌≡◌, ◌++◌, OnOk, decimal};
 ghost use Rattle.command_spec.specs.Showing.{number_line};
-ghost use Rattle.show_spec.specs.Showing.{counted, title_of};
+ghost use Rattle.report_spec.specs.Showing.{counted, title_of};
 
 use crate::losses::Losses;
 use itoa::Buffer;

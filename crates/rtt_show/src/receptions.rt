@@ -8,7 +8,7 @@ ghost use Rattle.rtt_base.specs.declared.limits.TheConstants.{LONGEST_WAIT, MOST
 use rtpdump_io::next_record;
 use rtt_base::NoMemory;
 use std::alloc::Global;
-use terminal::{TerminalSettings, Terminal};
+use terminal::{Terminal, TerminalSettings};
 
 /// Hears these records as they stand.
 fn hear_records(terminal: &mut Terminal, records: &[u8]) -> Result<(), NoMemory>

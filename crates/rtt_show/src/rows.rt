@@ -5,7 +5,7 @@ ghost use Rattle.rtt_show.specs.Records.{OfRecords};
 ghost use Rattle.rtt_show.specs.Rows.{IsOrigin, IsRow, RowsMore, begin_of};
 
 use crate::origins::Origin;
-use rtp_header::read_rtp;
+use rtp_text::read_rtp;
 use rtpdump_io::next_record;
 use wire_spec::limits::LAST_RECORD_MOMENT;
 

@@ -3,7 +3,7 @@ ghost use Rattle.std.specs.Prelude.{◌≡◌, ◌<◌, ◌≤◌, ◌^◌, ◌&
 ghost use Rattle.rtpdump_io.specs.Reading.{is_ended, is_of_source, to_come, source_of};
 ghost use Rattle.rtpdump_io.specs.Faults.{HasCause};
 ghost use Rattle.command_spec.specs.Showing.{if_no_recording, is_no_recording};
-ghost use Rattle.show_spec.specs.Showing.{recording_view};
+ghost use Rattle.report_spec.specs.Showing.{recording_view};
 ghost use Rattle.rtt_show.specs.Finds.{IsFound, IsSmall};
 ghost use Rattle.rtt_show.specs.Gathers.{Gathered, RecordingIsRefused};
 

@@ -5,8 +5,8 @@ ghost use Rattle.rtpdump_io.specs.InMemory.{HasRecords};
 ghost use Rattle.rtt_show.specs.Records.{OfRecords};
 ghost use Rattle.rtt_show.specs.Signs.{AreSigns, SignsMore};
 
-use crate::sums::one_if;
 use crate::sorts::{has_octets, payload_of};
+use crate::sums::one_if;
 use rtpdump_io::next_record;
 
 /// How many packets there are, the type in the first header of the first payload, whether F is 1 in the first header

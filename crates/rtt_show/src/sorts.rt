@@ -5,13 +5,12 @@ ghost use Rattle.wire_spec.specs.Dump.{Whole};
 ghost use Rattle.wire_spec.specs.Text.{text_of};
 ghost use Rattle.command_spec.specs.Streams.{is_rtcp, sort_of_what, payload_in, is_of_text, is_dynamic};
 ghost use Rattle.command_spec.specs.Showing.{place_of};
-ghost use Rattle.rtp_header.specs.Headers.{reading};
+ghost use Rattle.rtp_text.specs.Headers.{reading};
 ghost use Rattle.rtt_show.specs.Surveys.{sorted, seen, is_like, is_read};
 
 use crate::origins::Origin;
 use file_spec::limits::{FIRST_TYPE, LAST_TYPE};
-use red_blocks::{read_text, view_text};
-use rtp_header::{RtpView, read_rtp};
+use rtp_text::{RtpView, read_rtp, read_text, view_text};
 use rtt_base::{PayloadTypes, TextPacket};
 use wire_spec::TextFault;
 

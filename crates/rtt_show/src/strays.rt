@@ -8,11 +8,11 @@ ghost use Rattle.rtt_show.specs.Records.{OfRecords};
 ghost use Rattle.rtt_show.specs.Missed.{IsMissed};
 ghost use Rattle.rtt_show.specs.Strays.{Drains, Follows, CurrentComes, FollowsMore, IsShort, AreStrays, IsFewStrays, UsesMore, LatesMore, StraysMore, IsBound, StrayedMore};
 
-use crate::sums::one_if;
 use crate::losses::{Losses, missing};
 use crate::spreads::Spread;
-use gap_tracker::{Taken, ReorderBuffer};
-use red_blocks::read_text;
+use crate::sums::one_if;
+use gap_tracker::{ReorderBuffer, Taken};
+use rtp_text::read_text;
 use rtpdump_io::next_record;
 use rtt_base::limits::USUAL_WAIT;
 use rtt_base::{NoMemory, PayloadTypes};
@@ -81,7 +81,13 @@ impl Follower {
     }
 
     /// Takes a packet that came at this moment, if it is one of text of the stream.
-    fn follow(&mut self, at: u32, octets: &[u8], ssrc: u32, payload_types: PayloadTypes) -> Option<NumberedPacket>
+    fn follow(
+        &mut self,
+        at: u32,
+        octets: &[u8],
+        ssrc: u32,
+        payload_types: PayloadTypes,
+    ) -> Option<NumberedPacket>
         requires { (n : ℕ) × (n < 2 ^ 32) × IsShort n self.old }
         ensures more { FollowsMore self.old at (text_of octets.now (Some ssrc) payload_types) result self.new }
         ensures short { (n : ℕ) → IsShort n self.old → IsShort (n + 1) self.new }

@@ -1,7 +1,7 @@
 //! What is shown of a stream of text.
 ghost use Rattle.std.specs.Prelude.{◌≡◌, ◌≢◌, ◌++◌, ◌≤◌, true, false, length, map, flat_map, decimal, AllPairs, IsUtf8, IfOk, OnOk};
 ghost use Rattle.command_spec.specs.Showing.{refusal_line};
-ghost use Rattle.show_spec.specs.Showing.{stream_view};
+ghost use Rattle.report_spec.specs.Showing.{stream_view};
 ghost use Rattle.view_spec.specs.Views.{source_view};
 ghost use Rattle.terminal.specs.Terminals.{texts_of, AreUtf8};
 ghost use Rattle.terminal.specs.Views.{named, source_shown};
@@ -14,9 +14,9 @@ ghost use Rattle.rtt_show.specs.Surveys.{IsSurvey};
 ghost use Rattle.rtt_show.specs.Shown.{asked, settings_of, heard_text, refusal_lines};
 
 use crate::first_sources::FirstSources;
-use crate::receptions::hear_all;
 use crate::losses::missed_of;
 use crate::print_lines::{append_number_line, append_title};
+use crate::receptions::hear_all;
 use crate::rows::{Row, row_of};
 use crate::sorts::place_among;
 use crate::surveys::{Survey, survey_of};
@@ -27,7 +27,7 @@ use rtt_base::{Bytes, NoMemory, PayloadTypes};
 use std::alloc::Global;
 use t140_text::show;
 use t140_text::views::{append_counts, append_source_view};
-use terminal::{SourceText, TerminalSettings, Terminal};
+use terminal::{SourceText, Terminal, TerminalSettings};
 use wire_spec::TextFault;
 
 /// The refusals, in the order of their tests.

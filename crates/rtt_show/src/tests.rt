@@ -1,5 +1,4 @@
-use crate::show_recording;
-use recording_starts::HeadReader;
+use crate::{HeadReader, show_recording};
 use rtpdump_io::{DumpReader, RecordingFault};
 use rtt_base::{Bytes, PayloadTypes};
 use rtt_io::SteadySource;

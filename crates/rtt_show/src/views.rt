@@ -3,18 +3,18 @@ ghost use Rattle.std.specs.Prelude.{◌≡◌, ℕ, ◌<◌, ◌^◌, ◌++◌, 
 ghost use Rattle.wire_spec.specs.Dump.{Item};
 ghost use Rattle.command_spec.specs.Streams.{ssrc_of, type_of};
 ghost use Rattle.command_spec.specs.Showing.{end_line};
-ghost use Rattle.show_spec.specs.Showing.{start_line};
+ghost use Rattle.report_spec.specs.Showing.{start_line};
 ghost use Rattle.rtpdump_io.specs.InMemory.{HasRecords};
 ghost use Rattle.rtt_show.specs.Finds.{IsFound, IsSmall};
 ghost use Rattle.rtt_show.specs.Whole.{AreShown, IsGroupOf, IsGroupShown, IsShownOf, ends, others_text, shape_limit};
 
+use crate::append_began;
 use crate::findings::Findings;
 use crate::groups::{Group, Groups};
 use crate::pairs::show_pair;
 use crate::print_lines::{append_number, append_number_line};
 use crate::streams::show_stream;
 use command_spec::dump_kind_name;
-use recording_starts::append_began;
 use rtpdump_io::DumpFault;
 use rtt_base::{Bytes, NoMemory, PayloadTypes};
 use std::alloc::Global;
@@ -49,7 +49,13 @@ fn show_group(alloc: Global, shape: Shape, group: &Group, out: &mut Bytes) -> Re
 {
     let records = group.records.as_slice();
     match shape {
-        Shape::Stream(payload_types) => show_stream(alloc, group.name as u32, payload_types, records, out),
+        Shape::Stream(payload_types) => show_stream(
+            alloc,
+            group.name as u32,
+            payload_types,
+            records,
+            out,
+        ),
         Shape::Pair => show_pair(ssrc_in(group.name), type_in(group.name), records, out),
     }
 }

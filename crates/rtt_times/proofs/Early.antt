@@ -17,10 +17,10 @@ use Rattle.stream_spec.proofs.Matched.{used_in}
 use Rattle.rtt_base.specs.declared.limits.TheConstants.{MOST_HELD}
 use Rattle.command_spec.specs.Reading.{usual_wait}
 use Rattle.command_spec.specs.Transcripts.{escaped}
-use Rattle.times_spec.specs.Ordered.{end_by, given_by, ordered_below, ordered_by}
-use Rattle.times_spec.specs.Numbers.{Lost, Row, is_late, late, lost, lost_among, lost_before, lost_from, missing}
-use Rattle.times_spec.specs.Times as times
-use Rattle.times_spec.specs.Times.{chunk_lines, late_line, lost_line, number_lines, source_lines, text_lines}
+use Rattle.report_spec.specs.Ordered.{end_by, given_by, ordered_below, ordered_by}
+use Rattle.report_spec.specs.Numbers.{Lost, Row, is_late, late, lost, lost_among, lost_before, lost_from, missing}
+use Rattle.report_spec.specs.Times as times
+use Rattle.report_spec.specs.Times.{chunk_lines, late_line, lost_line, number_lines, source_lines, text_lines}
 use Rattle.rtt_times.specs.Lines.{Line, at_of}
 
 -- ---- lists

@@ -20,8 +20,8 @@ use Rattle.gap_tracker.specs.Tracks.{Tracks}
 use Rattle.gap_tracker.specs.Views.{next_number}
 use Rattle.gap_tracker.specs.Told.{LeadsStory, Gives, GivesAtOnce, GaveReady, AllReady}
 use Rattle.gap_tracker.proofs.Steps.{tracks_with}
-use Rattle.ear.specs.Hears.{IsToldOf, told}
-use Rattle.ear.proofs.ReadyBy.{told_arrived}
+use Rattle.receiver.specs.Hears.{IsToldOf, told}
+use Rattle.receiver.proofs.ReadyBy.{told_arrived}
 use Rattle.rtt_show.specs.Surveys.{firsts_of}
 use Rattle.rtt_show.proofs.Surveying.{firsts_more}
 use Rattle.rtt_times.specs.declared.stream_packets.TimedPacket.{TimedPacket}

@@ -13,10 +13,10 @@ use Rattle.view_spec.specs.Views.{printed_line}
 use Rattle.stream_spec.specs.Ready.{Chunk}
 use Rattle.command_spec.specs.declared.requests.ReadRequest.{ReadRequest}
 use Rattle.command_spec.specs.Transcripts.{escaped}
-use Rattle.times_spec.specs.Ordered.{given_by, ordered_by}
-use Rattle.times_spec.proofs.Ordered.{Rises, AreFrom, is_ordered, ordered_made}
-use Rattle.times_spec.specs.Times as times
-use Rattle.times_spec.specs.Times.{name_of, day_of}
+use Rattle.report_spec.specs.Ordered.{given_by, ordered_by}
+use Rattle.report_spec.proofs.Ordered.{Rises, AreFrom, is_ordered, ordered_made}
+use Rattle.report_spec.specs.Times as times
+use Rattle.report_spec.specs.Times.{name_of, day_of}
 use Rattle.rtt_times.specs.declared.lines.Span.{Span}
 use Rattle.rtt_times.specs.declared.lines.Lines.{Lines}
 use Rattle.rtt_times.specs.Lines.{AddsLines, AddsText, AreEarly, Keeps, KeepsFrom, LiesIn, Line, Sorts, at_of, chunk_written, line_in, name_before, said_line, line_with, timed_line, timed_written, written}

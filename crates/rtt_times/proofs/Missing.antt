@@ -15,9 +15,9 @@ use Rattle.stream_spec.proofs.Rising.{used_rises, length_by_number}
 use Rattle.command_spec.specs.Reading.{usual_wait}
 use Rattle.gap_tracker.specs.declared.answers.Due.{Due}
 use Rattle.gap_tracker.specs.Stories.{dues_of, due_at}
-use Rattle.times_spec.specs.Numbers.{Lost, Row, is_late, late, lost, lost_among, lost_before, lost_from, missing, with_number}
-use Rattle.times_spec.specs.Times as times
-use Rattle.times_spec.specs.Times.{late_line, lost_line, number_lines}
+use Rattle.report_spec.specs.Numbers.{Lost, Row, is_late, late, lost, lost_among, lost_before, lost_from, missing, with_number}
+use Rattle.report_spec.specs.Times as times
+use Rattle.report_spec.specs.Times.{late_line, lost_line, number_lines}
 use Rattle.rtt_times.specs.declared.stream_packets.TimedPacket.{TimedPacket}
 use Rattle.rtt_times.specs.declared.stream_packets.StreamPackets.{StreamPackets}
 use Rattle.rtt_times.specs.declared.lines.Lines.{Lines}

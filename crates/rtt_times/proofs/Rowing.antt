@@ -18,10 +18,10 @@ use Rattle.rtt_show.specs.Groups.{GroupHolds}
 use Rattle.rtt_show.specs.Records.{OfRecords}
 use Rattle.rtt_show.specs.Rows.{IsRow, IsStraight, only}
 use Rattle.rtt_show.proofs.Rowing.{no_numbers}
-use Rattle.times_spec.specs.Times as times
-use Rattle.times_spec.specs.Times.{all_lines, arrivals_in, in_order, moment_of, number_lines, source_lines, sources_in, text_lines}
-use Rattle.times_spec.specs.Ordered.{ordered_by}
-use Rattle.times_spec.proofs.Ordered.{ordered_made}
+use Rattle.report_spec.specs.Times as times
+use Rattle.report_spec.specs.Times.{all_lines, arrivals_in, in_order, moment_of, number_lines, source_lines, sources_in, text_lines}
+use Rattle.report_spec.specs.Ordered.{ordered_by}
+use Rattle.report_spec.proofs.Ordered.{ordered_made}
 use Rattle.rtt_times.specs.declared.lines.Lines.{Lines}
 use Rattle.rtt_times.specs.Lines.{AddsLines, Keeps, Line, Sorts, at_of, written}
 use Rattle.rtt_times.specs.Found.{IsToldOf, all_numbers, all_texts, names}

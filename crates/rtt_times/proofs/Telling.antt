@@ -26,10 +26,10 @@ use Rattle.rtt_show.specs.Surveys.{firsts_of}
 use Rattle.rtt_show.specs.Whole.{ends}
 use Rattle.rtt_show.proofs.Firsts.{few}
 use Rattle.rtt_show.proofs.Showing.{records_of}
-use Rattle.times_spec.specs.Times as times
-use Rattle.times_spec.specs.Times.{all_lines, arrivals_in, began_line, began_and_timed, day_of, in_order, line_text, moment_of, number_lines, other_sources, others_text, source_lines, sources_in, text_lines, time_text, timed, timed_view, told_text}
-use Rattle.times_spec.specs.Ordered.{ordered_by}
-use Rattle.times_spec.proofs.Ordered.{ordered_made}
+use Rattle.report_spec.specs.Times as times
+use Rattle.report_spec.specs.Times.{all_lines, arrivals_in, began_line, began_and_timed, day_of, in_order, line_text, moment_of, number_lines, other_sources, others_text, source_lines, sources_in, text_lines, time_text, timed, timed_view, told_text}
+use Rattle.report_spec.specs.Ordered.{ordered_by}
+use Rattle.report_spec.proofs.Ordered.{ordered_made}
 use Rattle.rtt_times.specs.declared.lines.Lines.{Lines}
 use Rattle.rtt_times.specs.Lines.{AddsLines, AreEarly, Keeps, Line, at_of, timed_line, timed_written, written}
 use Rattle.rtt_times.specs.Found.{AddsTexts, AreNumbered, AreTexted, HasNumbersAdded, IsFoundOf, IsPrintedOf, IsStream, IsTimedFrom, IsToldOf, NamesSources, all_numbers, all_texts, began_and_written, names, sources_of, sum_others}

@@ -11,12 +11,12 @@ use Rattle.stream_spec.specs.Ready.{Chunk, chunks}
 use Rattle.command_spec.specs.declared.requests.ReadRequest.{ReadRequest}
 use Rattle.command_spec.specs.Reading.{usual_wait}
 use Rattle.gap_tracker.specs.Stories.{Story, Given, begun, ended}
-use Rattle.ear.specs.declared.settings.EarSettings.{EarSettings}
-use Rattle.ear.specs.declared.ears.Ear.{Ear}
-use Rattle.ear.specs.Hears.{AllReady, Becomes, Gave, GaveReady, GivesChunk, GivesNone, IsGiving, arrival_count, text_for, told}
-use Rattle.ear.specs.Plain.{GivesPlain}
-use Rattle.ear.proofs.ReadyBy.{told_arrived}
-use Rattle.times_spec.specs.Times.{chunk_lines, source_lines}
+use Rattle.receiver.specs.declared.settings.EarSettings.{EarSettings}
+use Rattle.receiver.specs.declared.ears.Ear.{Ear}
+use Rattle.receiver.specs.Hears.{AllReady, Becomes, Gave, GaveReady, GivesChunk, GivesNone, IsGiving, arrival_count, text_for, told}
+use Rattle.receiver.specs.EarPlain.{GivesPlain}
+use Rattle.receiver.proofs.ReadyBy.{told_arrived}
+use Rattle.report_spec.specs.Times.{chunk_lines, source_lines}
 use Rattle.rtt_times.specs.declared.lines.Lines.{Lines}
 use Rattle.rtt_times.specs.Lines.{Line, AddsLines, Keeps, written, chunk_written}
 use Rattle.rtt_times.specs.Writing.{HasWritten, HasWrittenOf, Written, WritesEnd, WritesPacket, WritesReady, asked_of, lines_of}

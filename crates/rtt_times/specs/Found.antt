@@ -16,7 +16,7 @@ use Rattle.rtt_show.specs.Groups.{GroupHolds}
 use Rattle.rtt_show.specs.Records.{OfRecords}
 use Rattle.rtt_show.specs.Surveys.{firsts_of}
 use Rattle.rtt_show.specs.Whole.{ends}
-use Rattle.times_spec.specs.Times.{all_lines, arrivals_in, began_line, day_of, in_order, number_lines, other_sources, sources_in, text_lines, timed_view}
+use Rattle.report_spec.specs.Times.{all_lines, arrivals_in, began_line, day_of, in_order, number_lines, other_sources, sources_in, text_lines, timed_view}
 use Rattle.rtt_times.specs.declared.lines.Lines.{Lines}
 use Rattle.rtt_times.specs.Lines.{AddsLines, Keeps, Line, timed_written, written}
 

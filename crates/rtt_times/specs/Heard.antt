@@ -12,9 +12,9 @@ use Rattle.gap_tracker.specs.Stories.{Story, Given, dues_of, ready_dues}
 use Rattle.gap_tracker.specs.Stories as stories
 use Rattle.gap_tracker.specs.States.{State, current_of}
 use Rattle.gap_tracker.specs.Tracks.{Tracks}
-use Rattle.ear.specs.Hears.{IsToldOf}
-use Rattle.red_blocks.specs.declared.views.TextView.{TextView}
-use Rattle.red_blocks.specs.Views.{packet_in}
+use Rattle.receiver.specs.Hears.{IsToldOf}
+use Rattle.rtp_text.specs.declared.views.TextView.{TextView}
+use Rattle.rtp_text.specs.Views.{packet_in}
 use Rattle.rtt_show.specs.Records.{OfRecords}
 use Rattle.rtt_show.specs.Surveys.{firsts_of}
 use Rattle.rtt_times.specs.declared.stream_packets.TimedPacket.{TimedPacket}

@@ -4,9 +4,9 @@ use Rattle.stream_spec.specs.Ready.{Chunk}
 use Rattle.view_spec.specs.Views.{printed_line}
 use Rattle.command_spec.specs.declared.requests.ReadRequest.{ReadRequest}
 use Rattle.command_spec.specs.Transcripts.{escaped}
-use Rattle.times_spec.specs.Ordered.{ordered_by}
-use Rattle.times_spec.specs.Times as times
-use Rattle.times_spec.specs.Times.{told_text, name_of, chunk_lines, day_of, day_line, time_text}
+use Rattle.report_spec.specs.Ordered.{ordered_by}
+use Rattle.report_spec.specs.Times as times
+use Rattle.report_spec.specs.Times.{told_text, name_of, chunk_lines, day_of, day_line, time_text}
 use Rattle.rtt_times.specs.declared.lines.Span.{Span}
 use Rattle.rtt_times.specs.declared.lines.Lines.{Lines}
 

@@ -9,7 +9,7 @@ use Rattle.rtt_show.specs.declared.groups.Group.{Group}
 use Rattle.rtt_show.specs.declared.rows.Row.{Row}
 use Rattle.rtt_show.specs.Records.{OfRecords}
 use Rattle.rtt_show.specs.Rows.{IsRow}
-use Rattle.times_spec.specs.Times.{number_lines, text_lines}
+use Rattle.report_spec.specs.Times.{number_lines, text_lines}
 use Rattle.rtt_times.specs.declared.lines.Lines.{Lines}
 use Rattle.rtt_times.specs.Found.{ForItems, all_numbers, all_texts, names}
 use Rattle.rtt_times.specs.Lines.{AddsLines, written}

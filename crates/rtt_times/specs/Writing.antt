@@ -5,11 +5,11 @@ use Rattle.wire_spec.specs.Dump.{Item, arrivals_after}
 use Rattle.stream_spec.specs.Ready.{Chunk}
 use Rattle.command_spec.specs.declared.requests.ReadRequest.{ReadRequest}
 use Rattle.command_spec.specs.Reading.{usual_wait}
-use Rattle.times_spec.specs.Times.{source_lines}
+use Rattle.report_spec.specs.Times.{source_lines}
 use Rattle.gap_tracker.specs.Stories.{Story}
-use Rattle.ear.specs.declared.settings.EarSettings.{EarSettings}
-use Rattle.ear.specs.declared.ears.Ear.{Ear}
-use Rattle.ear.specs.Hears.{GaveSome, IsToldOf, ready_chunks, story_chunks, text_for, told}
+use Rattle.receiver.specs.declared.settings.EarSettings.{EarSettings}
+use Rattle.receiver.specs.declared.ears.Ear.{Ear}
+use Rattle.receiver.specs.Hears.{GaveSome, IsToldOf, ready_chunks, story_chunks, text_for, told}
 use Rattle.rtt_show.specs.Records.{OfRecords}
 use Rattle.rtt_times.specs.declared.lines.Lines.{Lines}
 use Rattle.rtt_times.specs.Lines.{Line, AddsLines, chunk_written, name_before, written}

@@ -1,10 +1,10 @@
 //! What came in a recording, by the clock: each text, and which numbers were lost or late.
 #![tactic(auto)]
 
-mod stream_packets;
 mod lines;
 mod numbers;
 mod rows;
+mod stream_packets;
 mod texts;
 mod times;
 

@@ -2,13 +2,13 @@
 ghost use Rattle.std.specs.Prelude.{◌≡◌, ◌+◌, ◌<◌, ◌^◌, ◌++◌, ◌∷◌, [], take, drop, IsUtf8, OnOk, decimal};
 ghost use Rattle.stream_spec.specs.Ready.{chunk_of};
 ghost use Rattle.view_spec.specs.Views.{printed_line};
-ghost use Rattle.times_spec.specs.Times.{LostRow, LateNumber, name_of, on_wire, told_text};
+ghost use Rattle.report_spec.specs.Times.{LostRow, LateNumber, name_of, on_wire, told_text};
 ghost use Rattle.rtt_times.specs.Lines.{AddsLines, AddsText, AreEarly, IsTimed, Keeps, KeepsFrom, LiesIn, Sorts, said_line, timed_line, written};
 
 use itoa::Buffer;
-use recording_starts::{append_day_line, append_time, day_of};
+use recording_views::append_escaped;
 use rtt_base::{Bytes, Chunk, NoMemory};
-use rtt_script::append_escaped;
+use rtt_show::{append_day_line, append_time, day_of};
 use std::alloc::Global;
 
 /// A line: its moment in milliseconds, and where what stands behind the time of day lies, with its line feed.

@@ -4,8 +4,8 @@ ghost use Rattle.std.specs.List.Sorted.{IsNonDecreasing, IsNonDecreasingBy};
 ghost use Rattle.rtt_times.specs.Lines.{AddsLines};
 ghost use Rattle.rtt_times.specs.Numbers.{AddsBefore, AddsMissing, AddsNumbers, AreAbove, AreLateNumbers, AreThere, IsLate, IsPart, due_number, gap_lines, has_due, late_among, late_lines};
 
-use crate::stream_packets::{TimedPacket, StreamPackets};
 use crate::lines::Lines;
+use crate::stream_packets::{StreamPackets, TimedPacket};
 use gap_tracker::Due;
 use rtt_base::NoMemory;
 use std::alloc::Global;
@@ -32,7 +32,11 @@ fn add_unused(late: &mut Vec<TimedPacket>, used: &[Due], one: TimedPacket) -> Re
 }
 
 /// Those of these whose number is not used, in their order.
-fn unused_among(alloc: Global, used: &[Due], came: &[TimedPacket]) -> Result<Vec<TimedPacket>, NoMemory>
+fn unused_among(
+    alloc: Global,
+    used: &[Due],
+    came: &[TimedPacket],
+) -> Result<Vec<TimedPacket>, NoMemory>
     requires { IsNonDecreasingBy due_number used.now }
     ensures { IfOk result (λ late. late.items ≡ late_among used.now came.now) }
 {

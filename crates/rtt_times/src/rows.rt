@@ -79,7 +79,13 @@ pub(crate) fn lines_in_rows(alloc: Global, found: &Findings) -> Result<Option<Li
         return Ok(None);
     };
     let mut lines = Lines::new(alloc);
-    if !add_rows(alloc, found.payload_types, streams, rows.as_slice(), &mut lines)? {
+    if !add_rows(
+        alloc,
+        found.payload_types,
+        streams,
+        rows.as_slice(),
+        &mut lines,
+    )? {
         return Ok(None);
     }
     lines.sort()?;

@@ -8,7 +8,7 @@ ghost use Rattle.rtt_show.specs.Records.{OfRecords};
 ghost use Rattle.rtt_times.specs.Heard.{Counts, Drains, HearsCurrent, HearsOctets, HearsRecords, HearsViewed, IsEmpty, IsHeard, IsSmall, number_from};
 
 use gap_tracker::{Due, ReorderBuffer};
-use red_blocks::{TextView, read_text, view_text};
+use rtp_text::{TextView, read_text, view_text};
 use rtpdump_io::next_record;
 use rtt_base::limits::USUAL_WAIT;
 use rtt_base::{NoMemory, PayloadTypes};

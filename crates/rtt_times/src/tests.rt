@@ -1,8 +1,8 @@
 use crate::times_recording;
-use recording_starts::HeadReader;
 use rtpdump_io::{DumpReader, RecordingFault};
 use rtt_base::{Bytes, NoMemory, PayloadTypes};
 use rtt_io::SteadySource;
+use rtt_show::HeadReader;
 use std::alloc::Global;
 use std::process::Abort;
 use std::test::Fail;

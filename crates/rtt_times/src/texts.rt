@@ -1,14 +1,14 @@
 //! The texts of a source of a stream: each becomes a line as soon as it is heard.
 ghost use Rattle.std.specs.Prelude.{◌≡◌, ◌+◌, ◌≤◌, ◌<◌, Bool, OnOk, IfOk};
 ghost use Rattle.rtpdump_io.specs.InMemory.{HasRecords};
-ghost use Rattle.ear.specs.Hears.{IsGiving, arrival_count, is_finished, is_quiet};
+ghost use Rattle.receiver.specs.Hears.{IsGiving, arrival_count, is_finished, is_quiet};
 ghost use Rattle.rtt_times.specs.Lines.{name_before};
 ghost use Rattle.rtt_times.specs.Writing.{AddsSource, BeginsWriting, HasArrivals, UnderName, WritesEnd, WritesPacket, WritesReady, WritesRecords};
 ghost use Rattle.rtt_base.specs.declared.limits.TheConstants.{END_OF_MOMENTS, MOST_ARRIVALS};
 
 use crate::lines::{Lines, append_name};
 use command_spec::ReadRequest;
-use ear::{Ear, EarSettings, PlainAnswer};
+use receiver::{Ear, EarSettings, PlainAnswer};
 use rtpdump_io::next_record;
 use rtt_base::limits::USUAL_WAIT;
 use rtt_base::{Bytes, Chunk, NoMemory as OutOfMemory};

@@ -5,21 +5,20 @@ ghost use Rattle.rtpdump_io.specs.InMemory.{HasRecords};
 ghost use Rattle.rtpdump_io.specs.Reading.{is_ended, source_of, to_come};
 ghost use Rattle.rtpdump_io.specs.Faults.{HasCause};
 ghost use Rattle.rtt_show.specs.Gathers.{RecordingIsRefused};
-ghost use Rattle.times_spec.specs.Times.{timed_view};
+ghost use Rattle.report_spec.specs.Times.{timed_view};
 ghost use Rattle.rtt_times.specs.Found.{AddsTexts, AreFew, AreNumbered, AreTexted, HasNumbersAdded, IsFoundOf, IsPrintedOf, IsStream, IsTimedFrom, IsToldOf, NamesSources, sum_others};
 ghost use Rattle.rtt_times.specs.Lines.{AreEarly};
 
-use crate::stream_packets::{StreamPackets, heard_of};
 use crate::lines::{Lines, append_decimal};
 use crate::numbers::add_numbers;
 use crate::rows::lines_in_rows;
+use crate::stream_packets::{StreamPackets, heard_of};
 use crate::texts::add_texts;
 use command_spec::ReadRequest;
-use recording_starts::append_began;
 use rtpdump_io::{DumpFault, DumpReader, RecordingFault};
 use rtt_base::{Bytes, NoMemory, PayloadTypes};
 use rtt_io::Source;
-use rtt_show::{FirstSources, Findings, Group, append_end, gather};
+use rtt_show::{Findings, FirstSources, Group, append_began, append_end, gather};
 use std::alloc::Global;
 
 /// Adds the lines of the texts of these sources of a stream.
@@ -36,7 +35,11 @@ fn add_sources(
 {
     for index in 0..sources.len() {
         let source = sources[index];
-        let of = ReadRequest { ssrc, source, payload_types };
+        let of = ReadRequest {
+            ssrc,
+            source,
+            payload_types,
+        };
         let _arrivals = add_texts(alloc, of, records, lines)?;
     }
     Ok(())
@@ -54,7 +57,12 @@ fn add_stream_numbers(
     ensures sources { IfOk result (NamesSources payload_types stream.now) }
     ensures few { IfOk result AreFew }
 {
-    let heard = heard_of(alloc, stream.name as u32, payload_types, stream.records.as_slice())?;
+    let heard = heard_of(
+        alloc,
+        stream.name as u32,
+        payload_types,
+        stream.records.as_slice(),
+    )?;
     add_numbers(alloc, stream.name as u32, &heard, lines)?;
     let StreamPackets { sources, .. } = heard;
     Ok(sources)
@@ -158,7 +166,13 @@ fn any_lines_of(alloc: Global, found: &Findings) -> Result<(Lines, u64), NoMemor
     let streams = found.streams.groups.as_slice();
     let mut lines = Lines::new(alloc);
     let named = add_all_numbers(alloc, found.payload_types, streams, &mut lines)?;
-    add_all_texts(alloc, found.payload_types, streams, named.as_slice(), &mut lines)?;
+    add_all_texts(
+        alloc,
+        found.payload_types,
+        streams,
+        named.as_slice(),
+        &mut lines,
+    )?;
     lines.sort()?;
     Ok((lines, others_of(named.as_slice())))
 }

@@ -15,11 +15,11 @@ use Rattle.command_spec.specs.Outcomes as outcomes
 use Rattle.command_spec.specs.Cascading.{cascades, cascades_read, cascading, odd_line, unless_odd}
 use Rattle.command_spec.specs.Messages.{Ending}
 use Rattle.command_spec.proofs.CascadeOutputs.{cascaded_output}
-use Rattle.rtt_cascade.specs.declared.faults.CascadeFault.{CascadeFault}
-use Rattle.rtt_cascade.specs.declared.faults.CascadeFault.TheVariants as behind
-use Rattle.rtt_cascade.specs.Cascades.{IsBroken, IsFirst, NoneFailed, Stops, outcome_behind}
-use Rattle.rtt_cascade.specs.Inputs.{IsInputBehind, NoneHasName, RefusesNoneBefore, input_name}
-use Rattle.rtt_cascade.proofs.WholeSplits.{splits_whole}
+use Rattle.cascade.specs.declared.faults.CascadeFault.{CascadeFault}
+use Rattle.cascade.specs.declared.faults.CascadeFault.TheVariants as behind
+use Rattle.cascade.specs.Cascades.{IsBroken, IsFirst, NoneFailed, Stops, outcome_behind}
+use Rattle.cascade.specs.Inputs.{IsInputBehind, NoneHasName, RefusesNoneBefore, input_name}
+use Rattle.cascade.proofs.WholeSplits.{splits_whole}
 use Rattle.rtt_top.specs.Conferences.{MakesOutputs, NamesOutputs, AsksConference, ending_behind, fault_of_cascade, input_behind, output_of}
 use Rattle.rtt_top.specs.Faults.{NoneBefore, RefusesSo, is_recording}
 use Rattle.rtt_top.specs.Outside.{Outside, CallFailed, ObjectFailed, OpenFailed}

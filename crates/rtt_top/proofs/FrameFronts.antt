@@ -2,12 +2,12 @@
 use Rattle.std.proofs.Common.{◌≡◌, ℕ, zero, suc, ◌+◌, ◌<◌, ◌≤◌, true, List, ◌++◌, length, take, drop, Option, None, Some, is_some, refl, sym, ap, ◌∙◌, arith, length-drop, length-append}
 use Rattle.std.proofs.lemmas.Bool.{false≢true}
 use Rattle.std.proofs.lemmas.List.{drop-append-le, length-take-le, take-append-le}
-use Rattle.frame_spec.specs.declared.frames.Frame.{Frame}
-use Rattle.frame_spec.specs.declared.kinds.FrameKind.{FrameKind}
-use Rattle.frame_spec.specs.declared.kinds.FrameKind.TheVariants.{EndsInside}
-use Rattle.frame_spec.specs.declared.limits.TheConstants.{FRAME_HEAD_OCTETS, MOST_FRAMES_OCTETS}
-use Rattle.frame_spec.specs.Frames.{Place, time_of, length_of, frame_of, frame_fault, place_behind, with_frame, read_frames, reading_from, start}
-use Rattle.frame_spec.proofs.Readings.{SameHead, Whole, begun, held_fault, passes, read_no_further, read_on, same_head, steady, whole}
+use Rattle.file_spec.specs.declared.frames.Frame.{Frame}
+use Rattle.file_spec.specs.declared.frame_kinds.FrameKind.{FrameKind}
+use Rattle.file_spec.specs.declared.frame_kinds.FrameKind.TheVariants.{EndsInside}
+use Rattle.file_spec.specs.declared.frame_limits.TheConstants.{FRAME_HEAD_OCTETS, MOST_FRAMES_OCTETS}
+use Rattle.file_spec.specs.Frames.{Place, time_of, length_of, frame_of, frame_fault, place_behind, with_frame, read_frames, reading_from, start}
+use Rattle.file_spec.proofs.Readings.{SameHead, Whole, begun, held_fault, passes, read_no_further, read_on, same_head, steady, whole}
 
 -- ---- a frame that is whole, and octets behind it
 frame : ℕ → List ℕ → Frame

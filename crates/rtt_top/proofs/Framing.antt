@@ -4,9 +4,9 @@ use Rattle.std.specs.Prelude.{if◌then◌else◌, Bool}
 use Rattle.std.proofs.lemmas.Bool.{false≢true}
 use Rattle.wire_spec.specs.Dump.{dump, dump_opening, usual_limit, opening, dump_step, records_within, records, arrivals}
 use Rattle.wire_spec.specs.Dump as dumps
-use Rattle.frame_spec.specs.declared.frames.Frame.{Frame}
-use Rattle.frame_spec.specs.declared.frames.FrameRefusal.{FrameRefusal}
-use Rattle.frame_spec.specs.Frames.{read_frames}
+use Rattle.file_spec.specs.declared.frames.Frame.{Frame}
+use Rattle.file_spec.specs.declared.frames.FrameRefusal.{FrameRefusal}
+use Rattle.file_spec.specs.Frames.{read_frames}
 use Rattle.command_spec.specs.declared.faults.Refusal.TheVariants.{AtByte}
 use Rattle.command_spec.specs.declared.faults.Fault.TheVariants.{CannotRead, Refused}
 use Rattle.rtt_words.specs.Words.{SendWords, ChannelWords, Relay, Channel}
@@ -21,12 +21,12 @@ use Rattle.wire_spec.specs.declared.faults.DumpKind.TheVariants.{NotDump, BadLen
 use Rattle.rtt_io.specs.Counts.{Rose}
 use Rattle.rtpdump_io.specs.declared.items.DumpFault.{DumpFault}
 use Rattle.rtpdump_io.specs.Reading.{is_of_source}
-use Rattle.rtt_relay.specs.declared.faults.ChannelFault.{ChannelFault}
-use Rattle.rtt_relay.specs.declared.faults.ChannelFault.TheVariants as channel_fault
-use Rattle.rtt_relay.specs.Channels.{IsChannelCause, IsFailed}
-use Rattle.rtt_relay.specs.declared.faults.RelayFault.{RelayFault}
-use Rattle.rtt_relay.specs.declared.faults.RelayFault.TheVariants as relay_fault
-use Rattle.rtt_relay.specs.Answers.{IsRelayCause}
+use Rattle.text_conversions.specs.declared.relay_faults.ChannelFault.{ChannelFault}
+use Rattle.text_conversions.specs.declared.relay_faults.ChannelFault.TheVariants as channel_fault
+use Rattle.text_conversions.specs.Channels.{IsChannelCause, IsFailed}
+use Rattle.text_conversions.specs.declared.relay_faults.RelayFault.{RelayFault}
+use Rattle.text_conversions.specs.declared.relay_faults.RelayFault.TheVariants as relay_fault
+use Rattle.text_conversions.specs.RelayAnswers.{IsRelayCause}
 use Rattle.rtt_top.specs.Files.{IsFrontOf, IsReadOf, made_file}
 use Rattle.rtt_top.specs.Faults.{Stops}
 use Rattle.rtt_top.specs.Frames.{most_read, fault_of_channel, fault_of_relay}

@@ -5,19 +5,19 @@ use Rattle.file_spec.specs.Lines as lines
 use Rattle.file_spec.specs.Script.{script}
 use Rattle.command_spec.specs.Usual.{usual_payload_types}
 use Rattle.rtt_words.specs.Words.{SendWords}
-use Rattle.text_sender.specs.declared.senders.SenderSettings.{SenderSettings}
-use Rattle.text_sender.specs.Settings.{AreSettings}
-use Rattle.text_sender.proofs.Scripts.{own}
+use Rattle.packetizer.specs.declared.senders.SenderSettings.{SenderSettings}
+use Rattle.packetizer.specs.SenderSettings.{AreSettings}
+use Rattle.packetizer.proofs.Scripts.{own}
 use Rattle.command_spec.specs.Scripts as scripts
 use Rattle.command_spec.specs.Scripts.{AreLines, events_through}
 use Rattle.command_spec.specs.Work.{Steps, Makes}
 use Rattle.rtt_words.specs.Tasks.{sending_of, sends, unless_full}
 use Rattle.rtt_words.specs.Sent.{IsSent}
-use Rattle.rtt_send.specs.Scripts.{IsEnd, first_end, full_line}
-use Rattle.rtt_send.proofs.Accepted.{accepted_lines}
-use Rattle.rtt_send.proofs.Typed.{lawful_sent, closed_sent, texts_sent}
-use Rattle.rtt_send.proofs.Firsts.{scripts_end, ends_early}
-use Rattle.rtt_send.proofs.ReadBack.{packets_back}
+use Rattle.text_conversions.specs.Scripts.{IsEnd, first_end, full_line}
+use Rattle.text_conversions.proofs.Accepted.{accepted_lines}
+use Rattle.text_conversions.proofs.Typed.{lawful_sent, closed_sent, texts_sent}
+use Rattle.text_conversions.proofs.Firsts.{scripts_end, ends_early}
+use Rattle.text_conversions.proofs.ReadBack.{packets_back}
 use Rattle.command_spec.specs.declared.limits.TheConstants.{USUAL_INTERVAL}
 
 usual_settings : (s : SendWords) → AreSettings (record { ssrc = s.ssrc; seq = s.seq; timestamp = s.timestamp; payload_types = usual_payload_types; interval = USUAL_INTERVAL; generations = 2 })

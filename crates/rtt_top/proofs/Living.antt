@@ -6,13 +6,13 @@ use Rattle.file_spec.specs.Conference.{Conference, conference_from}
 use Rattle.file_spec.specs.Lines as lines
 use Rattle.mixer_spec.specs.Setups.{leg_at}
 use Rattle.rtt_io.specs.declared.sinks.Sink as sinks
-use Rattle.serve_spec.specs.Served as served
-use Rattle.serve_spec.specs.Served.{IsServed}
-use Rattle.serve_spec.specs.Watched.{IsBoardOf}
-use Rattle.serve_spec.proofs.LinksStay.{apart_law, stay_law}
-use Rattle.serve_spec.proofs.Totals.{covers_told}
-use Rattle.live_loop.specs.Clocks.{IsPaced}
-use Rattle.live_loop.specs.Walks.{IsPaused}
+use Rattle.live_spec.specs.Served as served
+use Rattle.live_spec.specs.Served.{IsServed}
+use Rattle.live_spec.specs.Watched.{IsBoardOf}
+use Rattle.live_spec.proofs.LinksStay.{apart_law, stay_law}
+use Rattle.live_spec.proofs.Totals.{covers_told}
+use Rattle.mix_loop.specs.Clocks.{IsPaced}
+use Rattle.mix_loop.specs.Walks.{IsPaused}
 use Rattle.live_run.specs.declared.faults.LiveFault.{LiveFault}
 use Rattle.live_run.specs.declared.faults.LiveFault.TheVariants as live
 use Rattle.live_run.specs.declared.reports.LiveEnd.{LiveEnd}
@@ -21,7 +21,7 @@ use Rattle.live_run.specs.declared.reports.LiveEnd.TheVariants as ends
 use Rattle.live_run.specs.Calls.{BrokeOff, IsOfLinks, WasGivenUp, WasPaced, WasServed, at_ports_of}
 use Rattle.live_run.specs.Opened.{LeadsAll, LeadsSome}
 use Rattle.live_run.specs.Reports.{end_of}
-use Rattle.live_watch.specs.Watched.{WasWatched}
+use Rattle.live_run.specs.Watched.{WasWatched}
 use Rattle.command_spec.specs.declared.faults.Fault.{Fault}
 use Rattle.command_spec.specs.declared.faults.Fault.TheVariants.{WrongWords, CannotOpen, CannotRead, Refused, CannotPrint, CannotWrite, LinkFailed, NoMemory}
 use Rattle.command_spec.specs.declared.faults.Refusal.TheVariants.{AtByte, AtFrame, AtLine, AtTrunk, AfterTurns}

@@ -14,15 +14,15 @@ use Rattle.file_spec.specs.Conference.{Conference, conference_from}
 use Rattle.file_spec.specs.Kept.{IsConference}
 use Rattle.file_spec.specs.Lines as file
 use Rattle.file_spec.proofs.KeptLines.{accepted_keeps}
-use Rattle.check_spec.specs.declared.forms.FileForm.{FileForm}
-use Rattle.check_spec.specs.declared.forms.FileForm.TheVariants.{Recordings}
-use Rattle.check_spec.specs.Forms.{foreign, form_of}
-use Rattle.check_spec.specs.Checking as checking
-use Rattle.check_spec.specs.Checking.{report}
-use Rattle.check_spec.specs.declared.limits.TheConstants.{MOST_CHECKED_OCTETS}
-use Rattle.check_spec.specs.Inputs.{leg_told, most_of_input}
-use Rattle.check_spec.specs.Looks.{Look, Opens, Tells, Tries, legs_as, legs_by, legs_in, legs_read, legs_unless, links_in, look, look_in, look_over, looks_at, steps_of, told_by, unless_told}
-use Rattle.check_spec.proofs.LongFiles.{front_looks, long_inputs_alike, long_legs}
+use Rattle.report_spec.specs.declared.forms.FileForm.{FileForm}
+use Rattle.report_spec.specs.declared.forms.FileForm.TheVariants.{Recordings}
+use Rattle.report_spec.specs.Forms.{foreign, form_of}
+use Rattle.report_spec.specs.Checking as checking
+use Rattle.report_spec.specs.Checking.{report}
+use Rattle.report_spec.specs.declared.limits.TheConstants.{MOST_CHECKED_OCTETS}
+use Rattle.report_spec.specs.Inputs.{leg_told, most_of_input}
+use Rattle.report_spec.specs.Looks.{Look, Opens, Tells, Tries, legs_as, legs_by, legs_in, legs_read, legs_unless, links_in, look, look_in, look_over, looks_at, steps_of, told_by, unless_told}
+use Rattle.report_spec.proofs.LongFiles.{front_looks, long_inputs_alike, long_legs}
 use Rattle.command_spec.specs.Cascading.{is_on_trunk, odd_line}
 use Rattle.command_spec.specs.declared.faults.Fault.{Fault}
 use Rattle.command_spec.specs.declared.faults.Fault.TheVariants.{WrongWords, CannotOpen, CannotRead, Refused, CannotPrint, CannotWrite, LinkFailed, NoMemory}

@@ -6,9 +6,9 @@ use Rattle.rtpdump_io.specs.declared.items.RecordingFault.{RecordingFault}
 use Rattle.rtpdump_io.specs.declared.items.RecordingFault.TheVariants.{Dump, NoMemory}
 use Rattle.rtpdump_io.specs.Faults.{FaultOf}
 use Rattle.command_spec.specs.Showing.{if_no_recording}
-use Rattle.show_spec.specs.Showing.{recording_view, show_view}
+use Rattle.report_spec.specs.Showing.{recording_view, show_view}
 use Rattle.rtt_show.specs.Gathers.{RecordingIsRefused}
-use Rattle.times_spec.specs.Times.{start_of, timed_view, times_view}
+use Rattle.report_spec.specs.Times.{start_of, timed_view, times_view}
 use Rattle.rtt_top.specs.declared.views.RecordingView.{RecordingView}
 use Rattle.rtt_top.specs.declared.views.RecordingView.TheVariants.{Lines, Streams, Times, Text, Transcript}
 use Rattle.rtt_top.specs.RecordingViews.{IsRefusal, PrintsView, command_of, refused_by, view_by}

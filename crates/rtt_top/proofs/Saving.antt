@@ -5,7 +5,7 @@ use Rattle.std.specs.Prelude.{◌⊎◌, IfErr, OnOk, OnErr}
 use Rattle.std.specs.Result.{is_err}
 use Rattle.file_spec.specs.declared.conference_lines.LegLine.{LegLine}
 use Rattle.sent_log.specs.States.{State, recording_of}
-use Rattle.sent_files.specs.Files.{recording_at, recordings_of}
+use Rattle.sent_log.specs.Files.{recording_at, recordings_of}
 use Rattle.command_spec.specs.declared.faults.Fault.{Fault}
 use Rattle.command_spec.specs.declared.faults.Fault.TheVariants.{CannotWrite}
 use Rattle.command_spec.specs.Work.{Contents, Made, IsNth}

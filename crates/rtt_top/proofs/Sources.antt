@@ -5,7 +5,7 @@ use Rattle.rtt_io.specs.Counts.{Rose, counted, last_count}
 use Rattle.command_spec.specs.declared.faults.Refusal.TheVariants.{AtByte, AtFrame, AtLine, AtTrunk, AfterTurns}
 use Rattle.command_spec.specs.declared.faults.Fault.{Fault}
 use Rattle.command_spec.specs.declared.faults.Fault.TheVariants.{WrongWords, CannotOpen, CannotRead, Refused, CannotPrint, CannotWrite, LinkFailed, NoMemory}
-use Rattle.recording_starts.specs.declared.heads.HeadReader.{HeadReader}
+use Rattle.rtt_show.specs.declared.heads.HeadReader.{HeadReader}
 use Rattle.rtt_top.specs.Faults.{IsOfRecording}
 
 -- the source of a recording that was looked at

@@ -10,7 +10,7 @@ use Rattle.command_spec.specs.Work.{Contents, Steps, Makes, IsInput}
 use Rattle.rtt_words.specs.Tasks.{saves_frames, sending_of, unless_broken, work}
 use Rattle.command_spec.specs.Frames.{channel, relay}
 use Rattle.command_spec.specs.Showing.{show_refusal}
-use Rattle.frame_spec.specs.declared.frames.FrameRefusal.{FrameRefusal}
+use Rattle.file_spec.specs.declared.frames.FrameRefusal.{FrameRefusal}
 use Rattle.command_spec.specs.Generated.{Generated, generated}
 use Rattle.command_spec.specs.Making.{makes_summary, making, recordings}
 use Rattle.command_spec.specs.Sums.{Sums, sums_mixed}
@@ -18,7 +18,7 @@ use Rattle.command_spec.specs.Messages.{Ending, status_of}
 use Rattle.rtt_top.specs.Faults.{RefusesSo, has_frames, is_live, is_mixed, is_recording}
 use Rattle.rtt_top.specs.Outside.{Outside}
 use Rattle.rtt_top.specs.Runs.{Ends, IsInputOf}
-use Rattle.check_spec.specs.Looks.{look}
+use Rattle.report_spec.specs.Looks.{look}
 use Rattle.rtt_top.proofs.Looking.{never_refuses}
 use Rattle.rtt_top.proofs.Statused.{can_be}
 use Rattle.rtt_top.specs.Statuses.{EndsAsItCan, HelpNamesThem, can_end}

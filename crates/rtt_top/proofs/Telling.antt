@@ -9,8 +9,8 @@ use Rattle.std.proofs.lemmas.List.{get_or-map, length-map, map_push, take-map}
 use Rattle.std.proofs.lemmas.Bool.Decides.{nat_tests}
 use Rattle.std.proofs.lemmas.Str.{encode_ascii, chars-IsAscii}
 use Rattle.std.proofs.lemmas.Str.Ascii.{IsAscii-cons, IsAscii-nil}
-use Rattle.text_spec.specs.Views.{is_direction}
-use Rattle.check_spec.specs.Told.{told_character, told_name}
+use Rattle.view_spec.specs.TextViews.{is_direction}
+use Rattle.report_spec.specs.Told.{told_character, told_name}
 use Rattle.rtt_top.specs.Sinks.{is_plain_octet}
 use Rattle.rtt_io.specs.Fronts.{TakesFront}
 use Rattle.rtt_top.proofs.Fronts.{both, concat_push, front_at}

@@ -4,10 +4,10 @@ use Rattle.std.specs.Prelude.{IfErr, IfOk, OnErr, OnOk, not}
 use Rattle.rtt_io.specs.declared.worlds.World as worlds
 use Rattle.file_spec.specs.declared.conference_lines.LegLine.{LegLine}
 use Rattle.file_spec.specs.Conference.{Conference}
-use Rattle.check_spec.specs.Checking as checking
-use Rattle.check_spec.specs.Checking.{report}
-use Rattle.check_spec.specs.Looks.{Look, Opens, Tells, Tries, links_in, look, look_in, look_over, steps_of, told_by, told_over}
-use Rattle.check_spec.specs.Ports.{Answers, ports_told}
+use Rattle.report_spec.specs.Checking as checking
+use Rattle.report_spec.specs.Checking.{report}
+use Rattle.report_spec.specs.Looks.{Look, Opens, Tells, Tries, links_in, look, look_in, look_over, steps_of, told_by, told_over}
+use Rattle.report_spec.specs.Ports.{Answers, ports_told}
 use Rattle.command_spec.specs.declared.faults.Refusal.TheVariants.{AtByte, AtFrame, AtLine, AtTrunk, AfterTurns}
 use Rattle.command_spec.specs.declared.faults.Fault.{Fault}
 use Rattle.command_spec.specs.declared.faults.Fault.TheVariants.{WrongWords, CannotOpen, CannotRead, Refused, CannotPrint, CannotWrite, LinkFailed, NoMemory}

@@ -18,7 +18,7 @@ use Rattle.command_spec.specs.Outcomes.{Done, outcome, outcome_from}
 use Rattle.command_spec.specs.Inputs.{AllLie, LieBelow, inputs_under}
 use Rattle.command_spec.specs.Mixing.{counted, mixes_counted}
 use Rattle.bridge_run.specs.declared.results.Mixed.{Mixed}
-use Rattle.sent_files.specs.Files.{recordings_of}
+use Rattle.sent_log.specs.Files.{recordings_of}
 use Rattle.bridge_run.specs.Mixes.{outputs_of, steps_of}
 use Rattle.rtt_top.specs.Faults.{WhereRead, fault_of_dump, is_mixed, is_recording}
 use Rattle.rtt_io.specs.declared.sinks.Sink as sinks
@@ -27,9 +27,9 @@ use Rattle.rtt_top.specs.Across.{EndsAcross}
 use Rattle.bridge_run.specs.declared.results.MixFault.{MixFault}
 use Rattle.bridge_run.specs.declared.results.MixFault.TheVariants.{Open, Dump, TooLong}
 use Rattle.bridge_run.specs.declared.results.MixFault.TheVariants as mix
-use Rattle.rtt_cascade.specs.declared.faults.CascadeFault.{CascadeFault}
-use Rattle.rtt_cascade.specs.declared.faults.CascadeFault.TheVariants as behind
-use Rattle.rtt_cascade.specs.Inputs as behind_inputs
+use Rattle.cascade.specs.declared.faults.CascadeFault.{CascadeFault}
+use Rattle.cascade.specs.declared.faults.CascadeFault.TheVariants as behind
+use Rattle.cascade.specs.Inputs as behind_inputs
 use Rattle.live_run.specs.declared.faults.LiveFault.{LiveFault}
 use Rattle.live_run.specs.declared.faults.LiveFault.TheVariants as live
 

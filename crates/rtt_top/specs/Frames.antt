@@ -1,14 +1,14 @@
 -- The faults of frames that are relayed or written.
 use Rattle.std.specs.Prelude.{ℕ, ◌+◌}
-use Rattle.frame_spec.specs.declared.frames.FrameRefusal.{FrameRefusal}
-use Rattle.frame_spec.specs.declared.limits.TheConstants.{FRAME_HEAD_OCTETS, MOST_FRAMES_OCTETS}
+use Rattle.file_spec.specs.declared.frames.FrameRefusal.{FrameRefusal}
+use Rattle.file_spec.specs.declared.frame_limits.TheConstants.{FRAME_HEAD_OCTETS, MOST_FRAMES_OCTETS}
 use Rattle.command_spec.specs.declared.faults.Refusal.TheVariants.{AtFrame}
 use Rattle.command_spec.specs.declared.faults.Fault.{Fault}
 use Rattle.command_spec.specs.declared.faults.Fault.TheVariants.{Refused, NoMemory}
-use Rattle.rtt_relay.specs.declared.faults.ChannelFault.{ChannelFault}
-use Rattle.rtt_relay.specs.declared.faults.ChannelFault.TheVariants as channel
-use Rattle.rtt_relay.specs.declared.faults.RelayFault.{RelayFault}
-use Rattle.rtt_relay.specs.declared.faults.RelayFault.TheVariants as relay
+use Rattle.text_conversions.specs.declared.relay_faults.ChannelFault.{ChannelFault}
+use Rattle.text_conversions.specs.declared.relay_faults.ChannelFault.TheVariants as channel
+use Rattle.text_conversions.specs.declared.relay_faults.RelayFault.{RelayFault}
+use Rattle.text_conversions.specs.declared.relay_faults.RelayFault.TheVariants as relay
 use Rattle.rtt_top.specs.Faults.{fault_of_dump}
 
 -- so many octets are read of frames: those that frames may have, and the head of one more

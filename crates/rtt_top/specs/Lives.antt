@@ -1,6 +1,6 @@
 -- What a live call leaves (profile).
 use Rattle.std.specs.Prelude.{◌≡◌, ◌⊎◌, ◌==◌, ◌||◌, ℕ, Bool, true, not, Option, None, Some, List, ◌++◌, take, Result, Ok, Err, IfErr, OnErr}
-use Rattle.link_spec.specs.Links.{Takes}
+use Rattle.stream_spec.specs.Links.{Takes}
 use Rattle.file_spec.specs.declared.conference_lines.Form.TheVariants.{Links}
 use Rattle.file_spec.specs.Conference.{Conference, conference_from}
 use Rattle.command_spec.specs.declared.faults.Fault.TheVariants.{WrongWords, CannotOpen, CannotRead, Refused, CannotPrint, CannotWrite, LinkFailed, NoMemory}
@@ -8,11 +8,11 @@ use Rattle.rtt_io.specs.Fronts.{TakesFront}
 use Rattle.command_spec.specs.Messages.{Ending, status_of}
 use Rattle.rtt_words.specs.Told.{message_of}
 use Rattle.rtt_words.specs.Words.{MixWords, Command, Live, Watch}
-use Rattle.serve_spec.specs.Served.{End, Done, Closed}
-use Rattle.serve_spec.specs.Watched.{CoversTold, IsBoardOf}
-use Rattle.serve_spec.specs.HeadLive.{HeadLive}
-use Rattle.live_loop.specs.Clocks.{IsPaced}
-use Rattle.live_loop.specs.Walks.{IsPaused}
+use Rattle.live_spec.specs.Served.{End, Done, Closed}
+use Rattle.live_spec.specs.Watched.{CoversTold, IsBoardOf}
+use Rattle.live_spec.specs.HeadLive.{HeadLive}
+use Rattle.mix_loop.specs.Clocks.{IsPaced}
+use Rattle.mix_loop.specs.Walks.{IsPaused}
 use Rattle.rtt_io.specs.declared.sinks.Sink as sinks
 use Rattle.live_run.specs.declared.faults.LiveFault.{LiveFault}
 use Rattle.live_run.specs.declared.reports.LiveReport.{LiveReport}

@@ -9,11 +9,11 @@ use Rattle.command_spec.specs.declared.faults.Fault.TheVariants.{WrongWords, Can
 use Rattle.command_spec.specs.Messages.{Ending}
 use Rattle.command_spec.specs.Outcomes.{Same}
 use Rattle.command_spec.specs.Work.{Contents, IsInput, Steps}
-use Rattle.check_spec.specs.declared.limits.TheConstants.{MOST_CHECKED_OCTETS}
-use Rattle.check_spec.specs.Checking as checking
-use Rattle.check_spec.specs.Checking.{report}
-use Rattle.check_spec.specs.Inputs.{leg_told}
-use Rattle.check_spec.specs.Looks.{legs_in, looks_at, steps_of, told_by}
+use Rattle.report_spec.specs.declared.limits.TheConstants.{MOST_CHECKED_OCTETS}
+use Rattle.report_spec.specs.Checking as checking
+use Rattle.report_spec.specs.Checking.{report}
+use Rattle.report_spec.specs.Inputs.{leg_told}
+use Rattle.report_spec.specs.Looks.{legs_in, looks_at, steps_of, told_by}
 use Rattle.rtt_check.specs.declared.reports.Report.{Report}
 use Rattle.rtt_check.specs.Reports.{as_told, told_of}
 use Rattle.rtt_top.specs.Files.{IsReadOf}

@@ -3,7 +3,7 @@ use Rattle.std.specs.Prelude.{ℕ, List, []}
 use Rattle.rtt_io.specs.Counts.{Rose}
 use Rattle.rtt_io.specs.declared.sinks.Sink as sinks
 use Rattle.rtt_io.specs.declared.worlds.World as worlds
-use Rattle.link_spec.specs.Links.{Takes}
+use Rattle.stream_spec.specs.Links.{Takes}
 use Rattle.link_io.specs.declared.links.Links as links
 use Rattle.command_spec.specs.Work.{Contents}
 use Rattle.bridge_run.specs.Mixes.{NoOtherFailed}

@@ -9,8 +9,8 @@ use Rattle.command_spec.specs.declared.requests.ReadRequest.{ReadRequest}
 use Rattle.command_spec.specs.Listing.{list_view}
 use Rattle.command_spec.specs.Reading.{read_view}
 use Rattle.command_spec.specs.Showing.{if_no_recording}
-use Rattle.show_spec.specs.Showing.{show_view}
-use Rattle.times_spec.specs.Times.{start_of, times_view}
+use Rattle.report_spec.specs.Showing.{show_view}
+use Rattle.report_spec.specs.Times.{start_of, times_view}
 use Rattle.command_spec.specs.Transcripts.{transcript_view}
 use Rattle.rtt_words.specs.Words.{Command, ListRecords, Read, ReadWords, Script, Show}
 use Rattle.rtt_words.specs.Words as words

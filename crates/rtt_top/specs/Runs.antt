@@ -16,8 +16,8 @@ use Rattle.command_spec.specs.Cascaded.{IsCascaded}
 use Rattle.command_spec.specs.Reading.{arrivals_of, history_view}
 use Rattle.rtt_words.specs.Tasks.{request_of, work}
 use Rattle.command_spec.specs.Messages.{Ending, ending_of, status_of}
-use Rattle.check_spec.specs.Checking.{Report}
-use Rattle.check_spec.specs.Looks.{look, told_by}
+use Rattle.report_spec.specs.Checking.{Report}
+use Rattle.report_spec.specs.Looks.{look, told_by}
 use Rattle.rtt_words.specs.Told.{message_of}
 use Rattle.rtt_top.specs.Faults.{NoneBefore, RefusesSo, WhereRead, has_frames, is_live, is_mixed, is_recording}
 use Rattle.rtt_top.specs.Files.{IsPartlyStored}

@@ -1,9 +1,9 @@
 -- What `check` tells, by what lies in files and by what ports answer (profile).
 use Rattle.std.specs.Prelude.{◌≡◌, ℕ, Bool, true, not, Option, None, Some, List, ◌++◌, take}
 use Rattle.command_spec.specs.Work.{Contents}
-use Rattle.check_spec.specs.Checking.{Report}
-use Rattle.check_spec.specs.Looks.{look, told_over}
-use Rattle.check_spec.specs.Ports.{Answers}
+use Rattle.report_spec.specs.Checking.{Report}
+use Rattle.report_spec.specs.Looks.{look, told_over}
+use Rattle.report_spec.specs.Ports.{Answers}
 use Rattle.rtt_words.specs.Words.{Command, Check}
 use Rattle.rtt_top.specs.Faults.{is_check}
 use Rattle.rtt_top.specs.Outside.{Output}

@@ -1,8 +1,8 @@
 -- What one call finds in a world, and what it leaves there.
 use Rattle.std.specs.Prelude.{◌≡◌, ◌⊎◌, ℕ, None, Some, List, [], ◌∷◌, Ok}
 use Rattle.rtt_io.specs.declared.worlds.World as worlds
-use Rattle.conference.specs.declared.conferences.Conference.{Conference}
-use Rattle.conference.specs.Conferences.{meaning_of}
+use Rattle.file_spec.specs.declared.conferences.Conference.{Conference}
+use Rattle.file_spec.specs.Conferences.{meaning_of}
 use Rattle.file_spec.specs.declared.conference_lines.Form.{Form}
 use Rattle.file_spec.specs.declared.conference_lines.LegLine.{LegLine}
 use Rattle.file_spec.specs.Conference.{conference_from}

@@ -9,12 +9,12 @@ ghost use Rattle.rtt_top.specs.Worlds.{StopsOver, WritesFrames};
 
 use crate::files::{fault_of_dump, refused_frames};
 use command_spec::Fault;
-use leg_core::LegLost;
+use leg::LegLost;
 use rtt_base::Bytes;
 use rtt_io::World;
-use rtt_relay::{ChannelFault, channel_file, channel_leg};
 use rtt_words::ChannelWords;
 use std::alloc::Global;
+use text_conversions::{ChannelFault, channel_file, channel_leg};
 
 /// The fault of a command for that of frames that are written of a recording.
 fn fault_of_channel(fault: ChannelFault) -> Fault

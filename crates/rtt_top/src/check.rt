@@ -5,8 +5,8 @@ ghost use Rattle.rtt_words.specs.Commands.{checked};
 ghost use Rattle.rtt_words.specs.Words.{Check};
 ghost use Rattle.command_spec.specs.Messages.{status_of};
 ghost use Rattle.command_spec.specs.Outcomes.{Same};
-ghost use Rattle.check_spec.specs.Looks.{links_in};
-ghost use Rattle.conference.specs.Conferences.{meaning_of};
+ghost use Rattle.report_spec.specs.Looks.{links_in};
+ghost use Rattle.file_spec.specs.Conferences.{meaning_of};
 ghost use Rattle.rtt_check.specs.Reports.{as_told, told_of};
 ghost use Rattle.rtt_top.specs.Outside.{output_at};
 ghost use Rattle.rtt_top.specs.Trials.{RunsLook};
@@ -19,13 +19,12 @@ ghost use Rattle.wire_spec.specs.declared.limits.TheConstants.{MOST_RECORDING_OC
 
 use crate::files::read_input;
 use crate::messages::{finish_with, print};
-use check_spec::limits::MOST_CHECKED_OCTETS;
 use command_spec::Fault;
-use conference::{Conference, LegLine, Legs};
-use port_io::Ports;
+use file_spec::{Conference, LegLine, Legs};
+use report_spec::limits::MOST_CHECKED_OCTETS;
 use rtt_base::{Bytes, NoMemory};
 use rtt_check::{
-    Report, is_on_trunk, leg_told, legs_in, links_in, most_of_input, ports_told, report_of,
+    Ports, Report, is_on_trunk, leg_told, legs_in, links_in, most_of_input, ports_told, report_of,
 };
 use rtt_io::{Sink, World};
 use rtt_words::CheckWords;

@@ -10,8 +10,8 @@ ghost use Rattle.rtt_top.specs.Worlds.{StopsOver, ReadsConference};
 use crate::files::{read_input, refused_line};
 use command_spec::Fault;
 use conf_text::{ConfFault, Form, read_conf};
-use conference::{Conference, LegLine};
 use file_spec::limits::MOST_CONFERENCE_OCTETS;
+use file_spec::{Conference, LegLine};
 use rtt_io::World;
 use std::alloc::Global;
 

@@ -4,7 +4,7 @@ ghost use Rattle.rtt_io.specs.Counts.{Rose};
 ghost use Rattle.rtt_io.specs.Fronts.{TakesFront};
 ghost use Rattle.rtt_io.specs.Names.{NoneFalls, Same as KeepsCounts, SameBut};
 ghost use Rattle.rtpdump_io.specs.Faults.{IsSourceFault, FaultOf};
-ghost use Rattle.sent_files.specs.Files.{recording_at};
+ghost use Rattle.sent_log.specs.Files.{recording_at};
 ghost use Rattle.command_spec.specs.Outcomes.{Same};
 ghost use Rattle.rtt_top.specs.Faults.{IsOfRecording, IsTrueFor, fault_of_dump};
 ghost use Rattle.rtt_top.specs.Files.{IsReadOf};
@@ -12,12 +12,11 @@ ghost use Rattle.rtt_top.specs.Frames.{refused_frames};
 ghost use Rattle.rtt_top.specs.Worlds.{IsUnreadIn, FailedIn, Saves, SavesPartly};
 
 use command_spec::{Fault, Refusal};
-use file_spec::ConfKind;
-use frame_spec::FrameRefusal;
+use file_spec::{ConfKind, FrameRefusal};
 use rtpdump_io::{DumpFault, RecordingFault};
 use rtt_base::{Bytes, Failed};
 use rtt_io::{ReadFault, Sink, World, read_whole};
-use sent_files::SentFiles;
+use sent_log::SentFiles;
 use std::alloc::Global;
 use wire_spec::DumpKind;
 

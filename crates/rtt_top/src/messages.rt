@@ -3,17 +3,16 @@ ghost use Rattle.std.specs.Prelude.{◌≡◌, ◌++◌, ◌≤◌, decimal, Ok,
 ghost use Rattle.std.specs.List.{concat};
 ghost use Rattle.rtt_io.specs.Counts.{Rose};
 ghost use Rattle.command_spec.specs.Messages.{refusal_status, fault_status, status_of, refusal_message, trouble, byte_message, line_message};
-ghost use Rattle.check_spec.specs.Told.{told_name};
+ghost use Rattle.report_spec.specs.Told.{told_name};
 ghost use Rattle.rtt_words.specs.Told.{fault_message, message_of};
 ghost use Rattle.rtt_top.specs.Faults.{message_in};
 ghost use Rattle.rtt_top.specs.Sinks.{Wrote, WrotePartly, TookFront, TookIfCalm, place_message};
 
-use crate::names::ending_name;
 use crate::name_texts::write_name;
+use crate::names::ending_name;
 use bridge_run::Piece;
 use command_spec::{Fault, Refusal, dump_kind_name};
-use file_spec::ConfKind;
-use frame_spec::FrameKind;
+use file_spec::{ConfKind, FrameKind};
 use itoa::Buffer;
 use rtt_base::{Bytes, Failed};
 use rtt_check::{conf_kind_name, frame_kind_name};

@@ -1,8 +1,8 @@
 //! `mix`: a conference is mixed, its outputs are written, and what is seen is printed.
 ghost use Rattle.std.specs.Prelude.{◌≡◌, ◌≤◌, [], ◌∷◌, ◌++◌, length, OnOk, IfOk, IfErr};
 ghost use Rattle.rtt_io.specs.Names.{NoneFalls};
-ghost use Rattle.conference.specs.Conferences.{meaning_of};
-ghost use Rattle.sent_files.specs.Files.{recordings_of};
+ghost use Rattle.file_spec.specs.Conferences.{meaning_of};
+ghost use Rattle.sent_log.specs.Files.{recordings_of};
 ghost use Rattle.rtt_top.specs.Conferences.{MixingEnds, MixingEndsWith, OutputsEnd, fault_of_mixing};
 ghost use Rattle.rtt_top.specs.Worlds.{SavesEach, IsUnwrittenIn};
 ghost use Rattle.file_spec.specs.declared.limits.TheConstants.{MOST_LEGS};
@@ -11,11 +11,11 @@ use crate::files::{fault_of_dump, save_recording};
 use crate::messages::print_views;
 use bridge_run::{MixFault, Mixed, Piece, mix};
 use command_spec::{Fault, Refusal};
-use conference::{Conference, LegLine};
+use file_spec::{Conference, LegLine};
 use rtt_attend::count_inputs;
 use rtt_base::{Bytes, NoMemory};
 use rtt_io::{Gate, Sink, World};
-use sent_files::SentFiles;
+use sent_log::SentFiles;
 use std::alloc::Global;
 use std::sync::Wait;
 use std::thread::Threads;

@@ -1,6 +1,6 @@
 //! The conference of a file is mixed over recordings.
 ghost use Rattle.std.specs.Prelude.{◌≡◌};
-ghost use Rattle.conference.specs.Conferences.{meaning_of};
+ghost use Rattle.file_spec.specs.Conferences.{meaning_of};
 ghost use Rattle.rtt_words.specs.Commands.{mixed};
 ghost use Rattle.rtt_top.specs.Recorded.{MixingEndsAs, asked_as};
 ghost use Rattle.rtt_top.specs.Across.{RunsAcross};
@@ -10,7 +10,7 @@ use crate::messages::finish_with;
 use crate::mix::{fault_of_mixing, mix_conference};
 use command_spec::Fault;
 use conf_text::Form;
-use conference::Conference;
+use file_spec::Conference;
 use rtt_attend::hear_names;
 use rtt_io::{Gate, Sink, World};
 use rtt_words::MixWords;

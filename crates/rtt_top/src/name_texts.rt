@@ -2,7 +2,7 @@
 ghost use Rattle.std.specs.Prelude.{◌≡◌, ◌≤◌, encode_utf8, OnErr};
 ghost use Rattle.std.specs.List.{list_all};
 ghost use Rattle.rtt_io.specs.Counts.{Rose};
-ghost use Rattle.check_spec.specs.Told.{told_character, told_name};
+ghost use Rattle.report_spec.specs.Told.{told_character, told_name};
 ghost use Rattle.rtt_top.specs.Sinks.{Wrote, WrotePartly, is_plain_octet};
 
 use rtt_base::Failed;

@@ -1,10 +1,10 @@
 //! Runs over files in memory, and what each has to leave.
 use crate::failures::{End, ends_with_first};
 use crate::run;
-use check_spec::PortFault;
 use link_io::{Came, FailingLink, MemLinks, PlannedTake};
-use port_io::MemPorts;
+use report_spec::PortFault;
 use rtt_base::{Bytes, NoMemory, Path};
+use rtt_check::MemPorts;
 use rtt_io::{MemSink, MemWorld, StillGate};
 use std::alloc::Global;
 use std::sync::Wait;

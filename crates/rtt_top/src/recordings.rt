@@ -10,10 +10,10 @@ use crate::files::fault_of_recording;
 use crate::messages::{finish, print};
 use crate::views::RecordingView;
 use command_spec::Fault;
-use recording_starts::HeadReader;
 use rtpdump_io::DumpReader;
 use rtt_base::Bytes;
 use rtt_io::{Sink, World};
+use rtt_show::HeadReader;
 use std::alloc::Global;
 
 /// The view of the recording of this name.

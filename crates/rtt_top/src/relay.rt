@@ -10,12 +10,12 @@ ghost use Rattle.rtt_top.specs.Worlds.{StopsOver, RelaysFrames};
 use crate::files::{read_input, refused_frames};
 use crate::send::sender_settings;
 use command_spec::Fault;
-use frame_spec::limits::{FRAME_HEAD_OCTETS, MOST_FRAMES_OCTETS};
+use file_spec::frame_limits::{FRAME_HEAD_OCTETS, MOST_FRAMES_OCTETS};
 use rtt_base::Bytes;
 use rtt_io::World;
-use rtt_relay::{RelayFault, relay_frames};
 use rtt_words::SendWords;
 use std::alloc::Global;
+use text_conversions::{RelayFault, relay_frames};
 
 /// So many octets are read at most: those that frames may have, and the head of one more.
 const MOST_READ: usize = MOST_FRAMES_OCTETS as usize + FRAME_HEAD_OCTETS;

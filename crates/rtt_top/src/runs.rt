@@ -11,7 +11,7 @@ use crate::messages::finish;
 use crate::serve_modes::{ServeMode, serve_file};
 use command_spec::Fault;
 use link_io::Links;
-use port_io::Ports;
+use rtt_check::Ports;
 use rtt_io::{Gate, Sink, World};
 use rtt_words::{Command, WordFault, command_of};
 use std::alloc::Global;

@@ -1,10 +1,10 @@
 //! `send`: a script is read and sent, and a recording is made of what is sent.
 ghost use Rattle.std.specs.Prelude.{◌≡◌, IfOk, IfErr};
 ghost use Rattle.rtt_io.specs.Names.{NoneFalls};
-ghost use Rattle.text_sender.specs.Settings.{AreSettings};
+ghost use Rattle.packetizer.specs.SenderSettings.{AreSettings};
 ghost use Rattle.rtt_words.specs.Tasks.{sending_of};
 ghost use Rattle.rtt_words.specs.Words.{Send};
-ghost use Rattle.rtt_send.specs.Scripts as sender;
+ghost use Rattle.text_conversions.specs.Scripts as sender;
 ghost use Rattle.rtt_words.specs.Commands.{sent};
 ghost use Rattle.command_spec.specs.Outcomes.{Same};
 ghost use Rattle.rtt_top.specs.Worlds.{StopsOver, ReadsScript, MakesRecording};
@@ -13,13 +13,13 @@ use crate::files::{read_input, refused_line};
 use command_spec::Fault;
 use file_spec::ConfKind;
 use file_spec::limits::MOST_SCRIPT_OCTETS;
+use packetizer::SenderSettings;
 use rtt_base::Bytes;
 use rtt_io::World;
-use rtt_send::{SendFault, send_script, usual_settings};
 use rtt_words::SendWords;
 use script_text::{ConfFault, Script, read_script};
 use std::alloc::Global;
-use text_sender::SenderSettings;
+use text_conversions::{SendFault, send_script, usual_settings};
 
 /// The script that is sent.
 fn script_of<W: World>(alloc: Global, words: &SendWords<'_>, world: &mut W) -> Result<Script, Fault>

@@ -1,6 +1,6 @@
 //! A live call of the conference of a file is served, and what was seen is printed.
 ghost use Rattle.std.specs.Prelude.{◌≡◌, true};
-ghost use Rattle.conference.specs.Conferences.{meaning_of};
+ghost use Rattle.file_spec.specs.Conferences.{meaning_of};
 ghost use Rattle.live_run.specs.Calls.{IsOfLinks};
 ghost use Rattle.rtt_words.specs.Commands.{mixed};
 ghost use Rattle.rtt_top.specs.Conferences.{fault_of_live};
@@ -11,10 +11,9 @@ use crate::conferences::{conference_under, name_at_end};
 use crate::messages::{finish_with, print_all};
 use command_spec::Fault;
 use conf_text::Form;
-use conference::Conference;
+use file_spec::Conference;
 use link_io::Links;
-use live_run::{LiveFault, LiveReport, serve};
-use live_watch::serve_watched;
+use live_run::{LiveFault, LiveReport, serve, serve_watched};
 use rtt_io::{Gate, Sink, World};
 use rtt_words::MixWords;
 use std::alloc::Global;

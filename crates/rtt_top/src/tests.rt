@@ -3,7 +3,8 @@ use crate::plays::Case::{
 };
 use crate::plays::Piece::{Octets, Packet, Plain, Rtcp};
 use crate::plays::{
-    Case, LinkEvent, Line, OPENING, Piece, USAGE, eight_times, front, holds, left, recording_of, twice,
+    Case, Line, LinkEvent, OPENING, Piece, USAGE, eight_times, front, holds, left, recording_of,
+    twice,
 };
 use link_io::{Came, FailingLink};
 use rtt_base::{Bytes, NoMemory, Path};

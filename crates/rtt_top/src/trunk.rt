@@ -1,9 +1,9 @@
 //! `cascade`: the conference of a file is mixed, of which some legs stand behind another mixer, whose recording is split.
 ghost use Rattle.std.specs.Prelude.{◌≡◌};
-ghost use Rattle.conference.specs.Conferences.{meaning_of};
+ghost use Rattle.file_spec.specs.Conferences.{meaning_of};
 ghost use Rattle.rtt_words.specs.Words.{Cascade};
 ghost use Rattle.rtt_words.specs.Commands.{cascaded};
-ghost use Rattle.rtt_cascade.specs.Inputs.{input_name};
+ghost use Rattle.cascade.specs.Inputs.{input_name};
 ghost use Rattle.rtt_top.specs.Conferences.{CascadingEnds, ending_behind, fault_of_cascade, input_behind};
 ghost use Rattle.rtt_top.specs.Across.{RunsAcross};
 
@@ -11,10 +11,10 @@ use crate::conferences::{conference_under, name_at_end};
 use crate::files::fault_of_dump;
 use crate::messages::finish_with;
 use crate::mix::make_outputs;
+use cascade::{CascadeFault, cascade, input_name, odd_line};
 use command_spec::{Fault, Refusal};
 use conf_text::Form;
-use conference::{Conference, LegLine};
-use rtt_cascade::{CascadeFault, cascade, input_name, odd_line};
+use file_spec::{Conference, LegLine};
 use rtt_io::{Gate, Sink, World};
 use rtt_words::CascadeWords;
 use std::alloc::Global;
@@ -106,6 +106,11 @@ pub fn run_cascade<R: Threads + Wait + Sync, W: World, K: Sink, E: Sink, G: Gate
         Err(fault) => return finish_with(Err(fault), words.conference, err),
     };
     let ending = cascade_conference(rt, alloc, words, &conference, world, out, gate);
-    let name = name_behind(ending, words.conference, words.file, conference.legs.as_slice());
+    let name = name_behind(
+        ending,
+        words.conference,
+        words.file,
+        conference.legs.as_slice(),
+    );
     finish_with(ending, name, err)
 }

@@ -4,16 +4,14 @@ ghost use Rattle.rtpdump_io.specs.Reading.{is_ended, source_of, to_come};
 ghost use Rattle.rtpdump_io.specs.Faults.{FaultOf, HasCause};
 ghost use Rattle.command_spec.specs.Reading.{read_view};
 ghost use Rattle.command_spec.specs.declared.requests.ReadRequest.{ReadRequest};
-ghost use Rattle.rtt_read.specs.Recordings.{HasHeard, HasHeardOne};
+ghost use Rattle.recording_views.specs.Recordings.{HasHeard, HasHeardOne};
 ghost use Rattle.rtt_top.specs.RecordingViews.{IsViewFrom, IsViewOf, IsRefusal, refused_by, view_by};
 
 use command_spec::ReadRequest;
+use recording_views::{hear_recording, list_records, script_recording};
 use rtpdump_io::{DumpReader, RecordingFault};
 use rtt_base::{Bytes, NoMemory as OutOfMemory, PayloadTypes};
 use rtt_io::Source;
-use rtt_list::list_records;
-use rtt_read::hear_recording;
-use rtt_script::script_recording;
 use rtt_show::show_recording;
 use rtt_times::times_recording;
 use rtt_words::ReadWords;
@@ -22,8 +20,12 @@ use terminal::{Terminal, View};
 
 /// What is read of a recording by these words.
 pub(crate) fn request_of(words: &ReadWords<'_>) -> ReadRequest
-    ensures { result ≡ record { ssrc = words.now.ssrc; source = words.now.source; payload_types =
-        words.now.payload_types } }
+    ensures { result ≡ record {
+      ssrc = words.now.ssrc;
+      source = words.now.source;
+      payload_types =
+          words.now.payload_types;
+    } }
 {
     ReadRequest {
         ssrc: words.ssrc,
@@ -97,8 +99,18 @@ impl RecordingView {
     {
         match self {
             RecordingView::Lines(payload_types) => list_records(alloc, reader, payload_types),
-            RecordingView::Streams(payload_types) => show_recording(alloc, reader, start, payload_types),
-            RecordingView::Times(payload_types) => times_recording(alloc, reader, start, payload_types),
+            RecordingView::Streams(payload_types) => show_recording(
+                alloc,
+                reader,
+                start,
+                payload_types,
+            ),
+            RecordingView::Times(payload_types) => times_recording(
+                alloc,
+                reader,
+                start,
+                payload_types,
+            ),
             RecordingView::Text(request) => text_heard(alloc, reader, request),
             RecordingView::Transcript(request) => script_recording(alloc, reader, request),
         }

@@ -7,7 +7,7 @@ use Rattle.file_spec.specs.Script.{ScriptLine}
 use Rattle.file_spec.specs.Lines as lines
 use Rattle.file_spec.specs.Script.{script}
 use Rattle.rtt_words.specs.Words.{ReadWords, SendWords, Command, Read, ListRecords, Send, Mix, Attend, Cascade, Make, Live, Watch, Relay, Channel, Show, Times, Script, Check, Help, Version}
-use Rattle.check_spec.specs.Looks.{look, steps_of}
+use Rattle.report_spec.specs.Looks.{look, steps_of}
 use Rattle.rtt_words.specs.Help.{help_text}
 use Rattle.command_spec.specs.declared.faults.Refusal.TheVariants.{AtByte, AtFrame, AtLine}
 use Rattle.command_spec.specs.declared.requests.ReadRequest.{ReadRequest}
@@ -19,11 +19,11 @@ use Rattle.command_spec.specs.Messages.{version_line}
 use Rattle.command_spec.specs.Mixing.{mixing}
 use Rattle.command_spec.specs.Reading.{read_view}
 use Rattle.command_spec.specs.Showing.{show_refusal}
-use Rattle.show_spec.specs.Showing.{show_view}
-use Rattle.times_spec.specs.Times.{times_view}
+use Rattle.report_spec.specs.Showing.{show_view}
+use Rattle.report_spec.specs.Times.{times_view}
 use Rattle.command_spec.specs.Transcripts.{transcript_view}
 use Rattle.command_spec.specs.Frames.{relay, channel}
-use Rattle.frame_spec.specs.declared.frames.FrameRefusal.{FrameRefusal}
+use Rattle.file_spec.specs.declared.frames.FrameRefusal.{FrameRefusal}
 use Rattle.command_spec.specs.Serving.{serving}
 use Rattle.command_spec.specs.Scripts.{Sending, full_line, recording, usual_sending}
 use Rattle.command_spec.specs.Work.{Made, Steps, Reads, Refuses, Makes, Work}

@@ -1,6 +1,6 @@
 -- What is told of a fault (profile). Each line ends with LF.
 use Rattle.std.specs.Prelude.{List, [], ℕ, Ok, Err, codes}
-use Rattle.check_spec.specs.Told.{told_name}
+use Rattle.report_spec.specs.Told.{told_name}
 use Rattle.command_spec.specs.declared.faults.Fault.{Fault}
 use Rattle.command_spec.specs.declared.faults.Fault.TheVariants.{WrongWords, CannotOpen, CannotRead, Refused, CannotPrint, CannotWrite, LinkFailed, NoMemory}
 use Rattle.command_spec.specs.Messages.{Ending, refusal_message, trouble}

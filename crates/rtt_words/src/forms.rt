@@ -10,9 +10,9 @@ use crate::arguments::Arguments;
 use crate::topics::topic_of;
 use crate::{ChannelWords, ListWords, MakeWords, MixWords, ReadWords, SendWords, Topic};
 use clap::{Arg, ArgMatches, Command};
-use file_lines::{number_from, number_of, payload_types_of};
 use file_spec::limits::{USUAL_RED, USUAL_T140};
 use rtt_base::PayloadTypes;
+use script_text::{number_from, number_of, payload_types_of};
 use std::alloc::{AllocError, Global};
 
 /// A command without arguments, not even `--help`.
@@ -72,7 +72,11 @@ fn different_types_of(t140: &str, red: &str) -> Option<PayloadTypes>
     ensures { result ≡ different_types t140.now red.now }
 {
     let payload_types = payload_types_of(t140, red)?;
-    if payload_types.t140 == payload_types.red { None } else { Some(payload_types) }
+    if payload_types.t140 == payload_types.red {
+        None
+    } else {
+        Some(payload_types)
+    }
 }
 
 /// The payload types that a command names, both or neither.
@@ -125,7 +129,10 @@ impl<'a> Arguments<'a> for ListWords<'a> {
     fn from_matches(matches: &ArgMatches<'a>) -> Option<ListWords<'a>> {
         let file = matches.get_str("FILE")?;
         let payload_types = payload_types_matched(matches)?;
-        Some(ListWords { file, payload_types })
+        Some(ListWords {
+            file,
+            payload_types,
+        })
     }
 }
 

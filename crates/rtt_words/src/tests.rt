@@ -55,7 +55,10 @@ fn read(ssrc: u32, source: u32, payload_types: PayloadTypes) -> ReadWords<'stati
 }
 
 fn list(payload_types: PayloadTypes) -> ListWords<'static> {
-    ListWords { file: "a.rtp", payload_types }
+    ListWords {
+        file: "a.rtp",
+        payload_types,
+    }
 }
 
 #[test]
@@ -116,7 +119,9 @@ fn a_send_or_a_relay_takes_the_greatest_numbers(rt: HostRuntime) -> Result<(), F
 
 #[test]
 fn four_commands_name_a_conference(rt: HostRuntime) -> Result<(), Fail> {
-    let words = MixWords { conference: "c.txt" };
+    let words = MixWords {
+        conference: "c.txt",
+    };
     assert!(rt; asks(rt.alloc(), "mix c.txt", Command::Mix(words))?);
     assert!(rt; asks(rt.alloc(), "attend c.txt", Command::Attend(words))?);
     assert!(rt; asks(rt.alloc(), "live c.txt", Command::Live(words))?);

@@ -62,7 +62,11 @@ fn cascade_command(alloc: Global, words: &[String]) -> Result<CascadeWords<'_>, 
 {
     let ChannelWords { file, ssrc, out } = from_words(alloc, words)?;
     let conference = out;
-    Ok(CascadeWords { file, ssrc, conference })
+    Ok(CascadeWords {
+        file,
+        ssrc,
+        conference,
+    })
 }
 
 /// A `check`, where the words after its name are in its row.

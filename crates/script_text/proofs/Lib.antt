@@ -1,3 +1,8 @@
+pub mod Digits
+pub mod EachLine
+pub mod FirstLine
+pub mod LineByLine
+pub mod TextLine
 pub mod EscapeLoop
 pub mod LineHeads
 pub mod ScriptLoop

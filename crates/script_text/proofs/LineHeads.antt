@@ -12,10 +12,10 @@ use Rattle.file_spec.specs.Script.{ScriptLine, around_space, script_line, typed,
 use Rattle.file_spec.specs.declared.limits.TheConstants.{LAST_MOMENT, LONGEST_TEXT}
 use Rattle.file_spec.specs.declared.kinds.ConfKind.{ConfKind}
 use Rattle.file_spec.specs.declared.kinds.ConfKind.TheVariants.{NotText, Count, Number, Order, Long}
-use Rattle.file_lines.specs.declared.faults.ConfFault.{ConfFault}
-use Rattle.file_lines.specs.declared.faults.ConfFault.TheVariants.{Refused}
-use Rattle.file_lines.specs.Causes.{IsCauseAt}
-use Rattle.file_lines.specs.Fronts.{number_and_rest}
+use Rattle.script_text.specs.declared.faults.ConfFault.{ConfFault}
+use Rattle.script_text.specs.declared.faults.ConfFault.TheVariants.{Refused}
+use Rattle.script_text.specs.Causes.{IsCauseAt}
+use Rattle.script_text.specs.Fronts.{number_and_rest}
 use Rattle.script_text.specs.declared.line_facts.KnownLines.{KnownLines}
 use Rattle.script_text.specs.ScriptLines.{moment_said, head_said, IsPlain, IsKnown, AreKnown}
 use Rattle.script_text.proofs.EscapeLoop.{none_read, unescaped-plain, end_read, end_long}

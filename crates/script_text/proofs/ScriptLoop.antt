@@ -4,13 +4,13 @@ use Rattle.file_spec.specs.Script.{ScriptLine, latest, and_line, script_line, sc
 use Rattle.file_spec.specs.Lines.{told, is_comment, read_lines}
 use Rattle.rtt_base.specs.Steps.{◌>>=◌}
 use Rattle.std.specs.Str.Lines.{lines}
-use Rattle.file_lines.proofs.LineByLine.{one_read, one_refused, passed_over}
+use Rattle.script_text.proofs.LineByLine.{one_read, one_refused, passed_over}
 use Rattle.std.specs.Prelude.{true}
 use Rattle.file_spec.specs.declared.kinds.ConfKind.{ConfKind}
 use Rattle.file_spec.specs.declared.limits.TheConstants.{MOST_SCRIPT_OCTETS}
-use Rattle.file_lines.specs.declared.faults.ConfFault.{ConfFault}
-use Rattle.file_lines.specs.declared.faults.ConfFault.TheVariants.{Refused, NoMemory}
-use Rattle.file_lines.specs.Causes.{IsCause, IsCauseAt}
+use Rattle.script_text.specs.declared.faults.ConfFault.{ConfFault}
+use Rattle.script_text.specs.declared.faults.ConfFault.TheVariants.{Refused, NoMemory}
+use Rattle.script_text.specs.Causes.{IsCause, IsCauseAt}
 use Rattle.script_text.specs.declared.line_facts.KnownLines.{KnownLines}
 use Rattle.script_text.specs.ScriptLines.{head_said, AreKnown}
 use Rattle.script_text.proofs.LineHeads.{and_line_is, line_without_head, with_text, known_behind}

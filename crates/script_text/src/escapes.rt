@@ -2,8 +2,8 @@
 ghost use Rattle.std.specs.Prelude.{◌≡◌, ◌<◌, ◌==◌, ◌∷◌, length, None, Some, Ok, IfSome, MatchOption, OnOk, IfErr};
 ghost use Rattle.std.specs.List.{position};
 ghost use Rattle.file_spec.specs.Script.{escape, followed, typed, unescaped};
-ghost use Rattle.file_lines.specs.Causes.{IsCauseAt};
-ghost use Rattle.file_lines.specs.Texts.{octets_of};
+ghost use Rattle.script_text.specs.Causes.{IsCauseAt};
+ghost use Rattle.script_text.specs.Texts.{octets_of};
 
 use crate::{ConfFault, ConfKind};
 use file_spec::limits::LONGEST_TEXT;

@@ -2,12 +2,11 @@
 ghost use Rattle.std.specs.Prelude.{◌≡◌, ◌≤◌, ◌==◌, None, Err, IfOk};
 ghost use Rattle.std.specs.List.{position};
 ghost use Rattle.std.specs.Str.{is_utf8};
-ghost use Rattle.file_lines.specs.Fronts.{number_and_rest};
+ghost use Rattle.script_text.specs.Fronts.{number_and_rest};
 ghost use Rattle.script_text.specs.ScriptLines.{head_octets, head_said, moment_said, IsKnown};
 
-use crate::ConfKind;
 use crate::line_facts::{KnownLines, is_text};
-use file_lines::number_before_space;
+use crate::{ConfKind, number_before_space};
 use file_spec::limits::LAST_MOMENT;
 
 /// When a line is typed, in milliseconds, and the octets that its text is read from.

@@ -4,7 +4,7 @@ ghost use Rattle.std.specs.Str.{is_utf8};
 ghost use Rattle.std.specs.Str.Lines.{lines};
 ghost use Rattle.script_text.specs.ScriptLines.{AreKnown, IsPlain};
 
-use file_lines::text_of;
+use crate::text_of;
 use memchr::memchr;
 
 /// What is known of each line.

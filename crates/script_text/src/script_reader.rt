@@ -1,15 +1,14 @@
 //! Reads scripts.
 ghost use Rattle.std.specs.Prelude.{◌≡◌, true, Ok, IfOk, IfErr, OnOk};
 ghost use Rattle.file_spec.specs.Script.{script, typed};
-ghost use Rattle.file_lines.specs.Causes.{IsCause, IsCauseAt};
-ghost use Rattle.file_lines.specs.declared.faults.ConfFault.TheVariants.{Refused};
+ghost use Rattle.script_text.specs.Causes.{IsCause, IsCauseAt};
+ghost use Rattle.script_text.specs.declared.faults.ConfFault.TheVariants.{Refused};
 ghost use Rattle.script_text.specs.ScriptLines.{with_typed, IsPlain};
 
 use crate::escapes::read_text;
 use crate::heads::{Head, read_head};
 use crate::line_facts::{is_plain_text, known_of};
-use crate::{ConfFault, ConfKind, Script, ScriptLine};
-use file_lines::{next_line, says_nothing};
+use crate::{ConfFault, ConfKind, Script, ScriptLine, next_line, says_nothing};
 use file_spec::limits::{LONGEST_TEXT, MOST_SCRIPT_OCTETS};
 use rtt_base::Bytes;
 use std::alloc::Global;

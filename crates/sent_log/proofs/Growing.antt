@@ -4,7 +4,7 @@ use Rattle.std.specs.Prelude.{◌-◌, All, map, reverse, slice_index, slice_ind
 use Rattle.std.proofs.lemmas.List.{append-nil, drop-append-le, get_or_append_left, get_or_read, length-append, length-drop, length-set, length_push, take-append-le}
 use Rattle.std.proofs.lemmas.List.Elements.{All-tail}
 use Rattle.stream_spec.specs.Own.{Sent}
-use Rattle.aware_output.specs.Speakers.{text_of}
+use Rattle.packetizer.specs.Speakers.{text_of}
 use Rattle.sent_log.specs.declared.logs.SentLog.TheInside.{Inside}
 use Rattle.sent_log.specs.declared.terminals.LoggedPacket.{LoggedPacket}
 use Rattle.sent_log.specs.declared.terminals.TerminalLog.{TerminalLog}

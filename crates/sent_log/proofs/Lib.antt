@@ -5,3 +5,6 @@ pub mod Noting
 pub mod Rendering
 pub mod Written
 pub mod Penning
+pub mod Recorded
+pub mod Passing
+mod Trials

@@ -7,9 +7,9 @@ use Rattle.std.proofs.lemmas.Option.{get_or_from_slice_get, slice_get-map, slice
 use Rattle.std.proofs.Math.Seq.{map-set_same}
 use Rattle.rtt_base.specs.declared.errors.NoMemory.{NoMemory}
 use Rattle.stream_spec.specs.Own.{Sent}
-use Rattle.aware_output.specs.declared.outputs.PacketizerSettings.{PacketizerSettings}
-use Rattle.aware_output.specs.Settings.{AreSettings}
-use Rattle.aware_output.specs.Speakers.{AreDistinct, text_of}
+use Rattle.packetizer.specs.declared.outputs.PacketizerSettings.{PacketizerSettings}
+use Rattle.packetizer.specs.OutputSettings.{AreSettings}
+use Rattle.packetizer.specs.Speakers.{AreDistinct, text_of}
 use Rattle.sent_log.specs.declared.logs.SentLog.TheInside.{Inside}
 use Rattle.sent_log.specs.declared.terminals.LoggedPacket.{LoggedPacket}
 use Rattle.sent_log.specs.declared.terminals.TerminalLog.{TerminalLog}

@@ -7,17 +7,17 @@ use Rattle.std.proofs.lemmas.List.{drop-map, drop_all, get_or-map, get_or-set_ot
 use Rattle.std.proofs.lemmas.List.Elements.{All-from_recursion, All-head, All-push, All-tail}
 use Rattle.std.proofs.lemmas.Option.{get_or_from_slice_get, slice_get-get_or, slice_get_within}
 use Rattle.stream_spec.specs.Own.{Sent, has_text_in, sent_of}
-use Rattle.red_window.specs.declared.slots.KeptBlock.{KeptBlock}
-use Rattle.red_window.specs.Kept.{blocks_kept}
-use Rattle.red_window.specs.Standing.{kept_last}
-use Rattle.red_window.specs.Standing as window
-use Rattle.red_window.proofs.Repeating.{due_is, is_text, kept_more, shifted}
-use Rattle.red_blocks.specs.Writing.{packet_with}
+use Rattle.packetizer.specs.declared.slots.KeptBlock.{KeptBlock}
+use Rattle.packetizer.specs.Kept.{blocks_kept}
+use Rattle.packetizer.specs.WindowStanding.{kept_last}
+use Rattle.packetizer.specs.WindowStanding as window
+use Rattle.packetizer.proofs.Repeating.{due_is, is_text, kept_more, shifted}
+use Rattle.rtp_text.specs.Writing.{packet_with}
 use Rattle.wire_spec.specs.SentPackets.{packet_written}
-use Rattle.aware_output.specs.Settings.{stream_of}
-use Rattle.aware_output.specs.Speakers.{EachIsNext}
-use Rattle.aware_output.specs.Standing.{speaker_of}
-use Rattle.aware_output.proofs.Speaking.{own_sent, packet_is}
+use Rattle.packetizer.specs.OutputSettings.{stream_of}
+use Rattle.packetizer.specs.Speakers.{EachIsNext}
+use Rattle.packetizer.specs.OutputStanding.{speaker_of}
+use Rattle.packetizer.proofs.Speaking.{own_sent, packet_is}
 use Rattle.sent_log.specs.declared.repeats.PacketKey.{PacketKey}
 use Rattle.sent_log.specs.declared.pens.Pen.{Pen}
 use Rattle.sent_log.specs.declared.terminals.LoggedPacket.{LoggedPacket}

@@ -7,9 +7,9 @@ use Rattle.std.proofs.lemmas.List.{drop-map, drop_at, get_or-map, get_or-take, g
 use Rattle.std.proofs.lemmas.List.Sorted.{IsNonDecreasingBy-push}
 use Rattle.std.proofs.lemmas.Option.{get_or_from_slice_get, slice_get_read, slice_get_within}
 use Rattle.stream_spec.specs.Own.{Sent, Stream}
-use Rattle.aware_output.specs.declared.outputs.PacketizerSettings.{PacketizerSettings}
-use Rattle.aware_output.specs.Sending.{octets_of}
-use Rattle.aware_output.specs.Speakers.{EachIsNext, text_of}
+use Rattle.packetizer.specs.declared.outputs.PacketizerSettings.{PacketizerSettings}
+use Rattle.packetizer.specs.Sending.{octets_of}
+use Rattle.packetizer.specs.Speakers.{EachIsNext, text_of}
 use Rattle.sent_log.specs.declared.logs.SentLog.TheInside.{Inside}
 use Rattle.sent_log.specs.declared.terminals.LoggedPacket.{LoggedPacket}
 use Rattle.sent_log.specs.declared.terminals.TerminalLog.{TerminalLog}

@@ -6,7 +6,7 @@ use Rattle.std.proofs.lemmas.Bool.{cases_eq, eq-eqb, ne_eqb}
 use Rattle.std.proofs.lemmas.List.{drop-drop}
 use Rattle.stream_spec.specs.Lists.{In}
 use Rattle.stream_spec.specs.Own.{Sent}
-use Rattle.aware_output.specs.Speakers.{AreDistinct}
+use Rattle.packetizer.specs.Speakers.{AreDistinct}
 use Rattle.sent_log.specs.declared.runs.Run.{Run}
 use Rattle.sent_log.specs.Lists.{StandsAt, octets_at}
 use Rattle.sent_log.specs.Runs.{Follows, IsRun, empty_run}

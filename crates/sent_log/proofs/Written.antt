@@ -8,8 +8,8 @@ use Rattle.rtt_base.specs.declared.blocks.TextBlock.{TextBlock}
 use Rattle.wire_spec.specs.Red.{red_header, red_spelling}
 use Rattle.rtt_base.specs.declared.limits.TheConstants.{MOST_PACKET_OCTETS}
 use Rattle.wire_spec.proofs.Sizes.{AreShortTexts, packet_size}
-use Rattle.red_blocks.specs.declared.writers.TextHead.{TextHead}
-use Rattle.red_blocks.specs.Writing.{packet_with}
+use Rattle.rtp_text.specs.declared.block_writers.TextHead.{TextHead}
+use Rattle.rtp_text.specs.Writing.{packet_with}
 use Rattle.sent_log.specs.Lists.{list_at}
 use Rattle.sent_log.specs.Repeats.{AreBelow}
 use Rattle.sent_log.specs.declared.terminals.LoggedPacket.{LoggedPacket}

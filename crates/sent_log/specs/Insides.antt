@@ -1,8 +1,8 @@
 -- What the entries of a log stand for, and what holds of each log.
 use Rattle.std.specs.Prelude.{◌≡◌, ◌+◌, ◌<◌, ◌≤◌, ℕ, All, List, [], ◌∷◌, ◌++◌, length, map, reverse, slice_index, slice_index_or, slice_set}
 use Rattle.stream_spec.specs.Own.{Sent}
-use Rattle.aware_output.specs.Settings.{AreSettings}
-use Rattle.aware_output.specs.Speakers.{AreDistinct, text_of}
+use Rattle.packetizer.specs.OutputSettings.{AreSettings}
+use Rattle.packetizer.specs.Speakers.{AreDistinct, text_of}
 use Rattle.sent_log.specs.declared.logs.SentLog.TheInside.{Inside}
 use Rattle.sent_log.specs.declared.terminals.LoggedPacket.{LoggedPacket}
 use Rattle.sent_log.specs.declared.terminals.TerminalLog.{TerminalLog}

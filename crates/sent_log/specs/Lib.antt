@@ -5,3 +5,5 @@ pub mod Insides
 pub mod Repeats
 pub mod Writing
 pub mod Pens
+pub mod Files
+pub mod FileWriting

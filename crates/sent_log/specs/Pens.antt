@@ -1,9 +1,9 @@
 -- What a pen knows of what was sent before a packet.
 use Rattle.std.specs.Prelude.{◌≡◌, ◌+◌, ◌%◌, ℕ, Some, List, ◌∷◌, length, map, reverse, slice_get, slice_index, slice_index_or, if◌then◌else◌, []}
 use Rattle.stream_spec.specs.Own.{Sent, sent_of}
-use Rattle.aware_output.specs.Sending.{octets_of}
-use Rattle.red_window.specs.declared.slots.KeptBlock.{KeptBlock}
-use Rattle.red_window.specs.Standing as window
+use Rattle.packetizer.specs.Sending.{octets_of}
+use Rattle.packetizer.specs.declared.slots.KeptBlock.{KeptBlock}
+use Rattle.packetizer.specs.WindowStanding as window
 use Rattle.sent_log.specs.declared.repeats.PacketKey.{PacketKey}
 use Rattle.sent_log.specs.declared.pens.Pen.{Pen}
 use Rattle.sent_log.specs.Repeats.{AreBelow}

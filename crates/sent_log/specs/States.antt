@@ -3,12 +3,12 @@ use Rattle.std.specs.Prelude.{◌≡◌, ◌+◌, ◌-◌, ◌<◌, ◌^◌, ◌
 use Rattle.std.specs.List.Sorted.{IsNonDecreasing}
 use Rattle.wire_spec.specs.Dump.{dump_written}
 use Rattle.stream_spec.specs.Own.{Sent}
-use Rattle.aware_output.specs.declared.outputs.PacketizerSettings.{PacketizerSettings}
+use Rattle.packetizer.specs.declared.outputs.PacketizerSettings.{PacketizerSettings}
 use Rattle.rtt_base.specs.declared.text_packets.PayloadTypes.{PayloadTypes}
 use Rattle.stream_spec.specs.Lists.{In}
-use Rattle.aware_output.specs.Settings.{AreSettings, stream_of}
-use Rattle.aware_output.specs.Speakers.{EachIsNext}
-use Rattle.aware_output.specs.Sending.{octets_of}
+use Rattle.packetizer.specs.OutputSettings.{AreSettings, stream_of}
+use Rattle.packetizer.specs.Speakers.{EachIsNext}
+use Rattle.packetizer.specs.Sending.{octets_of}
 
 -- What was sent to a terminal: its stream, its sources, and what was sent of them, newest first, each at its moment.
 pub record Sending : Type 0 where

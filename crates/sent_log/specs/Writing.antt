@@ -4,11 +4,11 @@ use Rattle.std.specs.List.{flat_map, list_any}
 use Rattle.std.specs.Int.{bytes_high_first}
 use Rattle.rtt_base.specs.declared.blocks.TextBlock.{TextBlock}
 use Rattle.wire_spec.specs.Red.{red_header}
-use Rattle.red_blocks.specs.declared.writers.TextHead.{TextHead}
+use Rattle.rtp_text.specs.declared.block_writers.TextHead.{TextHead}
 use Rattle.wire_spec.specs.SentPackets.{packet_written}
-use Rattle.red_blocks.specs.Writing.{packet_with}
-use Rattle.red_window.specs.declared.slots.KeptBlock.{KeptBlock}
-use Rattle.red_window.specs.Kept.{block_kept, blocks_kept}
+use Rattle.rtp_text.specs.Writing.{packet_with}
+use Rattle.packetizer.specs.declared.slots.KeptBlock.{KeptBlock}
+use Rattle.packetizer.specs.Kept.{block_kept, blocks_kept}
 use Rattle.sent_log.specs.declared.repeats.PacketKey.{PacketKey}
 use Rattle.sent_log.specs.declared.terminals.LoggedPacket.{LoggedPacket}
 use Rattle.sent_log.specs.declared.terminals.TerminalLog.{TerminalLog}

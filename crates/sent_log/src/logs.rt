@@ -1,7 +1,7 @@
 //! A log of what was sent.
 ghost use Rattle.std.specs.Prelude.{◌≡◌, ◌+◌, ◌%◌, ◌^◌, ◌<◌, ◌≤◌, ◌++◌, ◌∷◌, [], true, length, IfOk, IfSome, OnOk, OnErr};
-ghost use Rattle.aware_output.specs.Settings.{AreSettings};
-ghost use Rattle.aware_output.specs.Speakers.{AreDistinct, text_of};
+ghost use Rattle.packetizer.specs.OutputSettings.{AreSettings};
+ghost use Rattle.packetizer.specs.Speakers.{AreDistinct, text_of};
 ghost use Rattle.sent_log.specs.States.{HasSource, IsStreamOf, NeverFalls, OfTerminal, State, TellsText, said, sent_to, sents};
 ghost use Rattle.sent_log.specs.Pens.{IsPacket, IsPenOf, IsPenTo};
 ghost use Rattle.sent_log.specs.Insides.{IsLog, state_of};
@@ -12,7 +12,7 @@ use crate::terminals::{TerminalLog, make_lists, never_fall};
 use crate::text_lists::TextList;
 use crate::turns::{Turn, note_turn};
 use crate::writers::make_packet;
-use aware_output::PacketizerSettings;
+use packetizer::PacketizerSettings;
 use rtt_base::{NoMemory, Packet, PayloadTypes};
 use std::alloc::Global;
 use std::marker::Model;
@@ -59,7 +59,12 @@ impl SentLog {
 
     /// Adds the next terminal, to which nothing was sent: its stream, and its sources, all different. After `NoMemory` all
     /// is as before.
-    pub fn add(&mut self, alloc: Global, settings: PacketizerSettings, sources: Vec<u32>) -> Result<(), NoMemory>
+    pub fn add(
+        &mut self,
+        alloc: Global,
+        settings: PacketizerSettings,
+        sources: Vec<u32>,
+    ) -> Result<(), NoMemory>
         requires settings { AreSettings settings }
         requires distinct { AreDistinct sources.items }
         ensures ok { OnOk result (self.new
@@ -204,7 +209,15 @@ impl SentLog {
         let source = entry.source as usize;
         let timestamp = timestamp_at(sent_to.settings.timestamp, turn.media);
         let repeats = &pen.sources[source];
-        make_packet(sent_to, &self.texts, repeats, entry, pen.seq, timestamp, packet);
+        make_packet(
+            sent_to,
+            &self.texts,
+            repeats,
+            entry,
+            pen.seq,
+            timestamp,
+            packet,
+        );
         pen.keep(source, timestamp, number);
         turn.now
     }

@@ -33,7 +33,9 @@ impl PacketKey {
         if !self.sent {
             return MOST_OFFSET;
         }
-        timestamp.wrapping_sub(self.timestamp).min(u32::from(MOST_OFFSET)) as u16
+        timestamp
+            .wrapping_sub(self.timestamp)
+            .min(u32::from(MOST_OFFSET)) as u16
     }
 }
 

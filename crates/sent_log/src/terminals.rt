@@ -7,7 +7,7 @@ ghost use Rattle.sent_log.specs.Lists.{EachGrows};
 use crate::runs::Run;
 use crate::text_lists::TextList;
 use crate::turns::Turn;
-use aware_output::PacketizerSettings;
+use packetizer::PacketizerSettings;
 use rtt_base::{NoMemory, PayloadTypes};
 use std::alloc::Global;
 

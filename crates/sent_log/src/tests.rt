@@ -1,9 +1,9 @@
 //! What was sent comes out as an output writes it at once, and texts are kept once.
-ghost use Rattle.aware_output.specs.Settings.{AreSettings};
+ghost use Rattle.packetizer.specs.OutputSettings.{AreSettings};
 
 use crate::SentLog;
 use crate::text_lists::TextList;
-use aware_output::{PacketizerSettings, Packetizer};
+use packetizer::{Packetizer, PacketizerSettings};
 use rtt_base::{Packet, PayloadTypes};
 use std::alloc::Global;
 use std::process::Abort;

@@ -15,3 +15,4 @@ pub mod HeardLaws
 pub mod NumberLaws
 pub mod SentLaws
 pub mod StillLaws
+pub mod Links

@@ -1,4 +1,5 @@
-//! What a stream of text packets tells: definitions, and the laws that hold of them. No code stands here.
+//! What a stream of text packets tells, and what the inbound end of a link gives: definitions, and the laws that hold of them. No
+//! code stands here.
 #![tactic(auto)]
 
 mod laws;

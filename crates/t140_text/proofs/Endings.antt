@@ -3,8 +3,8 @@ use Rattle.std.proofs.Common.{◌≡◌, ℕ, Bool, true, false, cond, ◌&&◌,
 use Rattle.std.specs.Prelude.{◌==◌, reverse}
 use Rattle.std.specs.Str.{chars}
 use Rattle.std.proofs.lemmas.List.{reverse-append}
-use Rattle.text_spec.specs.Characters.{is_new_line}
-use Rattle.text_spec.specs.Ends.{ends_line, ends_sentence, first_is, is_closing, is_space, is_stop, is_stopped, is_wide_closing, is_wide_stop, is_wide_stopped, past_one}
+use Rattle.view_spec.specs.Characters.{is_new_line}
+use Rattle.view_spec.specs.Ends.{ends_line, ends_sentence, first_is, is_closing, is_space, is_stop, is_stopped, is_wide_closing, is_wide_stop, is_wide_stopped, past_one}
 use Rattle.t140_text.specs.declared.ends.TextEnd.{TextEnd}
 use Rattle.t140_text.specs.Endings.{IsEnding, back, is_line_end, is_sentence_end, pushed}
 

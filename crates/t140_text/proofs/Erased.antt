@@ -4,10 +4,10 @@ use Rattle.std.specs.Char.{encode_utf8}
 use Rattle.std.proofs.lemmas.List.{nil_from_length}
 use Rattle.std.proofs.lemmas.Str.{encodes-append, encodes_same, IsUtf8-string_bytes}
 use Rattle.std.proofs.lemmas.Bool.Decides.{nat_tests}
-use Rattle.text_spec.specs.declared.classes.CharClass.TheVariants.{Erase, Bell, NewLine, Silent, Marker, Print}
-use Rattle.text_spec.specs.Characters.{class_of, is_marker, is_new_line, is_silent}
-use Rattle.text_spec.specs.Shown.{one_back}
-use Rattle.text_spec.proofs.Erasing.{one_back-append}
+use Rattle.view_spec.specs.declared.classes.CharClass.TheVariants.{Erase, Bell, NewLine, Silent, Marker, Print}
+use Rattle.view_spec.specs.Characters.{class_of, is_marker, is_new_line, is_silent}
+use Rattle.view_spec.specs.Shown.{one_back}
+use Rattle.view_spec.proofs.Erasing.{one_back-append}
 
 one_more : (ds : List ℕ) (c : ℕ) → encode_utf8_all (ds ++ c ∷ []) ≡ encode_utf8_all ds ++ encode_utf8 c
 one_more ds c = encodes-append ds (c ∷ []) ∙ ap (λ l. encode_utf8_all ds ++ l) (append-nil (encode_utf8 c))

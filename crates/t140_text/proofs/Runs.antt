@@ -7,10 +7,10 @@ use Rattle.std.proofs.lemmas.List.{take-append-drop, length-take-le, length-appe
 use Rattle.std.proofs.Math.Seq.{take-append-add}
 use Rattle.std.proofs.lemmas.List.Elements.{All-head, All-tail, All-weaker, All-append, All-same}
 use Rattle.std.specs.Str.{IsAscii}
-use Rattle.text_spec.specs.declared.classes.CharClass.TheVariants.{Print}
-use Rattle.text_spec.specs.Characters.{class_of}
-use Rattle.text_spec.specs.Shown.{signs, survivors, bells, ends_with_cr}
-use Rattle.text_spec.proofs.Steps.{stands-print, bells_same, bells_le, ends_with_cr-last, plain_class}
+use Rattle.view_spec.specs.declared.classes.CharClass.TheVariants.{Print}
+use Rattle.view_spec.specs.Characters.{class_of}
+use Rattle.view_spec.specs.Shown.{signs, survivors, bells, ends_with_cr}
+use Rattle.view_spec.proofs.Steps.{stands-print, bells_same, bells_le, ends_with_cr-last, plain_class}
 use Rattle.t140_text.specs.declared.screens.Screen.{Screen}
 use Rattle.t140_text.specs.Screens.{IsPlain, Reads}
 

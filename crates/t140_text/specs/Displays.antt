@@ -1,6 +1,6 @@
 -- A shown text as the record that the definitions speak of; and what print keeps.
 use Rattle.std.specs.Prelude.{◌≡◌, ℕ, List, ◌++◌}
-use Rattle.text_spec.specs.Shown.{Display}
+use Rattle.view_spec.specs.Shown.{Display}
 use Rattle.t140_text.specs.declared.displays.Shown.{Shown}
 
 abbrev pub display_of : Shown → Display

@@ -1,7 +1,7 @@
 -- What the last characters of a text tell of its end.
 use Rattle.std.specs.Prelude.{◌≡◌, ℕ, Bool, ◌||◌, List, [], ◌∷◌, ◌++◌, take, reverse}
-use Rattle.text_spec.specs.Characters.{is_new_line}
-use Rattle.text_spec.specs.Ends.{first_is, is_stopped, is_wide_stopped}
+use Rattle.view_spec.specs.Characters.{is_new_line}
+use Rattle.view_spec.specs.Ends.{first_is, is_stopped, is_wide_stopped}
 use Rattle.t140_text.specs.declared.ends.TextEnd.{TextEnd}
 
 -- the three characters, the last one first

@@ -1,6 +1,6 @@
 -- What the reader of a text has in hand after its first characters.
 use Rattle.std.specs.Prelude.{◌≡◌, ℕ, ◌≤◌, ◌<◌, List, ◌++◌, chars, encode_utf8_all, string_bytes}
-use Rattle.text_spec.specs.Shown.{signs, survivors, bells, ends_with_cr}
+use Rattle.view_spec.specs.Shown.{signs, survivors, bells, ends_with_cr}
 use Rattle.t140_text.specs.declared.screens.Screen.{Screen}
 
 pub record ScreenHolds (screen : Screen) (read : List ℕ) : Type 0 where

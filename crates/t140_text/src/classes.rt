@@ -1,11 +1,11 @@
 //! The classes of characters.
 ghost use Rattle.std.specs.Prelude.{◌≡◌};
-ghost use Rattle.text_spec.specs.Characters.{class_of};
+ghost use Rattle.view_spec.specs.Characters.{class_of};
 
-use text_spec::CharClass;
+use view_spec::CharClass;
 
 /// What the character does on a display. CR and LF are each a new line here, also where they stand together.
-#[tactic(auto, using(text_spec::proofs::Steps::plain_class), unfolding(text_spec::specs::Characters::class_of))]
+#[tactic(auto, using(view_spec::proofs::Steps::plain_class), unfolding(view_spec::specs::Characters::class_of))]
 pub fn class(c: char) -> CharClass
     ensures { result ≡ class_of c }
 {

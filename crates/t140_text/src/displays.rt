@@ -1,6 +1,6 @@
 //! How a text is shown.
 ghost use Rattle.std.specs.Prelude.{◌≡◌, IsUtf8, IfOk, chars};
-ghost use Rattle.text_spec.specs.Shown.{shown};
+ghost use Rattle.view_spec.specs.Shown.{shown};
 ghost use Rattle.t140_text.specs.Screens.{ScreenHolds};
 
 use crate::Lines;

@@ -1,6 +1,6 @@
 //! Where a text ends a line or a sentence.
 ghost use Rattle.std.specs.Prelude.{◌≡◌, ◌==◌, ◌++◌, ℕ, List, [], ◌∷◌, chars, if◌then◌else◌};
-ghost use Rattle.text_spec.specs.Ends.{ends_line, ends_sentence, is_closing, is_stop, is_wide_closing, is_wide_stop};
+ghost use Rattle.view_spec.specs.Ends.{ends_line, ends_sentence, is_closing, is_stop, is_wide_closing, is_wide_stop};
 ghost use Rattle.t140_text.specs.Endings.{IsEnding, is_line_end, is_sentence_end, pushed};
 
 /// The last three characters of a text: as many as tell whether it ends a line or a sentence.

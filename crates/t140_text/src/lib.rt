@@ -2,19 +2,18 @@
 #![tactic(auto)]
 
 mod classes;
+mod displays;
 mod ends;
 mod lines;
 mod plain;
 mod screens;
-mod displays;
 pub mod views;
 
 pub use classes::class;
+pub use displays::{Shown, show};
 pub use ends::TextEnd;
 pub use lines::Lines;
-pub use displays::{Shown, show};
-pub use text_spec::CharClass;
-pub use view_spec::Counts;
+pub use view_spec::{CharClass, Counts};
 
 #[cfg(test)]
 mod tests;

@@ -1,7 +1,7 @@
 //! The lines that a text shows.
 ghost use Rattle.std.specs.Prelude.{◌≡◌, string_bytes};
 ghost use Rattle.std.specs.List.{join_with_byte};
-ghost use Rattle.text_spec.specs.Shown.{lines_of};
+ghost use Rattle.view_spec.specs.Shown.{lines_of};
 
 use std::alloc::Global;
 use std::marker::Model;
@@ -15,7 +15,7 @@ pub struct Lines {
 
 impl Model for Lines {
     ghost use Rattle.std.specs.Prelude.{ℕ, List, string_bytes};
-    ghost use Rattle.text_spec.specs.Shown.{lines_of};
+    ghost use Rattle.view_spec.specs.Shown.{lines_of};
 
     ghost Value = { List (List ℕ) };
 

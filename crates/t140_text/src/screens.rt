@@ -1,12 +1,12 @@
 //! What a text shows so far, character by character.
 ghost use Rattle.std.specs.Prelude.{◌≡◌, ℕ, ◌+◌, ◌-◌, ◌<◌, ◌≤◌, ◌^◌, List, [], ◌∷◌, ◌++◌, length, All, OnOk, IfOk, encode_utf8_all, string_bytes};
-ghost use Rattle.text_spec.specs.Shown.{one_back};
+ghost use Rattle.view_spec.specs.Shown.{one_back};
 ghost use Rattle.t140_text.specs.Screens.{ScreenHolds, IsPlain, Reads};
 
 use crate::class;
 use rtt_base::NoMemory;
 use std::alloc::Global;
-use text_spec::CharClass;
+use view_spec::CharClass;
 
 /// What still stands of the text, the bells, and whether CR came last.
 #[derive(Drop)]

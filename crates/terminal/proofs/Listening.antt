@@ -14,16 +14,16 @@ use Rattle.stream_spec.specs.Numbering.{Numbered, numbered, used}
 use Rattle.stream_spec.specs.Hearing.{heard, heard_by}
 use Rattle.stream_spec.specs.ChunksBy.{used_ready}
 use Rattle.gap_tracker.specs.Stories.{Story, Given, begun, ended, dues, due_at, ready_dues}
-use Rattle.source_receiver.specs.declared.source_texts.SourceText.{SourceText}
-use Rattle.source_receiver.specs.Each.{IsHeardOf, markers_by}
-use Rattle.ear.specs.declared.settings.EarSettings.{EarSettings}
-use Rattle.ear.specs.declared.ears.Ear.{Ear}
-use Rattle.ear.specs.Hears.{told, all_given, IsToldOf, arrival_count, is_quiet, is_finished, ready_packets, Becomes, AllReady, Hears}
-use Rattle.ear.specs.Each.{HearsEach, GathersEach}
-use Rattle.ear.specs.Plain.{IsTextFor, HearsPlain}
-use Rattle.ear.proofs.Given.{ready_stamped}
-use Rattle.ear.proofs.Giving.{told_given}
-use Rattle.ear.proofs.ReadyBy.{heard_dues, told_arrived}
+use Rattle.receiver.specs.declared.source_texts.SourceText.{SourceText}
+use Rattle.receiver.specs.Each.{IsHeardOf, markers_by}
+use Rattle.receiver.specs.declared.settings.EarSettings.{EarSettings}
+use Rattle.receiver.specs.declared.ears.Ear.{Ear}
+use Rattle.receiver.specs.Hears.{told, all_given, IsToldOf, arrival_count, is_quiet, is_finished, ready_packets, Becomes, AllReady, Hears}
+use Rattle.receiver.specs.EarEach.{HearsEach, GathersEach}
+use Rattle.receiver.specs.EarPlain.{IsTextFor, HearsPlain}
+use Rattle.receiver.proofs.Given.{ready_stamped}
+use Rattle.receiver.proofs.Giving.{told_given}
+use Rattle.receiver.proofs.ReadyBy.{heard_dues, told_arrived}
 use Rattle.stream_spec.proofs.HeardTexts.{heard_utf8}
 use Rattle.view_spec.specs.declared.counts.Counts.{Counts}
 use Rattle.view_spec.specs.Seen.{Reception, Fate, NoPacket, fate_of, fate_of_what, fate_at, is_packet, is_refused, is_foreign, many, arrivals_at, counts_at}

@@ -11,7 +11,7 @@ use Rattle.stream_spec.specs.ChunksBy.{stamped, used_ready}
 use Rattle.stream_spec.proofs.Rising.{used_rises}
 use Rattle.stream_spec.proofs.ReadyBy.{rising_stamped}
 use Rattle.stream_spec.proofs.Taking.{Headed, piece_same, used_headed}
-use Rattle.source_receiver.specs.Each.{one_if, markers_from, markers_by}
+use Rattle.receiver.specs.Each.{one_if, markers_from, markers_by}
 use Rattle.view_spec.specs.Markers.{markers_over, marker_count}
 use Rattle.view_spec.proofs.Markers.{piece_length}
 use Rattle.stream_spec.proofs.ByNumber.{timestamps, timestamp_prev, filter_stamped, has_stamped}

@@ -2,9 +2,9 @@
 use Rattle.std.proofs.Common.{◌≡◌, ℕ, suc, ◌<◌, List, [], ◌∷◌, ◌++◌, refl, ap, ◌∙◌, arith, length}
 use Rattle.std.specs.Prelude.{map, slice_index, slice_index_or}
 use Rattle.wire_spec.specs.Dump.{Item}
-use Rattle.source_receiver.specs.declared.source_texts.SourceText.{SourceText}
+use Rattle.receiver.specs.declared.source_texts.SourceText.{SourceText}
 use Rattle.view_spec.specs.declared.counts.Counts.{Counts}
-use Rattle.text_spec.specs.Shown.{shown}
+use Rattle.view_spec.specs.Shown.{shown}
 use Rattle.view_spec.specs.Views.{Source, text_view, aware_view, unaware_view}
 use Rattle.view_spec.specs.Seen.{Reception, Speaker, text_at, display_at, source_at, text_seen, aware_seen, unaware_seen}
 use Rattle.terminal.specs.declared.settings.TerminalSettings.{TerminalSettings}

@@ -2,10 +2,10 @@
 use Rattle.std.specs.Prelude.{◌≡◌, ℕ, ◌+◌, ◌<◌, ◌≤◌, ◌⊎◌, Bool, true, false, List, [], length, All, IsUtf8, slice_index, slice_index_or, if◌then◌else◌}
 use Rattle.wire_spec.specs.Dump.{Item, What, Cut, Large}
 use Rattle.gap_tracker.specs.Stories.{Story}
-use Rattle.source_receiver.specs.declared.source_texts.SourceText.{SourceText}
-use Rattle.ear.specs.declared.settings.EarSettings.{EarSettings}
-use Rattle.ear.specs.Hears.{IsToldOf, arrival_count, is_quiet, is_finished}
-use Rattle.ear.specs.Each.{HearsEach}
+use Rattle.receiver.specs.declared.source_texts.SourceText.{SourceText}
+use Rattle.receiver.specs.declared.settings.EarSettings.{EarSettings}
+use Rattle.receiver.specs.Hears.{IsToldOf, arrival_count, is_quiet, is_finished}
+use Rattle.receiver.specs.EarEach.{HearsEach}
 use Rattle.view_spec.specs.declared.counts.Counts.{Counts}
 use Rattle.view_spec.specs.Seen.{Reception, Fate, fate_at, is_packet, is_refused, is_foreign, many, arrivals_at, text_at, counts_at}
 use Rattle.view_spec.specs.Markers.{markers_at}

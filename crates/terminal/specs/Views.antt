@@ -1,7 +1,7 @@
 -- What is printed of a terminal (profile).
 use Rattle.std.specs.Prelude.{◌≡◌, ◌<◌, ℕ, List, [], ◌∷◌, length}
-use Rattle.source_receiver.specs.declared.source_texts.SourceText.{SourceText}
-use Rattle.text_spec.specs.Shown.{Display, shown}
+use Rattle.receiver.specs.declared.source_texts.SourceText.{SourceText}
+use Rattle.view_spec.specs.Shown.{Display, shown}
 use Rattle.view_spec.specs.Views.{Source, text_view, unaware_view, aware_view}
 use Rattle.terminal.specs.declared.terminals.Terminal.{Terminal}
 use Rattle.terminal.specs.declared.views.View.{View}

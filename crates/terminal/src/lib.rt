@@ -7,8 +7,8 @@ mod terminals;
 mod tests;
 mod views;
 
+pub use receiver::SourceText;
 pub use settings::TerminalSettings;
-pub use source_receiver::SourceText;
 pub use t140_text::Counts;
 pub use terminals::Terminal;
 pub use views::View;

@@ -1,14 +1,13 @@
 //! Hearing one to 64 sources in the packets of one stream, and counting the packets.
 ghost use Rattle.std.specs.Prelude.{◌≡◌, ◌≢◌, ◌+◌, ◌≤◌, ◌<◌, ◌^◌, [], length, Bool, OnOk, OnErr, IfOk, IsTrue, All, AllPairs, vec_len};
-ghost use Rattle.ear.specs.Hears.{arrival_count, is_clear, is_quiet, is_finished};
+ghost use Rattle.receiver.specs.Hears.{arrival_count, is_clear, is_quiet, is_finished};
 ghost use Rattle.terminal.specs.Terminals.{texts_of, counts_of, is_spent, all_used, IsWhole, IsEmpty, IsHearingTexts, SameCounts, Listens, IsListening, IsOpen, IsFinished};
 ghost use Rattle.terminal.specs.Told.{MayTake, TakesPacket, TakesUnread, ListensAlike, one_if_refused, one_if_foreign, GathersTexts, HearsToEnd};
 ghost use Rattle.rtt_base.specs.declared.limits.TheConstants.{END_OF_MOMENTS, LONGEST_WAIT, MOST_ARRIVALS, MOST_SOURCES};
 
 use crate::TerminalSettings;
-use ear::{Ear, EarSettings};
+use receiver::{Ear, EarSettings, SourceText};
 use rtt_base::NoMemory;
-use source_receiver::SourceText;
 use std::alloc::Global;
 use t140_text::Counts;
 use wire_spec::TextFault;
@@ -41,7 +40,11 @@ fn nothing_heard(alloc: Global, number: usize) -> Result<Vec<SourceText>, NoMemo
 
 impl Terminal {
     /// A terminal to which nothing came yet, for the text of these sources: 1 to 64, all different.
-    pub fn new(alloc: Global, settings: TerminalSettings, sources: &[u32]) -> Result<Terminal, NoMemory>
+    pub fn new(
+        alloc: Global,
+        settings: TerminalSettings,
+        sources: &[u32],
+    ) -> Result<Terminal, NoMemory>
         requires wait { settings.wait ≤ LONGEST_WAIT }
         requires some { 0 < length sources.now }
         requires few { length sources.now ≤ MOST_SOURCES }

@@ -4,7 +4,7 @@ ghost use Rattle.terminal.specs.Terminals.{counts_of, IsOpen};
 ghost use Rattle.terminal.specs.Told.{ListensStill};
 ghost use Rattle.rtt_base.specs.declared.limits.TheConstants.{END_OF_MOMENTS};
 
-use crate::{TerminalSettings, Terminal, View};
+use crate::{Terminal, TerminalSettings, View};
 use rtt_base::{Bytes, Name, NoMemory, Packet, PayloadTypes};
 use std::test::Fail;
 

@@ -7,8 +7,8 @@ ghost use Rattle.terminal.specs.Told.{AppendsSeen};
 ghost use Rattle.terminal.specs.Views.{first_shown, source_shown, named, view_of, AreShown, Fits};
 
 use crate::Terminal;
+use receiver::SourceText;
 use rtt_base::{Bytes, Name, NoMemory};
-use source_receiver::SourceText;
 use std::alloc::Global;
 use t140_text::views::{
     append_aware_title, append_counts, append_source_view, append_text_view, append_unaware_title,

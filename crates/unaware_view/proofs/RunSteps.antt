@@ -4,13 +4,13 @@ use Rattle.std.specs.Prelude.{◌==◌}
 use Rattle.std.specs.Char.{encode_utf8}
 use Rattle.std.proofs.lemmas.Bool.{eqb-true, ne_eqb, true≢false, and_parts, not-true, or_parts}
 use Rattle.std.proofs.lemmas.Str.{IsUtf8-past_char, chars-encodes, chars_past_char, encode_ascii}
-use Rattle.text_spec.specs.declared.classes.CharClass.{CharClass}
-use Rattle.text_spec.specs.declared.classes.CharClass.TheVariants.{Erase, Bell, NewLine, Silent, Marker, Print}
-use Rattle.text_spec.specs.Characters.{class_of, is_marker, is_open_after, is_print, opens}
-use Rattle.text_spec.specs.Shown.{ends_with_cr, loose, signs, survivors}
-use Rattle.text_spec.specs.Views.{is_bracket, is_direction, label_after, without_bracket, without_directions}
-use Rattle.text_spec.proofs.Erasing.{loose-append, loose-one_back}
-use Rattle.text_spec.proofs.Steps.{ends_with_cr-last, stands-erase, stands-marker, stands-print, stands-new_line, stands-cr_lf, stands-bell, stands-silent}
+use Rattle.view_spec.specs.declared.classes.CharClass.{CharClass}
+use Rattle.view_spec.specs.declared.classes.CharClass.TheVariants.{Erase, Bell, NewLine, Silent, Marker, Print}
+use Rattle.view_spec.specs.Characters.{class_of, is_marker, is_open_after, is_print, opens}
+use Rattle.view_spec.specs.Shown.{ends_with_cr, loose, signs, survivors}
+use Rattle.view_spec.specs.TextViews.{is_bracket, is_direction, label_after, without_bracket, without_directions}
+use Rattle.view_spec.proofs.Erasing.{loose-append, loose-one_back}
+use Rattle.view_spec.proofs.Steps.{ends_with_cr-last, stands-erase, stands-marker, stands-print, stands-new_line, stands-cr_lf, stands-bell, stands-silent}
 use Rattle.t140_text.specs.Endings.{IsEnding}
 use Rattle.t140_text.proofs.Endings.{push_step}
 use Rattle.mixer_spec.specs.Composed.{cr_last, from_seen, is_erased, is_seen, labelled, own_part, written}

@@ -1,7 +1,7 @@
 -- The octets of a label, and how many there are.
 use Rattle.std.proofs.Common.{◌≡◌, ℕ, ◌+◌, Bool, true, false, List, [], ◌∷◌, ◌++◌, length, refl, ap, ◌∙◌, length-append, append_assoc, sym, arith}
 use Rattle.std.specs.Char.{encode_utf8}
-use Rattle.text_spec.specs.Views.{label, label_after}
+use Rattle.view_spec.specs.TextViews.{label, label_after}
 use Rattle.unaware_view.specs.Labels.{line_start}
 
 pub parts_are : (on : Bool) (name : List ℕ) → label_after on name ≡ line_start on ++ 91 ∷ (name ++ 93 ∷ 32 ∷ [])

@@ -6,8 +6,8 @@ use Rattle.std.proofs.lemmas.Bool.{true≢false, eq-eqb, and_parts, not-true}
 use Rattle.std.specs.Prelude.{IsUtf8, chars}
 use Rattle.std.proofs.lemmas.Str.{IsUtf8-append, chars-append, chars-encodes}
 use Rattle.std.proofs.lemmas.Bool.{and_right}
-use Rattle.text_spec.specs.Characters.{is_open_after}
-use Rattle.text_spec.specs.Views.{is_direction, label_after, without_directions}
+use Rattle.view_spec.specs.Characters.{is_open_after}
+use Rattle.view_spec.specs.TextViews.{is_direction, label_after, without_directions}
 use Rattle.std.proofs.lemmas.List.Elements.{filter-append}
 use Rattle.stream_spec.specs.Ready.{Chunk}
 use Rattle.mixer_spec.specs.Chunks.{joined, has_chunk, front}
@@ -16,10 +16,10 @@ use Rattle.mixer_spec.specs.Setups.{Setup}
 use Rattle.mixer_spec.specs.Table.{Table}
 use Rattle.mixer_spec.specs.Composed.{Answer, Asked, began_alone, began_behind_cr, behind_label, chars_of, go_on, gone_on, headed, is_after_cr, is_open, is_unlabelled, labelled, latest, room_beside, seen_part, text_given, run_of, given_at, since, is_of, waits_here, with_label, written}
 use Rattle.mixer_spec.proofs.Rounds.{round_some}
-use Rattle.slot_table.specs.Lanes.{Waiting}
-use Rattle.slot_table.specs.Standing as slots
-use Rattle.slot_table.specs.Words.{fetched}
-use Rattle.slot_table.proofs.Sizes.{joined_append}
+use Rattle.mixer_places.specs.Lanes.{Waiting}
+use Rattle.mixer_places.specs.SlotStanding as slots
+use Rattle.mixer_places.specs.Words.{fetched}
+use Rattle.mixer_places.proofs.Sizes.{joined_append}
 use Rattle.unaware_view.specs.declared.composers.Current.{Current}
 use Rattle.unaware_view.specs.declared.composers.Choice.{Choice}
 use Rattle.unaware_view.specs.declared.composers.Choice.TheVariants.{Nobody, Begins, GoesOn}

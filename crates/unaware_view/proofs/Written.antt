@@ -5,12 +5,12 @@ use Rattle.std.specs.Str.{chars}
 use Rattle.std.proofs.lemmas.Bool.{true≢false, ne_eqb}
 use Rattle.wire_spec.specs.Packets.{has_text}
 use Rattle.stream_spec.specs.Ready.{Chunk}
-use Rattle.text_spec.specs.Characters.{is_open_after}
-use Rattle.text_spec.specs.Shown.{ends_with_cr, loose, signs, survivors}
+use Rattle.view_spec.specs.Characters.{is_open_after}
+use Rattle.view_spec.specs.Shown.{ends_with_cr, loose, signs, survivors}
 use Rattle.mixer_spec.specs.Chunks.{joined, has_chunk}
 use Rattle.mixer_spec.specs.Laws.{AreTexts}
 use Rattle.mixer_spec.specs.Composed.{after_cr, cr_last, from_seen, is_seen, own_part}
-use Rattle.text_spec.specs.Views.{without_directions}
+use Rattle.view_spec.specs.TextViews.{without_directions}
 use Rattle.unaware_view.specs.declared.runs.Run.{Run}
 use Rattle.unaware_view.specs.Runs.{GoesAlone, GoesOn, Heads, IsBegun, IsRun, Sends, behind, sent_of}
 

@@ -5,9 +5,9 @@ use Rattle.mixer_spec.specs.Chunks.{front}
 use Rattle.mixer_spec.specs.Composed.{after_cr, room_beside}
 use Rattle.mixer_spec.specs.Setups.{Setup}
 use Rattle.mixer_spec.specs.Table.{Table}
-use Rattle.slot_table.specs.Lanes.{Waiting}
-use Rattle.slot_table.specs.Standing as slots
-use Rattle.slot_table.specs.Words.{fetched}
+use Rattle.mixer_places.specs.Lanes.{Waiting}
+use Rattle.mixer_places.specs.SlotStanding as slots
+use Rattle.mixer_places.specs.Words.{fetched}
 use Rattle.unaware_view.specs.declared.composers.Choice.{Choice}
 use Rattle.unaware_view.specs.declared.composers.Choice.TheVariants.{Nobody, Begins, GoesOn}
 use Rattle.unaware_view.specs.declared.runs.Run.{Run}

@@ -1,10 +1,10 @@
 -- What is kept of a run: what an erasure can take back, what its text ends with, and whether its label was given.
 use Rattle.std.specs.Prelude.{◌≡◌, ℕ, ◌+◌, ◌-◌, ◌==◌, Bool, true, false, not, ◌&&◌, ◌||◌, ◌⊎◌, if◌then◌else◌, List, [], ◌∷◌, ◌++◌, length, chars, encode_utf8, encode_utf8_all, IsUtf8}
-use Rattle.text_spec.specs.declared.classes.CharClass.{CharClass}
-use Rattle.text_spec.specs.declared.classes.CharClass.TheVariants.{Erase, Bell, NewLine, Silent, Marker, Print}
-use Rattle.text_spec.specs.Characters.{class_of, is_open_after, is_print, opens}
-use Rattle.text_spec.specs.Shown.{ends_with_cr, loose, signs, survivors}
-use Rattle.text_spec.specs.Views.{is_direction, label_after, without_bracket, without_directions}
+use Rattle.view_spec.specs.declared.classes.CharClass.{CharClass}
+use Rattle.view_spec.specs.declared.classes.CharClass.TheVariants.{Erase, Bell, NewLine, Silent, Marker, Print}
+use Rattle.view_spec.specs.Characters.{class_of, is_open_after, is_print, opens}
+use Rattle.view_spec.specs.Shown.{ends_with_cr, loose, signs, survivors}
+use Rattle.view_spec.specs.TextViews.{is_direction, label_after, without_bracket, without_directions}
 use Rattle.t140_text.specs.declared.ends.TextEnd.{TextEnd}
 use Rattle.t140_text.specs.Endings.{IsEnding, is_line_end, is_sentence_end, pushed}
 use Rattle.stream_spec.specs.Ready.{Chunk}

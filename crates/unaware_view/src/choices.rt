@@ -2,10 +2,10 @@
 ghost use Rattle.std.specs.Prelude.{◌≡◌, ℕ, ◌+◌, ◌-◌, ◌<◌, ◌≤◌, ◌&&◌, not, length, IfSome, Some};
 ghost use Rattle.mixer_spec.specs.Rounds.{first_from, first_round};
 ghost use Rattle.mixer_spec.specs.Composed.{is_ago, waits_here};
-ghost use Rattle.slot_table.specs.Standing.{SlotsTell};
+ghost use Rattle.mixer_places.specs.SlotStanding.{SlotsTell};
 ghost use Rattle.unaware_view.specs.Choices.{any_long, any_other, is_leg, is_set, noted, since_at};
 
-use slot_table::Slots;
+use mixer_places::Slots;
 
 /// The first of the flags from `low` on, below `high`, that is set.
 #[tactic(auto, using(crate::proofs::Firsts::first_here, crate::proofs::Firsts::first_later, crate::proofs::Firsts::first_none))]

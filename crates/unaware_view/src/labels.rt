@@ -1,6 +1,6 @@
 //! The label that says who speaks, where one text has many speakers.
 ghost use Rattle.std.specs.Prelude.{◌≡◌, ◌+◌, ◌≤◌, ◌++◌, length, true};
-ghost use Rattle.text_spec.specs.Views.{label_after};
+ghost use Rattle.view_spec.specs.TextViews.{label_after};
 ghost use Rattle.mixer_spec.specs.Composed.{room_beside};
 ghost use Rattle.unaware_view.specs.Labels.{line_start};
 
@@ -11,7 +11,7 @@ use rtt_base::{Name, Text};
 const FRAME: usize = 6;
 
 /// U+2028 where a line is open.
-#[tactic(auto, using(text_spec::proofs::Separators::line_separator))]
+#[tactic(auto, using(view_spec::proofs::Separators::line_separator))]
 fn line_start(is_open: bool) -> &'static str
     ensures is { result.now ≡ line_start is_open }
     ensures short { length result.now ≤ 3 }

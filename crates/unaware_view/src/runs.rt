@@ -1,14 +1,14 @@
 //! A run: what one speaker was given since another one was, or since its label went alone.
 ghost use Rattle.std.specs.Prelude.{◌≡◌, ◌+◌, ◌-◌, ◌^◌, ◌<◌, ◌≤◌, ◌++◌, ℕ, Bool, List, [], length, chars, IsUtf8, encode_utf8, true, false};
-ghost use Rattle.text_spec.specs.Characters.{opens};
-ghost use Rattle.text_spec.specs.Views.{is_direction, label_after, without_directions};
+ghost use Rattle.view_spec.specs.Characters.{opens};
+ghost use Rattle.view_spec.specs.TextViews.{is_direction, label_after, without_directions};
 ghost use Rattle.unaware_view.specs.Runs.{GoesAlone, IsBegun, IsRun, Sends, Writes, after_one, before_by, erasable_by, is_headed, is_seen_at, is_turn, label_by, label_room, sent_for, stepped, text_after_one, text_of_one, with_one};
 ghost use Rattle.rtt_base.specs.declared.limits.TheConstants.{MOST_TEXT_OCTETS};
 
 use crate::labels::label;
 use rtt_base::Text;
 use t140_text::{TextEnd, class};
-use text_spec::CharClass;
+use view_spec::CharClass;
 
 /// What is kept of a run: as much of a long one as of a short one.
 #[derive(Debug, Drop)]

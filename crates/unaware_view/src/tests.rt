@@ -3,8 +3,8 @@ ghost use Rattle.std.specs.Prelude.{◌≡◌, ◌<◌, ◌≤◌, length};
 ghost use Rattle.unaware_view.specs.Standing.{legs_of, next_ask};
 
 use crate::Composer;
+use mixer_places::Slots;
 use rtt_base::{Chunk, Name, Text};
-use slot_table::Slots;
 use std::alloc::Global;
 use std::test::Fail;
 

@@ -11,9 +11,9 @@ use Rattle.wire_spec.specs.Packets.{Arrival, AreTextArrivals}
 use Rattle.stream_spec.specs.Numbering.{Numbered, numbered, used, has_number, first_number}
 use Rattle.stream_spec.specs.Hearing.{AreHeardTexts, heard, heard_over, is_marked, is_packet_of, marker, new_texts, piece}
 use Rattle.stream_spec.proofs.HeardTexts.{heard_texts, heard_utf8, utf8_concat}
-use Rattle.text_spec.specs.Characters.{class_of, is_marker}
-use Rattle.text_spec.specs.Shown as text
-use Rattle.text_spec.proofs.Parts.{markers_seen}
+use Rattle.view_spec.specs.Characters.{class_of, is_marker}
+use Rattle.view_spec.specs.Shown as text
+use Rattle.view_spec.proofs.Parts.{markers_seen}
 use Rattle.view_spec.specs.Markers.{marker_count, markers_over, shown_markers, new_texts_heard, new_texts_over, typed_markers}
 use Rattle.view_spec.proofs.Markers.{one_if}
 

@@ -3,8 +3,8 @@ use Rattle.std.specs.Prelude.{◌≡◌, [], ◌∷◌, codes, refl}
 use Rattle.std.specs.Str.{chars}
 use Rattle.std.specs.Char.{encode_utf8}
 use Rattle.std.specs.Fmt.{digits}
-use Rattle.text_spec.specs.Characters.{class_of}
-use Rattle.text_spec.specs.Shown.{shown}
+use Rattle.view_spec.specs.Characters.{class_of}
+use Rattle.view_spec.specs.Shown.{shown}
 use Rattle.view_spec.specs.Views.{text_view, counts_line, aware_view, aware_title, source_view}
 
 view_of_two_letters : text_view (shown (65 ∷ 66 ∷ [])) (record { packets = 4; used = 4; refused = 0; foreign = 0 })

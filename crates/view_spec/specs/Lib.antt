@@ -1,3 +1,8 @@
+pub mod Characters
+pub mod Shown
+pub mod Ends
+pub mod TextViews
+pub mod TextExamples
 pub mod Views
 pub mod Seen
 pub mod Tallies

@@ -6,8 +6,8 @@ use Rattle.wire_spec.specs.Dump.{Item}
 use Rattle.stream_spec.specs.Numbering.{Numbered, numbered, used, has_number, first_number}
 use Rattle.stream_spec.specs.Hearing.{is_marked, is_packet_of, new_texts}
 use Rattle.stream_spec.specs.Kept as kept
-use Rattle.text_spec.specs.Shown as text
-use Rattle.text_spec.specs.Shown.{Display}
+use Rattle.view_spec.specs.Shown as text
+use Rattle.view_spec.specs.Shown.{Display}
 use Rattle.view_spec.specs.Seen.{Reception, arrivals_at}
 
 -- What is heard are markers and new texts: a marker is a text of its own before the new texts of a packet (`piece`). So a

@@ -10,7 +10,7 @@ use Rattle.wire_spec.specs.Dump.{Item, What, Whole, Rtcp, Cut, Large, arrivals_a
 use Rattle.stream_spec.specs.Numbering.{numbered, used}
 use Rattle.stream_spec.specs.Hearing.{heard}
 use Rattle.view_spec.specs.declared.counts.Counts.{Counts}
-use Rattle.text_spec.specs.Shown.{Display, shown}
+use Rattle.view_spec.specs.Shown.{Display, shown}
 use Rattle.view_spec.specs.Views.{Source, text_view, aware_view, unaware_view}
 
 -- which packets a terminal hears: those of this SSRC, with these payload types; a gap in their numbers is waited for

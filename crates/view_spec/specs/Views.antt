@@ -1,6 +1,6 @@
 -- What is printed of a terminal (profile). Each line ends with LF.
 use Rattle.std.specs.Prelude.{ℕ, List, [], ◌∷◌, ◌++◌, flat_map, codes, decimal}
-use Rattle.text_spec.specs.Shown.{Display}
+use Rattle.view_spec.specs.Shown.{Display}
 use Rattle.view_spec.specs.declared.counts.Counts.{Counts}
 
 -- a line of print

@@ -2,7 +2,7 @@
 ghost use Rattle.std.specs.Prelude.{◌≡◌, ℕ, ◌+◌, List, length};
 ghost use Rattle.std.specs.List.{concat};
 ghost use Rattle.wire_spec.specs.Packets.{Arrival, AreTextArrivals};
-ghost use Rattle.text_spec.specs.Shown.{shown};
+ghost use Rattle.view_spec.specs.Shown.{shown};
 ghost use Rattle.stream_spec.specs.Hearing.{heard};
 ghost use Rattle.stream_spec.specs.History.{History, Lawful, Come, places};
 ghost use Rattle.stream_spec.specs.Kept.{kept};

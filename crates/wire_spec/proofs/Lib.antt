@@ -10,3 +10,4 @@ pub mod Recordings
 pub mod WholePackets
 pub mod SentBack
 pub mod Sizes
+pub mod ReadBack

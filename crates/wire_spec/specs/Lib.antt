@@ -7,3 +7,6 @@ pub mod Text
 pub mod Dump
 pub mod SentPackets
 pub mod ReadBack
+pub mod Rtcp
+pub mod Recorded
+pub mod Laws

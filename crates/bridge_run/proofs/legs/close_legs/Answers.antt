@@ -1,8 +1,8 @@
 use Rattle.std.proofs.Common.{◌≡◌, inl, inr, refl, ap, subst, sym, ◌∙◌, arith}
 use Rattle.rtt_io.specs.Counts.{counted}
 use Rattle.mixer_posts.proofs.Backward.{all_done, front_still, last_of_all, left_or_last}
-use Rattle.leg_items.specs.declared.inlets.LegInlet.{LegInlet}
-use Rattle.leg_items.specs.Answers.{source_in}
+use Rattle.leg.specs.declared.inlets.LegInlet.{LegInlet}
+use Rattle.leg.specs.Answers.{source_in}
 use Rattle.bridge_run.specs.Opened.{LeavesCount}
 use Rattle.bridge_run.proofs.Opening.{left_by, rose_behind, rose_on}
 use Rattle.bridge_run.proofs.legs.close_legs.Goals as goal

@@ -1,8 +1,8 @@
 use Rattle.std.proofs.Common.{◌≡◌, ◌≤◌, ◌⊎◌, Some, ℕ, List, length}
 use Rattle.std.specs.Prelude.{slice_get}
 use Rattle.rtt_io.specs.Counts.{Rose}
-use Rattle.leg_items.specs.declared.inlets.LegInlet.{LegInlet}
-use Rattle.leg_items.specs.Answers.{source_in}
+use Rattle.leg.specs.declared.inlets.LegInlet.{LegInlet}
+use Rattle.leg.specs.Answers.{source_in}
 use Rattle.bridge_run.specs.Opened.{AreCalm, EachSource, LeavesCount}
 use Rattle.bridge_run.proofs.legs.close_legs.Given as goal
 

@@ -3,7 +3,7 @@ use Rattle.std.specs.Vec.Iter.{into_iter_items}
 use Rattle.std.proofs.Math.Seq.{get_or-append_seam}
 use Rattle.std.proofs.lemmas.Option.{slice_get_read}
 use Rattle.std.proofs.lemmas.List.{length-append, length_push}
-use Rattle.leg_items.specs.declared.inlets.LegInlet.{LegInlet}
+use Rattle.leg.specs.declared.inlets.LegInlet.{LegInlet}
 use Rattle.command_spec.specs.Mixing.{input_at}
 use Rattle.rtt_io.specs.declared.mem_sources.SteadySource.{SteadySource}
 use Rattle.rtt_io.specs.contracts.mem_sources.SteadySourceSource.TheImpl.{left-value}

@@ -1,6 +1,6 @@
 use Rattle.std.proofs.Common.{◌+◌, List, length, ap, subst, sym, ◌∙◌, arith}
 use Rattle.std.proofs.lemmas.List.{length_push}
-use Rattle.leg_items.specs.declared.inlets.LegInlet.{LegInlet}
+use Rattle.leg.specs.declared.inlets.LegInlet.{LegInlet}
 use Rattle.bridge_run.specs.Opened.{AllOpened}
 use Rattle.bridge_run.proofs.Opening.{is_first, leg_read_at, not_opened, opened_more}
 use Rattle.bridge_run.proofs.legs.open_legs.Goals as goal

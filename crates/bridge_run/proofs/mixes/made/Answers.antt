@@ -1,8 +1,8 @@
 use Rattle.std.proofs.Common.{subst, ◌∙◌}
 use Rattle.std.specs.List.{concat}
-use Rattle.conference.specs.Conferences.{meaning_of}
+use Rattle.file_spec.specs.Conferences.{meaning_of}
 use Rattle.sent_log.specs.States.{State}
-use Rattle.sent_files.specs.Files.{recordings_of}
+use Rattle.sent_log.specs.Files.{recordings_of}
 use Rattle.bridge_run.specs.Viewed.{AreSumsOf, AreViewsOf, summed}
 use Rattle.bridge_run.proofs.mixes.made.Goals as goal
 

@@ -1,8 +1,8 @@
 use Rattle.std.proofs.Common.{List, length, ap, subst, ◌∙◌, arith}
 use Rattle.rtt_io.specs.Counts.{Rose}
 use Rattle.file_spec.specs.declared.conference_lines.LegLine.{LegLine}
-use Rattle.conference.specs.Conferences.{meaning_of}
-use Rattle.leg_items.specs.Answers.{source_in}
+use Rattle.file_spec.specs.Conferences.{meaning_of}
+use Rattle.leg.specs.Answers.{source_in}
 use Rattle.bridge_run.specs.Mixes.{RoseAt}
 use Rattle.bridge_run.proofs.Handing.{are_new, is_made, none_failed, none_failed_yet, none_refused, on_ok, stops}
 use Rattle.bridge_run.proofs.mixes.mix.Goals as goal

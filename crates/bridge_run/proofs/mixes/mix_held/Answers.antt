@@ -2,7 +2,7 @@ use Rattle.std.proofs.Common.{List, [], length, refl, ap, ◌∙◌}
 use Rattle.rtt_io.specs.declared.mem_sources.SteadySource.{SteadySource}
 use Rattle.rtt_io.specs.contracts.mem_sources.SteadySourceSource.TheImpl.{left-value}
 use Rattle.file_spec.specs.declared.conference_lines.LegLine.{LegLine}
-use Rattle.conference.specs.Conferences.{meaning_of}
+use Rattle.file_spec.specs.Conferences.{meaning_of}
 use Rattle.bridge_run.proofs.Handing.{asked_over, never_read, new_over, over_of}
 use Rattle.bridge_run.proofs.mixes.mix_held.Goals as goal
 

@@ -5,20 +5,20 @@ use Rattle.mixer_spec.specs.Setups.{setup}
 use Rattle.file_spec.specs.declared.conference_lines.LegLine.{LegLine}
 use Rattle.rtpdump_io.specs.declared.items.DumpFault.{DumpFault}
 use Rattle.rtt_base.specs.declared.errors.NoMemory as memory
-use Rattle.conference.specs.Conferences.{meaning_of}
+use Rattle.file_spec.specs.Conferences.{meaning_of}
 use Rattle.mix_loop.specs.declared.turns.MixEnd.{MixEnd}
 use Rattle.mix_loop.specs.declared.turns.MixEnd.TheVariants as mixing
 use Rattle.mix_loop.specs.Mixing.{StayAs}
 use Rattle.mix_loop.specs.Turns.{UnlessUnsent}
-use Rattle.leg_items.specs.Answers.{IsReadWell}
-use Rattle.leg_items.proofs.OfConferences.{stays_law}
-use Rattle.leg_lanes.specs.Mixings.{CanMix}
+use Rattle.leg.specs.Answers.{IsReadWell}
+use Rattle.leg.proofs.OfConferences.{stays_law}
+use Rattle.bridge_run.specs.Mixings.{CanMix}
 use Rattle.mixer_turn.specs.States.{legs_of}
 use Rattle.mixer_posts.specs.States.{SendingState}
 use Rattle.mixer_posts.specs.Streams.{payload_types_at}
 use Rattle.sent_log.specs.States.{State}
-use Rattle.played.specs.Written.{IsPlayable}
-use Rattle.sent_files.specs.Files.{recordings_of}
+use Rattle.playback.specs.Written.{IsPlayable}
+use Rattle.sent_log.specs.Files.{recordings_of}
 use Rattle.bridge_run.specs.declared.results.MixFault.TheVariants.{Dump, TooLong, NoMemory}
 use Rattle.bridge_run.specs.Viewed.{AreSent}
 use Rattle.bridge_run.proofs.Recorded.{HasMixed, all_playable, all_sent, logged, many}

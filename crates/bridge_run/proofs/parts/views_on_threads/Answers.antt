@@ -2,10 +2,10 @@ use Rattle.std.proofs.Common.{◌≡◌, ◌+◌, ◌*◌, ℕ, [], ◌∷◌, �
 use Rattle.std.specs.Vec.Iter.{into_iter_items}
 use Rattle.std.proofs.lemmas.List.{length-map, length_push}
 use Rattle.rtt_base.specs.declared.errors.NoMemory.{NoMemory}
-use Rattle.conference.specs.Conferences.{meaning_of}
+use Rattle.file_spec.specs.Conferences.{meaning_of}
 use Rattle.sent_log.specs.States.{recording_of}
 use Rattle.bridge_run.specs.declared.views.Views.{Views}
-use Rattle.sent_files.specs.Files.{recordings_of}
+use Rattle.sent_log.specs.Files.{recordings_of}
 use Rattle.bridge_run.specs.Viewed.{AreOf, IsSeenBetween}
 use Rattle.bridge_run.proofs.Viewing.{seen_none, sums_all, views_all}
 use Rattle.bridge_run.proofs.Joining.{Parts, all_read, more_seen, next_is, none_of}

@@ -2,8 +2,8 @@ use Rattle.std.proofs.Common.{◌≡◌, ◌++◌, ◌*◌, length}
 use Rattle.std.specs.Prelude.{min}
 use Rattle.std.specs.Vec.Iter.{into_iter_items, into_iter_len}
 use Rattle.mixer_spec.specs.Table.{Table}
-use Rattle.conference.specs.Conferences.{meaning_of}
-use Rattle.sent_files.specs.Files.{recordings_of}
+use Rattle.file_spec.specs.Conferences.{meaning_of}
+use Rattle.sent_log.specs.Files.{recordings_of}
 use Rattle.bridge_run.specs.Viewed.{AreOf, AreSent, IsSeenBetween}
 use Rattle.bridge_run.proofs.parts.views_on_threads.Given as goal
 

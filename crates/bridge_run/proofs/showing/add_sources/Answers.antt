@@ -1,6 +1,6 @@
 use Rattle.std.proofs.Common.{◌<◌, length, arith, sym, subst}
 use Rattle.std.specs.Prelude.{IsUtf8}
-use Rattle.source_receiver.specs.declared.source_texts.SourceText.{SourceText}
+use Rattle.receiver.specs.declared.source_texts.SourceText.{SourceText}
 use Rattle.bridge_run.proofs.showing.add_sources.Goals as goal
 
 pub add_source-requires : goal.add_source-requires

@@ -1,12 +1,12 @@
 use Rattle.std.proofs.Common.{ℕ, List, refl, sym, ◌∙◌, subst, arith}
 use Rattle.file_spec.specs.declared.conference_lines.LegLine.{LegLine}
 use Rattle.file_spec.specs.declared.conference_lines.PlanLine.{PlanLine}
-use Rattle.conference.specs.Conferences.{meaning_of}
+use Rattle.file_spec.specs.Conferences.{meaning_of}
 use Rattle.mixer_spec.specs.Arrives.{came}
 use Rattle.terminal.specs.Terminals.{Heard}
 use Rattle.terminal.specs.Views.{Fits}
 use Rattle.sent_log.specs.States.{records_of}
-use Rattle.played.specs.Written.{IsWrittenOf}
+use Rattle.playback.specs.Written.{IsWrittenOf}
 use Rattle.bridge_run.specs.Viewed.{IsSeenAs}
 use Rattle.bridge_run.proofs.Noting.{found_at}
 use Rattle.bridge_run.proofs.Recorded.{read_recording}

@@ -2,7 +2,7 @@ use Rattle.std.proofs.Common.{ℕ, List, [], ◌∷◌, length, map, cond, refl,
 use Rattle.std.specs.Prelude.{AllPairs, remove, ◌≢◌}
 use Rattle.std.proofs.lemmas.List.{length-map}
 use Rattle.file_spec.specs.declared.conference_lines.LegLine.{LegLine}
-use Rattle.conference.specs.Conferences.{meaning_of}
+use Rattle.file_spec.specs.Conferences.{meaning_of}
 use Rattle.terminal.proofs.Listening.{on_ok}
 use Rattle.bridge_run.specs.Viewed.{AddsTerminalView, terminal_settings}
 use Rattle.mixer_posts.proofs.LegLines.{ssrcs_differ}

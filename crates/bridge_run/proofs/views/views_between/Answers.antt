@@ -1,7 +1,7 @@
 use Rattle.std.proofs.Common.{◌<◌, length, get_or, arith}
-use Rattle.conference.specs.Conferences.{meaning_of}
+use Rattle.file_spec.specs.Conferences.{meaning_of}
 use Rattle.command_spec.specs.Mixing.{records_to}
-use Rattle.played.specs.Written.{IsPlayable}
+use Rattle.playback.specs.Written.{IsPlayable}
 use Rattle.bridge_run.proofs.Recorded.{sent_within}
 use Rattle.bridge_run.proofs.Viewing.{no_leg, seen_more, seen_none}
 use Rattle.bridge_run.proofs.views.views_between.Goals as goal

@@ -1,6 +1,6 @@
 use Rattle.mixer_spec.specs.Table.{Table}
-use Rattle.conference.specs.Conferences.{meaning_of}
-use Rattle.sent_files.specs.Files.{recordings_of}
+use Rattle.file_spec.specs.Conferences.{meaning_of}
+use Rattle.sent_log.specs.Files.{recordings_of}
 use Rattle.bridge_run.specs.Viewed.{AreOf, AreSent, IsSeenBetween}
 use Rattle.bridge_run.proofs.views.views_between.Given as goal
 

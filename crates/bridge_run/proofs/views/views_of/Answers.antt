@@ -1,6 +1,6 @@
 use Rattle.std.proofs.Common.{arith}
 use Rattle.std.proofs.lemmas.Result.{IfOk-weaker}
-use Rattle.conference.specs.Conferences.{meaning_of}
+use Rattle.file_spec.specs.Conferences.{meaning_of}
 use Rattle.bridge_run.proofs.Viewing.{sums_all, views_all}
 use Rattle.bridge_run.proofs.views.views_of.Goals as goal
 

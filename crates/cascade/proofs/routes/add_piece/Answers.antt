@@ -1,5 +1,5 @@
 use Rattle.std.proofs.Common.{List, ℕ, [], ◌∷◌, subst}
-use Rattle.source_receiver.specs.Pieces.{left_of}
+use Rattle.receiver.specs.Pieces.{left_of}
 use Rattle.cascade.specs.Dividing.{AddsTexts}
 use Rattle.cascade.proofs.Adding.{some_none, some_more, some_all}
 use Rattle.cascade.proofs.routes.add_piece.Goals as goal

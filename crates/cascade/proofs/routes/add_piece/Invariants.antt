@@ -1,5 +1,5 @@
 use Rattle.std.proofs.Common.{length}
-use Rattle.source_receiver.specs.Pieces.{left_of}
+use Rattle.receiver.specs.Pieces.{left_of}
 use Rattle.cascade.proofs.Adding.{AddedSome}
 use Rattle.cascade.proofs.routes.add_piece.Given as goal
 

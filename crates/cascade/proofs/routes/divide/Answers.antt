@@ -1,5 +1,5 @@
 use Rattle.std.proofs.Common.{sym, ◌∙◌, subst}
-use Rattle.source_receiver.specs.Pieces.{left_of}
+use Rattle.receiver.specs.Pieces.{left_of}
 use Rattle.cascade.specs.declared.splitters.SourceRecording.{SourceRecording}
 use Rattle.cascade.specs.Dividing.{AddsTexts}
 use Rattle.cascade.proofs.Adding.{divides_none, divides_one}

@@ -2,7 +2,7 @@ use Rattle.std.proofs.Common.{ℕ, List, [], length, ap, sym, ◌∙◌}
 use Rattle.std.specs.Prelude.{map}
 use Rattle.std.proofs.lemmas.List.{length-map}
 use Rattle.wire_spec.specs.Dump.{Recording, arrivals_after}
-use Rattle.cascade_spec.specs.Splitting.{split}
+use Rattle.command_spec.specs.Splitting.{split}
 use Rattle.cascade.specs.Splits.{trunk_of}
 use Rattle.cascade.proofs.splits.split_from.Goals as goal
 

@@ -3,7 +3,7 @@ use Rattle.std.specs.List.{concat}
 use Rattle.wire_spec.specs.Packets.{Arrival}
 use Rattle.stream_spec.specs.Numbering.{numbered, used}
 use Rattle.stream_spec.specs.Hearing.{heard}
-use Rattle.text_spec.specs.Shown.{shown}
+use Rattle.view_spec.specs.Shown.{shown}
 use Rattle.command_spec.specs.Reading.{usual_wait, records_of}
 use Rattle.command_spec.proofs.ShownAsRead.{arrives_alike}
 use Rattle.command_spec.proofs.laws.shown_is_read.Goals as goal

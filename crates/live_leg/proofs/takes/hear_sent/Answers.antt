@@ -1,6 +1,6 @@
 use Rattle.std.proofs.Math.Logic.{∥∥₁_map}
 use Rattle.gap_tracker.specs.Stories.{ended}
-use Rattle.ear.specs.Hears.{text_for, told}
+use Rattle.receiver.specs.Hears.{text_for, told}
 use Rattle.live_leg.proofs.Ears.{becomes_giving}
 use Rattle.live_leg.proofs.Taking.{sent_first, sent_other, sent_sender, sent_unheard}
 use Rattle.live_leg.proofs.takes.hear_sent.Goals as goal

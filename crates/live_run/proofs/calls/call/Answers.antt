@@ -1,13 +1,13 @@
 use Rattle.std.proofs.Common.{◌≡◌, ◌≤◌, ◌∙◌, ℕ, false, [], length, ap, sym, subst, arith}
 use Rattle.std.specs.Prelude.{vec_len}
 use Rattle.std.specs.Global.{Vec}
-use Rattle.conference.specs.Conferences.{meaning_of}
-use Rattle.item_lanes.specs.Rooms.{HasRoom}
+use Rattle.file_spec.specs.Conferences.{meaning_of}
+use Rattle.workers.specs.Rooms.{HasRoom}
 use Rattle.live_leg.specs.declared.legs.LinkLeg.{LinkLeg}
 use Rattle.live_run.specs.declared.far_ends.FarEnds.{FarEnds}
-use Rattle.live_loop.specs.Clocks.{IsPaced}
-use Rattle.live_loop.specs.Walks.{IsPaused}
-use Rattle.live_loop.specs.declared.turns.TurnsEnd.{TurnsEnd}
+use Rattle.mix_loop.specs.Clocks.{IsPaced}
+use Rattle.mix_loop.specs.Walks.{IsPaused}
+use Rattle.mix_loop.specs.declared.live_turns.TurnsEnd.{TurnsEnd}
 use Rattle.mixer_posts.specs.States.{SendingState}
 use Rattle.mixer_turn.specs.States.{legs_of}
 use Rattle.live_run.specs.declared.faults.LiveFault.{LiveFault}

@@ -1,7 +1,7 @@
 use Rattle.std.proofs.Common.{ap}
 use Rattle.link_io.specs.Given.{packets}
 use Rattle.live_run.specs.Ends.{packets_in}
-use Rattle.conference.specs.Conferences.{meaning_of}
+use Rattle.file_spec.specs.Conferences.{meaning_of}
 use Rattle.live_run.proofs.Writing.{were_none}
 use Rattle.live_run.proofs.calls.mixer_over.Goals as goal
 

@@ -1,7 +1,7 @@
 use Rattle.std.proofs.Common.{◌∙◌, ℕ, List, ap, sym, subst}
 use Rattle.std.specs.Prelude.{AllPairs, remove, ◌≢◌}
 use Rattle.file_spec.specs.declared.conference_lines.LegLine.{LegLine}
-use Rattle.conference.specs.Speakers.{ssrcs_of}
+use Rattle.file_spec.specs.Speakers.{ssrcs_of}
 use Rattle.mixer_posts.proofs.LegLines.{ssrcs_differ}
 use Rattle.live_run.proofs.listeners.listener_of.Goals as goal
 

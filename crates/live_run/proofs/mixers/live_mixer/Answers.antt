@@ -1,7 +1,7 @@
 use Rattle.std.proofs.Common.{◌∙◌, ◌^◌, ℕ, List, length, ap, subst, sym, arith}
 use Rattle.std.proofs.lemmas.List.{length-map}
 use Rattle.mixer_spec.specs.Setups.{setup}
-use Rattle.conference.specs.Conferences.{meaning_of}
+use Rattle.file_spec.specs.Conferences.{meaning_of}
 use Rattle.mixer_turn.specs.declared.batches.Post.{Post}
 use Rattle.mixer_posts.specs.Streams.{payload_types_at}
 use Rattle.mixer_turn.specs.States.{State}

@@ -1,6 +1,6 @@
 use Rattle.std.proofs.Common.{◌<◌, ◌∙◌, ℕ, length, subst, sym, arith, add-one}
 use Rattle.mixer_spec.specs.Setups.{setup}
-use Rattle.conference.specs.Conferences.{meaning_of}
+use Rattle.file_spec.specs.Conferences.{meaning_of}
 use Rattle.mixer_turn.specs.Standing.{MixerStandsFor}
 use Rattle.live_run.specs.Mixers.{all_admitted}
 use Rattle.live_run.proofs.Seating.{may_come}

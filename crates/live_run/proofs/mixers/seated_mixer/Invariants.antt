@@ -1,6 +1,6 @@
 use Rattle.std.proofs.Common.{◌≡◌, length}
 use Rattle.mixer_spec.specs.Setups.{setup}
-use Rattle.conference.specs.Conferences.{meaning_of}
+use Rattle.file_spec.specs.Conferences.{meaning_of}
 use Rattle.mixer_turn.specs.Making.{source_counts}
 use Rattle.mixer_turn.specs.States.{legs_of, sources_of}
 use Rattle.mixer_turn.specs.Standing.{MixerStandsFor}

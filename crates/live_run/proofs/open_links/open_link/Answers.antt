@@ -4,7 +4,7 @@ use Rattle.rtt_io.specs.Counts.{Rose}
 use Rattle.file_spec.specs.declared.conference_lines.LegLine.{LegLine}
 use Rattle.file_spec.specs.Conference.{port}
 use Rattle.mixer_spec.specs.Setups.{leg_at}
-use Rattle.conference.specs.Conferences.{meaning_of}
+use Rattle.file_spec.specs.Conferences.{meaning_of}
 use Rattle.live_run.specs.Opened.{leg_settings_at}
 use Rattle.live_run.proofs.Closing.{nothing_more}
 use Rattle.live_run.proofs.Showing.{found_leg, shown_leg}

@@ -2,7 +2,7 @@ use Rattle.std.proofs.Common.{◌≤◌, ◌+◌, List, length, inl, refl, ap, s
 use Rattle.std.specs.Vec.{vec_capacity}
 use Rattle.std.proofs.lemmas.List.{length_push}
 use Rattle.live_leg.specs.declared.legs.LinkLeg.{LinkLeg}
-use Rattle.conference.specs.Conferences.{meaning_of}
+use Rattle.file_spec.specs.Conferences.{meaning_of}
 use Rattle.live_run.specs.Opened.{OpenEnds, OpenLegs}
 use Rattle.live_run.proofs.Closing.{nothing_then}
 use Rattle.live_run.proofs.Linking.{ends_calm, ends_empty, ends_more, leads_all, leads_more, leads_none, leads_some, legs_calm, legs_more, no_ends, no_legs, not_opened, open_below}

@@ -1,6 +1,6 @@
 use Rattle.std.proofs.Common.{◌≡◌, ◌≤◌, ℕ, length}
 use Rattle.std.specs.Vec.{vec_len, vec_capacity}
-use Rattle.conference.specs.Conferences.{meaning_of}
+use Rattle.file_spec.specs.Conferences.{meaning_of}
 use Rattle.live_run.specs.Opened.{LeadsFirst, OpenEnds, OpenLegs}
 use Rattle.live_run.proofs.open_links.open_links.Given as goal
 

@@ -1,4 +1,4 @@
-use Rattle.conference.specs.Conferences.{meaning_of}
+use Rattle.file_spec.specs.Conferences.{meaning_of}
 use Rattle.live_run.proofs.Writing.{output_made}
 use Rattle.live_run.proofs.outputs.output_of.Goals as goal
 

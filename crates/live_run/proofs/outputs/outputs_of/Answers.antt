@@ -1,7 +1,7 @@
 use Rattle.std.proofs.Common.{◌∙◌, ◌+◌, List, ap, sym, subst, length}
 use Rattle.std.proofs.lemmas.List.{length_push}
-use Rattle.aware_output.specs.States.{State}
-use Rattle.conference.specs.Conferences.{meaning_of}
+use Rattle.packetizer.specs.OutputStates.{State}
+use Rattle.file_spec.specs.Conferences.{meaning_of}
 use Rattle.live_run.specs.Outputs.{NoneSent}
 use Rattle.live_run.proofs.Writing.{sent_none_more}
 use Rattle.live_run.proofs.outputs.outputs_of.Goals as goal

@@ -1,4 +1,4 @@
-use Rattle.conference.specs.Conferences.{meaning_of}
+use Rattle.file_spec.specs.Conferences.{meaning_of}
 use Rattle.live_run.specs.Spans.{span_of}
 use Rattle.live_run.proofs.Returning.{as_served}
 use Rattle.live_run.proofs.services.serve.Goals as goal

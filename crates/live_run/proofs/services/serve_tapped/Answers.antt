@@ -1,6 +1,6 @@
 use Rattle.std.proofs.Common.{◌≤◌, ◌∙◌, inl, refl, ℕ, List, length, ap, subst, sym, arith}
-use Rattle.conference.specs.Conferences.{meaning_of}
-use Rattle.live_loop.specs.Clocks.{IsPaced}
+use Rattle.file_spec.specs.Conferences.{meaning_of}
+use Rattle.mix_loop.specs.Clocks.{IsPaced}
 use Rattle.live_leg.specs.declared.legs.LinkLeg.{LinkLeg}
 use Rattle.live_leg.specs.declared.tallies.LegTally.{LegTally}
 use Rattle.live_run.specs.Listeners.{ArePrintedOf}

@@ -1,4 +1,4 @@
-use Rattle.conference.specs.Conferences.{meaning_of}
+use Rattle.file_spec.specs.Conferences.{meaning_of}
 use Rattle.live_run.proofs.tests.bob_is_shown.Goals as goal
 
 pub serve-requires-after_bounds : goal.serve-requires-after_bounds

@@ -1,13 +1,13 @@
 use Rattle.std.proofs.Common.{◌≡◌, ℕ, List, length, refl, ap, sym, subst, arith}
 use Rattle.std.proofs.lemmas.List.{with_items_is}
-use Rattle.item_lanes.specs.declared.lanes.Worker.{Worker}
-use Rattle.item_lanes.specs.Pairs.{Pairs}
-use Rattle.item_lanes.specs.Rooms.{HasRoomBack}
-use Rattle.live_loop.specs.Walks.{AreAt}
+use Rattle.workers.specs.declared.lanes.Worker.{Worker}
+use Rattle.workers.specs.Pairs.{Pairs}
+use Rattle.workers.specs.Rooms.{HasRoomBack}
+use Rattle.mix_loop.specs.Walks.{AreAt}
 use Rattle.std.specs.Prelude.{vec_len}
 use Rattle.live_leg.specs.declared.items.LegItem.{LegItem}
 use Rattle.live_leg.specs.declared.legs.LinkLeg.{LinkLeg}
-use Rattle.live_loop.specs.declared.ports.LivePort.{LivePort}
+use Rattle.mix_loop.specs.declared.live_ports.LivePort.{LivePort}
 use Rattle.live_run.specs.Jobs.{ArePortsOf, IsInletOf, popped_in}
 use Rattle.live_run.proofs.Joining.{all_failed, all_gave, inlets_paired, none_popped, ports_begun, serving_first}
 use Rattle.live_run.proofs.threads.run_in.Goals as goal
@@ -26,10 +26,10 @@ join_lanes-legs-requires g c =
     let is = ap (λ (xs : List (LivePort (Worker LegItem (LinkLeg g.row.L.Denot) g.row.G.Denot))). length xs) c.as_mut_slice.ensures.value in
     let still = c.turn_and_stop-turned.auto.ports in
     let whole = with_items_is c.ports_over-ports.result c.turn_and_stop-turned.new.ports (omega (arith, still, is, c.ports_over-ports.result.ok.0)) in
-    let same : vec_len c.inlets_of-lanes.result ≡ vec_len c.args.job.legs = omega (
+    let same : vec_len c.live_inlets_of-lanes.result ≡ vec_len c.args.job.legs = omega (
       arith,
-      c.inlets_of-lanes.result.ok.0,
-      (inlets_paired _ c.inlets_of-lanes.result.items c.inlets_of-lanes.ensures).many,
+      c.live_inlets_of-lanes.result.ok.0,
+      (inlets_paired _ c.live_inlets_of-lanes.result.items c.live_inlets_of-lanes.ensures).many,
       ap (λ (xs : List (LivePort (Worker LegItem (LinkLeg g.row.L.Denot) g.row.G.Denot))). length xs) whole,
       still,
       is,
@@ -52,7 +52,7 @@ returns g c =
     let ports : ArePortsOf lanes ps = subst (λ (xs : List (LivePort (Worker LegItem (LinkLeg g.row.L.Denot) g.row.G.Denot))). ArePortsOf lanes xs) (sym is) (ports_begun lanes c.ports_over-ports.result.items c.ports_over-ports.ensures) in
     let still = ran.auto.ports in
     let whole = with_items_is c.ports_over-ports.result ran.new.ports (omega (arith, still, ap (λ (xs : List (LivePort (Worker LegItem (LinkLeg g.row.L.Denot) g.row.G.Denot))). length xs) is, c.ports_over-ports.result.ok.0)) in
-    let joined = c.inlets_of-lanes in
+    let joined = c.live_inlets_of-lanes in
     let inlets : Pairs IsInletOf ran.new.ports joined.result.items = subst (λ (xs : List (LivePort (Worker LegItem (LinkLeg g.row.L.Denot) g.row.G.Denot))). Pairs IsInletOf xs joined.result.items) whole (inlets_paired _ joined.result.items joined.ensures) in
     let back = c.join_lanes-legs in
     record {

@@ -1,4 +1,4 @@
-use Rattle.conference.specs.Conferences.{meaning_of}
+use Rattle.file_spec.specs.Conferences.{meaning_of}
 use Rattle.terminal.proofs.Listening.{on_ok}
 use Rattle.live_run.proofs.Showing.{adds_view}
 use Rattle.live_run.proofs.views.add_view.Goals as goal

@@ -1,10 +1,10 @@
 use Rattle.std.proofs.Common.{◌≡◌, ◌∙◌, ◌++◌, List, ap, subst}
 use Rattle.std.specs.Prelude.{remove}
 use Rattle.file_spec.specs.declared.conference_lines.LegLine.{LegLine}
-use Rattle.conference.specs.Conferences.{meaning_of}
+use Rattle.file_spec.specs.Conferences.{meaning_of}
 use Rattle.terminal.proofs.Listening.{on_ok}
-use Rattle.conference.specs.Speakers.{names_of, ssrcs_of}
-use Rattle.serve_spec.specs.Served.{live_view}
+use Rattle.file_spec.specs.Speakers.{names_of, ssrcs_of}
+use Rattle.live_spec.specs.Served.{live_view}
 use Rattle.live_run.proofs.Showing.{aware_shown, shown_leg}
 use Rattle.live_run.proofs.views.append_aware.Goals as goal
 

@@ -1,8 +1,8 @@
 use Rattle.std.proofs.Common.{◌≡◌, ◌∙◌, ◌++◌, ap, subst}
 use Rattle.file_spec.specs.declared.conference_lines.LegLine.{LegLine}
-use Rattle.conference.specs.Conferences.{meaning_of}
+use Rattle.file_spec.specs.Conferences.{meaning_of}
 use Rattle.terminal.proofs.Listening.{on_ok}
-use Rattle.serve_spec.specs.Served.{live_view}
+use Rattle.live_spec.specs.Served.{live_view}
 use Rattle.live_run.proofs.Showing.{shown_leg, unaware_shown}
 use Rattle.live_run.proofs.views.append_unaware.Goals as goal
 

@@ -1,5 +1,5 @@
 use Rattle.std.proofs.Common.{◌∙◌, ◌++◌, ℕ, List, ap}
-use Rattle.conference.specs.Conferences.{meaning_of}
+use Rattle.file_spec.specs.Conferences.{meaning_of}
 use Rattle.live_run.specs.Reports.{end_of}
 use Rattle.live_run.proofs.Counting.{printed_are}
 use Rattle.live_run.proofs.views.printed.Goals as goal

@@ -2,7 +2,7 @@ use Rattle.std.proofs.Common.{◌≡◌, ◌<◌, ◌≤◌, ◌++◌, [], ◌�
 use Rattle.std.specs.Prelude.{slice_get}
 use Rattle.std.specs.Vec.Iter.{into_iter_items}
 use Rattle.std.proofs.lemmas.List.{length-append, length_push}
-use Rattle.conference.specs.Conferences.{meaning_of}
+use Rattle.file_spec.specs.Conferences.{meaning_of}
 use Rattle.live_run.specs.Listeners.{AreViewsOf, Listening}
 use Rattle.live_run.proofs.Showing.{first_all, first_more, get_seam, no_leg}
 use Rattle.live_run.proofs.views.views_of.Goals as goal

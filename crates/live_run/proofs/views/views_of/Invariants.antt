@@ -1,6 +1,6 @@
 use Rattle.std.proofs.Common.{◌≡◌, ◌++◌, length}
 use Rattle.std.specs.Vec.Iter.{into_iter_items, into_iter_len}
-use Rattle.conference.specs.Conferences.{meaning_of}
+use Rattle.file_spec.specs.Conferences.{meaning_of}
 use Rattle.live_run.proofs.Showing.{AreFirst}
 use Rattle.live_run.proofs.views.views_of.Given as goal
 

@@ -1,7 +1,7 @@
 use Rattle.std.proofs.Common.{◌++◌, ap, rules, ◌∙◌}
 use Rattle.std.specs.Prelude.{map}
 use Rattle.std.specs.Vec.Iter.{into_iter_items, into_iter_len}
-use Rattle.item_lanes.proofs.Matching.{fits_first, fits_next, fits_none}
+use Rattle.workers.proofs.Matching.{fits_first, fits_next, fits_none}
 use Rattle.mix_loop.proofs.Opening.{inlets_more, inlets_all}
 use Rattle.mix_loop.proofs.port_lists.inlets_of.Goals as goal
 

@@ -1,7 +1,7 @@
 use Rattle.std.proofs.Common.{◌≡◌, ◌++◌}
 use Rattle.std.specs.Prelude.{map}
 use Rattle.std.specs.Vec.Iter.{into_iter_items, into_iter_len}
-use Rattle.item_lanes.proofs.Matching.{Fits}
+use Rattle.workers.proofs.Matching.{Fits}
 use Rattle.mix_loop.proofs.port_lists.inlets_of.Given as goal
 
 abbrev pub invariant-loop-port : goal.invariant-loop-port

@@ -1,7 +1,7 @@
 use Rattle.std.proofs.Common.{◌≡◌, ◌<◌, ℕ, Some, ap, length, arith, rules, subst}
 use Rattle.std.specs.Prelude.{slice_get}
 use Rattle.std.specs.Vec.Iter.{into_iter_items, into_iter_len}
-use Rattle.item_lanes.proofs.Matching.{fits_one}
+use Rattle.workers.proofs.Matching.{fits_one}
 use Rattle.mix_loop.proofs.Lists.{get_read}
 use Rattle.mix_loop.proofs.Opening.{inlet_in, each_none, each_more, opens_all, opens_first, opens_next}
 use Rattle.mix_loop.proofs.ports.ports_over.Goals as goal

@@ -2,8 +2,8 @@ use Rattle.std.proofs.Common.{◌≡◌, ℕ, Some, length, rules}
 use Rattle.std.specs.Prelude.{IfOk, slice_get}
 use Rattle.std.specs.Global.{Vec}
 use Rattle.mixer_spec.specs.Setups.{setup}
-use Rattle.aware_output.specs.Speakers.{AreDistinct}
-use Rattle.conference.specs.Conferences.{meaning_of}
+use Rattle.packetizer.specs.Speakers.{AreDistinct}
+use Rattle.file_spec.specs.Conferences.{meaning_of}
 use Rattle.mixer_turn.specs.Making.{source_counts}
 use Rattle.mixer_posts.specs.Streams.{AreSourcesAt}
 use Rattle.mixer_posts.proofs.Streaming.{AreSourcesTo, all_made, leg_read, mixer_alone, of_made}

@@ -1,4 +1,4 @@
-use Rattle.conference.specs.Conferences.{meaning_of}
+use Rattle.file_spec.specs.Conferences.{meaning_of}
 use Rattle.mixer_posts.proofs.Streaming.{leg_read, stream_is}
 use Rattle.mixer_posts.proofs.streams.stream_to.Goals as goal
 

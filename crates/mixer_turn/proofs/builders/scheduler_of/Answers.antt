@@ -1,8 +1,8 @@
 use Rattle.std.proofs.Common.{◌≡◌, Some, List, length, ap, sym, ◌∙◌, arith}
 use Rattle.std.specs.Prelude.{slice_get}
 use Rattle.file_spec.specs.declared.conference_lines.LegLine.{LegLine}
-use Rattle.slot_table.proofs.Lists.{get_read}
-use Rattle.conference.specs.Conferences.{meaning_of}
+use Rattle.mixer_places.proofs.Lists.{get_read}
+use Rattle.file_spec.specs.Conferences.{meaning_of}
 use Rattle.mixer_turn.proofs.Made.{made_of}
 use Rattle.mixer_turn.proofs.builders.scheduler_of.Goals as goal
 

@@ -1,7 +1,7 @@
 use Rattle.std.proofs.Common.{◌≡◌, ℕ, Some, List, [], ◌∷◌, ◌++◌, length, length-append, ap, subst, sym, arith}
 use Rattle.std.specs.Prelude.{slice_get}
 use Rattle.outlet.specs.declared.schedulers.TerminalScheduler.{TerminalScheduler}
-use Rattle.conference.specs.Conferences.{meaning_of}
+use Rattle.file_spec.specs.Conferences.{meaning_of}
 use Rattle.mixer_turn.specs.Making.{IsMade}
 use Rattle.mixer_turn.proofs.Made.{made_more}
 use Rattle.mixer_turn.proofs.builders.schedulers_of.Goals as goal

@@ -1,5 +1,5 @@
 use Rattle.std.proofs.Common.{◌≡◌, ℕ, subst, ◌∙◌, arith}
-use Rattle.slot_table.specs.Standing.{SlotsStandFor}
+use Rattle.mixer_places.specs.SlotStanding.{SlotsStandFor}
 use Rattle.mixer_turn.proofs.Made.{listening_from, all_first, one_less, none_listens}
 use Rattle.mixer_turn.proofs.builders.silent_slots.Goals as goal
 

@@ -1,7 +1,7 @@
 use Rattle.std.proofs.Common.{◌≡◌, length}
 use Rattle.mixer_spec.specs.Setups.{Setup}
 use Rattle.mixer_turn.proofs.Made.{listening_from}
-use Rattle.slot_table.specs.Standing.{SlotsStandFor}
+use Rattle.mixer_places.specs.SlotStanding.{SlotsStandFor}
 use Rattle.mixer_turn.proofs.builders.silent_slots.Given as goal
 
 abbrev pub invariant-loop-leg : goal.invariant-loop-leg

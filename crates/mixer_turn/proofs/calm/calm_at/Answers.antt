@@ -1,7 +1,7 @@
 use Rattle.std.proofs.Common.{◌≡◌, true≢false, Some, sym, subst, ◌∙◌}
 use Rattle.outlet.specs.declared.schedulers.TerminalScheduler.{TerminalScheduler}
 use Rattle.outlet.specs.Schedulers.{IsCalmBefore}
-use Rattle.slot_table.proofs.Lists.{get_read}
+use Rattle.mixer_places.proofs.Lists.{get_read}
 use Rattle.mixer_turn.proofs.calm.calm_at.Goals as goal
 
 pub returns-then-not-is_seated : goal.returns-then-not-is_seated

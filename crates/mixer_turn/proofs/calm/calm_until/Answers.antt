@@ -2,7 +2,7 @@ use Rattle.std.proofs.Common.{inl, inr, ap, sym, ◌∙◌, arith}
 use Rattle.std.specs.Prelude.{slice_get}
 use Rattle.std.proofs.lemmas.Bool.{cases_eq}
 use Rattle.std.proofs.lemmas.Option.{slice_get_within}
-use Rattle.seating.specs.Places.{has_place}
+use Rattle.mixer_places.specs.Places.{has_place}
 use Rattle.mixer_turn.proofs.calm.calm_until.Goals as goal
 
 pub loop-leg-init : goal.loop-leg-init

@@ -1,6 +1,6 @@
 use Rattle.std.proofs.Common.{◌≡◌, ◌<◌, ℕ, true, Some}
 use Rattle.std.specs.Prelude.{slice_get}
-use Rattle.seating.specs.Places.{has_place}
+use Rattle.mixer_places.specs.Places.{has_place}
 use Rattle.outlet.specs.declared.schedulers.TerminalScheduler.{TerminalScheduler}
 use Rattle.outlet.specs.Schedulers.{IsCalmBefore}
 use Rattle.mixer_turn.proofs.calm.calm_until.Given as goal

@@ -1,6 +1,6 @@
 use Rattle.std.proofs.Common.{◌≡◌, ℕ, Some, true, not, length, refl, subst, sym, arith}
 use Rattle.std.specs.Prelude.{◌==◌, ◌||◌, slice_get}
-use Rattle.slot_table.proofs.Lists.{get_read}
+use Rattle.mixer_places.proofs.Lists.{get_read}
 use Rattle.mixer_spec.specs.Rounds.{all_below}
 use Rattle.mixer_spec.specs.Table.{has_work}
 use Rattle.outlet.proofs.Below.{fails_at, all_more}

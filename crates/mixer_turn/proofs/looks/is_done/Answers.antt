@@ -1,6 +1,6 @@
 use Rattle.std.proofs.Common.{◌≡◌, true, false, not, length, ap, ◌∙◌, arith}
 use Rattle.std.specs.Prelude.{◌==◌, ◌||◌, ◌&&◌}
-use Rattle.slot_table.proofs.Lists.{get_read}
+use Rattle.mixer_places.proofs.Lists.{get_read}
 use Rattle.mixer_spec.specs.Rounds.{all_below}
 use Rattle.mixer_spec.specs.Table.{is_quiet, has_work}
 use Rattle.mixer_turn.proofs.looks.is_done.Goals as goal

@@ -1,6 +1,6 @@
 use Rattle.std.proofs.Common.{◌≤◌, length}
 use Rattle.mixer_spec.specs.Rounds.{count_below}
-use Rattle.seating.specs.Places.{has_place}
+use Rattle.mixer_places.specs.Places.{has_place}
 use Rattle.mixer_turn.proofs.Looping.{Turning}
 use Rattle.mixer_turn.proofs.turns.turn_legs.Given as goal
 

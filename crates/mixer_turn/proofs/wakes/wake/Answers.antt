@@ -1,6 +1,6 @@
 use Rattle.std.proofs.Common.{◌≡◌, ℕ, ◌<◌, Some, length, subst, arith}
 use Rattle.std.specs.Prelude.{slice_get}
-use Rattle.slot_table.proofs.Lists.{get_read}
+use Rattle.mixer_places.proofs.Lists.{get_read}
 use Rattle.mixer_turn.specs.Waking.{AreWokenBelow}
 use Rattle.mixer_turn.proofs.Woken.{none_woken, one_woken}
 use Rattle.mixer_turn.proofs.wakes.wake.Goals as goal

@@ -2,7 +2,7 @@ use Rattle.std.proofs.Common.{◌≡◌, true}
 use Rattle.mixer_spec.specs.Rounds.{all_below}
 use Rattle.mixer_spec.specs.Setups.{Setup}
 use Rattle.mixer_spec.specs.Table.{Table}
-use Rattle.slot_table.specs.Standing.{SlotsStandFor}
+use Rattle.mixer_places.specs.SlotStanding.{SlotsStandFor}
 use Rattle.outlet.specs.UnawareStanding.{none_here}
 use Rattle.outlet.proofs.unaware.is_empty.Given as goal
 

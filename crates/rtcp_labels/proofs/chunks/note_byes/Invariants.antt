@@ -1,5 +1,5 @@
 use Rattle.std.proofs.Common.{◌≡◌, ◌*◌, ◌≤◌, length}
-use Rattle.rtcp_spec.specs.Rtcp.{byes}
+use Rattle.wire_spec.specs.Rtcp.{byes}
 use Rattle.rtcp_labels.specs.Notes.{notes, all_noted}
 use Rattle.rtcp_labels.proofs.chunks.note_byes.Given as goal
 

@@ -1,5 +1,5 @@
 use Rattle.std.proofs.Common.{◌≡◌}
-use Rattle.rtcp_spec.specs.Rtcp.{chunks}
+use Rattle.wire_spec.specs.Rtcp.{chunks}
 use Rattle.rtcp_labels.specs.Notes.{notes, after_all}
 use Rattle.rtcp_labels.proofs.chunks.read_chunks.Given as goal
 

@@ -1,5 +1,5 @@
 use Rattle.std.proofs.Common.{◌≡◌, ◌≤◌, length}
-use Rattle.rtcp_spec.specs.Rtcp.{items}
+use Rattle.wire_spec.specs.Rtcp.{items}
 use Rattle.rtcp_labels.specs.Notes.{notes, after}
 use Rattle.rtcp_labels.proofs.chunks.read_items.Given as goal
 

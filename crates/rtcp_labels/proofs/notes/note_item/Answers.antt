@@ -1,6 +1,6 @@
 use Rattle.std.proofs.Common.{◌≡◌, ◌∙◌, ap, refl, sym, arith}
 use Rattle.std.specs.Prelude.{ℕ, List}
-use Rattle.rtcp_spec.specs.declared.events.Event.TheVariants as event
+use Rattle.wire_spec.specs.declared.events.Event.TheVariants as event
 use Rattle.rtcp_labels.specs.Notes.{notes, noted}
 use Rattle.rtcp_labels.proofs.Items.{named, not_named}
 use Rattle.rtcp_labels.proofs.notes.note_item.Goals as goal

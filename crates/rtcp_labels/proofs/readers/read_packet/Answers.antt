@@ -2,7 +2,7 @@ use Rattle.std.proofs.lemmas.Result.{err_from_is_err_and}
 use Rattle.rtcp_labels.specs.Notes.{notes}
 use Rattle.rtcp_labels.specs.Views.{body_view}
 use Rattle.rtcp_labels.proofs.Packets.{body_refused, events_refused, events_too_many, events_taken, taken_few}
-use Rattle.rtcp_spec.specs.Rtcp.{events_of}
+use Rattle.wire_spec.specs.Rtcp.{events_of}
 use Rattle.rtcp_labels.proofs.readers.read_packet.Goals as goal
 
 pub returns-in_err-body-clause-exact : goal.returns-in_err-body-clause-exact

@@ -1,6 +1,6 @@
 use Rattle.std.proofs.Common.{◌≡◌, Bool, true, List, [], ap, subst, sym, ◌∙◌}
 use Rattle.std.specs.Prelude.{if◌then◌else◌}
-use Rattle.conference.specs.Conferences.{meaning_of}
+use Rattle.file_spec.specs.Conferences.{meaning_of}
 use Rattle.command_spec.specs.Inputs.{inputs_under}
 use Rattle.command_spec.specs.Mixing.{counts_lines}
 use Rattle.rtt_attend.specs.declared.sender_reports.SenderReport.{SenderReport}

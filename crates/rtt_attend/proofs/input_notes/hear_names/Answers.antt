@@ -2,7 +2,7 @@ use Rattle.std.proofs.Common.{◌≡◌, List, ap, subst, sym, ◌∙◌}
 use Rattle.file_spec.specs.declared.conference_lines.LegLine.{LegLine}
 use Rattle.file_spec.specs.Conference.{Conference}
 use Rattle.file_spec.specs.Kept.{IsConference}
-use Rattle.conference.specs.Conferences.{meaning_of}
+use Rattle.file_spec.specs.Conferences.{meaning_of}
 use Rattle.command_spec.specs.Attending.{named_by}
 use Rattle.command_spec.proofs.Naming.{named_conference}
 use Rattle.rtt_attend.specs.declared.sender_reports.SenderReport.{SenderReport}

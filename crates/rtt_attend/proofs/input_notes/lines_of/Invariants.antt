@@ -1,7 +1,7 @@
 use Rattle.std.proofs.Common.{◌≡◌, ◌≤◌, length}
 use Rattle.command_spec.specs.Inputs.{inputs_under}
 use Rattle.command_spec.specs.Work.{Contents}
-use Rattle.conference.specs.Conferences.{meaning_of}
+use Rattle.file_spec.specs.Conferences.{meaning_of}
 use Rattle.rtt_attend.specs.Named.{AreTold, lines_below}
 use Rattle.rtt_attend.proofs.input_notes.lines_of.Given as goal
 

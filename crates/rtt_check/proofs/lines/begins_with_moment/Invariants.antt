@@ -1,5 +1,5 @@
 use Rattle.std.proofs.Common.{◌≡◌, length}
-use Rattle.check_spec.specs.Forms.{begins_with_moment}
+use Rattle.report_spec.specs.Forms.{begins_with_moment}
 use Rattle.rtt_check.proofs.lines.begins_with_moment.Given as goal
 
 abbrev pub invariant-loop-rest : goal.invariant-loop-rest

@@ -1,7 +1,7 @@
 use Rattle.std.proofs.Common.{◌≡◌, length}
 use Rattle.std.specs.List.{list_any}
 use Rattle.std.specs.Str.Lines.{lines}
-use Rattle.check_spec.specs.Forms.{first_said}
+use Rattle.report_spec.specs.Forms.{first_said}
 use Rattle.rtt_check.proofs.lines.first_said.Given as goal
 
 abbrev pub invariant-loop-line : goal.invariant-loop-line

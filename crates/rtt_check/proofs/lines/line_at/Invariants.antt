@@ -1,6 +1,6 @@
 use Rattle.std.proofs.Common.{◌≡◌, length}
 use Rattle.std.specs.Str.Lines.{lines}
-use Rattle.check_spec.specs.Checking.{line_at}
+use Rattle.report_spec.specs.Checking.{line_at}
 use Rattle.rtt_check.proofs.lines.line_at.Given as goal
 
 abbrev pub invariant-loop-line : goal.invariant-loop-line

@@ -1,7 +1,7 @@
 use Rattle.std.proofs.Common.{◌++◌, chars, encode_utf8, ap, ◌∙◌}
 use Rattle.std.proofs.lemmas.Iterator.{YieldsList-from_chars}
 use Rattle.std.proofs.lemmas.Iterator.Consumers.{YieldsList-end}
-use Rattle.check_spec.specs.Told.{told_character}
+use Rattle.report_spec.specs.Told.{told_character}
 use Rattle.rtt_check.proofs.Pieces.{all_pieces, one_more_piece}
 use Rattle.rtt_check.proofs.name_texts.append_told.Goals as goal
 

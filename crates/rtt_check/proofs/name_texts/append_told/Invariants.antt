@@ -1,5 +1,5 @@
 use Rattle.std.proofs.Common.{◌≡◌, ◌++◌, encode_utf8, flat_map}
-use Rattle.check_spec.specs.Told.{told_character}
+use Rattle.report_spec.specs.Told.{told_character}
 use Rattle.rtt_check.proofs.name_texts.append_told.Given as goal
 
 abbrev pub invariant-loop-c : goal.invariant-loop-c

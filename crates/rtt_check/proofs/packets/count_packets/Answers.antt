@@ -2,7 +2,7 @@ use Rattle.std.proofs.Common.{[], ◌∷◌, ◌++◌, refl, sym, ap, ◌∙◌,
 use Rattle.wire_spec.specs.Dump.{Recording}
 use Rattle.rtpdump_io.specs.Answers.{record_of}
 use Rattle.rtpdump_io.proofs.Records.{all_read, more_read, none_read, read_partly, read_to_end}
-use Rattle.check_spec.specs.Checking.{packets_in}
+use Rattle.report_spec.specs.Checking.{packets_in}
 use Rattle.rtt_check.proofs.Counting.{few_packets, one_more}
 use Rattle.rtt_check.proofs.packets.count_packets.Goals as goal
 

@@ -1,5 +1,5 @@
 use Rattle.std.proofs.Common.{◌≡◌, ◌++◌, map, take}
-use Rattle.check_spec.specs.Checking.{shown_octet}
+use Rattle.report_spec.specs.Checking.{shown_octet}
 use Rattle.rtt_check.proofs.refusals.append_octets.Given as goal
 
 abbrev pub invariant-loop-octet : goal.invariant-loop-octet

@@ -1,7 +1,7 @@
 use Rattle.std.proofs.Common.{◌≤◌, length, sym, arith}
 use Rattle.std.proofs.lemmas.Bool.Decides.{nat_tests}
 use Rattle.std.proofs.lemmas.List.{length-take-le, take_all}
-use Rattle.check_spec.specs.declared.limits.TheConstants.{MOST_SHOWN_OCTETS}
+use Rattle.report_spec.specs.declared.limits.TheConstants.{MOST_SHOWN_OCTETS}
 use Rattle.rtt_check.proofs.refusals.front_of.Goals as goal
 
 pub slice_bounds-result-end : goal.slice_bounds-result-end

@@ -1,5 +1,5 @@
-use Rattle.rtt_send.proofs.Accepted.{accepted_lines}
-use Rattle.rtt_send.proofs.Lines.{script_typed}
+use Rattle.text_conversions.proofs.Accepted.{accepted_lines}
+use Rattle.text_conversions.proofs.SendLines.{script_typed}
 use Rattle.rtt_check.proofs.reports.script_report.Goals as goal
 
 pub script_sent-requires : goal.script_sent-requires

@@ -4,7 +4,7 @@ use Rattle.std.specs.Option.{option_map_or}
 use Rattle.wire_spec.specs.Dump.{Recording}
 use Rattle.rtpdump_io.specs.Answers.{record_of}
 use Rattle.rtpdump_io.proofs.Records.{all_read, more_read, none_read, read_to_end}
-use Rattle.check_spec.specs.Inputs.{first_stream, is_of_leg, is_stream_of, or_later}
+use Rattle.report_spec.specs.Inputs.{first_stream, is_of_leg, is_stream_of, or_later}
 use Rattle.rtt_check.proofs.Hearing.{any_push, first_push}
 use Rattle.rtt_check.proofs.streams.hear_leg.Goals as goal
 

@@ -1,5 +1,5 @@
 use Rattle.std.proofs.Common.{ap, sym, ◌∙◌}
-use Rattle.conference.specs.Conferences.{meaning_of}
+use Rattle.file_spec.specs.Conferences.{meaning_of}
 use Rattle.command_spec.specs.Draws.{draw}
 use Rattle.rtt_make.proofs.Wholes.{keeps, made_is}
 use Rattle.rtt_make.proofs.conferences.make_conf.Goals as goal

@@ -2,8 +2,8 @@ use Rattle.std.proofs.Common.{◌≡◌, ◌<◌, ℕ, Some, None, List, length,
 use Rattle.std.specs.Prelude.{All}
 use Rattle.command_spec.specs.Scripts.{AreLines}
 use Rattle.command_spec.proofs.Generating.{IsSaid}
-use Rattle.rtt_send.specs.Scripts.{sending_of}
-use Rattle.rtt_send.proofs.Lines.{script_typed}
+use Rattle.text_conversions.specs.Scripts.{sending_of}
+use Rattle.text_conversions.proofs.SendLines.{script_typed}
 use Rattle.rtt_make.specs.Mades.{made_of}
 use Rattle.rtt_make.proofs.Bounds.{few_scripts, is_made, never_full_line, script_at}
 use Rattle.rtt_make.proofs.senders.recording_of.Goals as goal

@@ -1,6 +1,6 @@
 use Rattle.std.proofs.Common.{◌≡◌, ℕ, ◌+◌, List, length, refl, ap, ◌∙◌, arith}
 use Rattle.wire_spec.specs.Dump.{Item, sent_item}
-use Rattle.show_spec.specs.Guesses.{accepted}
+use Rattle.report_spec.specs.Guesses.{accepted}
 use Rattle.rtpdump_io.proofs.Fronts.{left_less, front_none, front_more, front_all}
 use Rattle.rtt_show.specs.Finds.{one_if}
 use Rattle.rtt_show.proofs.Showing.{accepted_more}

@@ -1,7 +1,7 @@
 use Rattle.std.proofs.Common.{◌≡◌, ℕ, List, length}
 use Rattle.rtpdump_io.specs.InMemory.{AreRecords}
 use Rattle.rtpdump_io.proofs.Fronts.{Left, Front}
-use Rattle.show_spec.specs.Guesses.{accepted}
+use Rattle.report_spec.specs.Guesses.{accepted}
 use Rattle.rtt_show.proofs.likes.accepted_of.Given as goal
 
 abbrev pub invariant-loop-octets : goal.invariant-loop-octets

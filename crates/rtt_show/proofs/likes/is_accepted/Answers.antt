@@ -2,7 +2,7 @@ use Rattle.std.proofs.Common.{ap, sym, ◌∙◌, Some}
 use Rattle.std.specs.Prelude.{◌&&◌}
 use Rattle.wire_spec.specs.Packets.{has_text}
 use Rattle.wire_spec.specs.Text.{text_of}
-use Rattle.show_spec.specs.Guesses.{is_ok}
+use Rattle.report_spec.specs.Guesses.{is_ok}
 use Rattle.rtt_show.specs.Surveys.{is_read}
 use Rattle.rtt_show.proofs.Surveying.{read_ok}
 use Rattle.rtt_show.proofs.likes.is_accepted.Goals as goal

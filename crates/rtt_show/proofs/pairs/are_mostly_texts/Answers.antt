@@ -1,7 +1,7 @@
 use Rattle.std.proofs.Common.{ap, sym, ◌∙◌, map}
 use Rattle.std.specs.Prelude.{◌&&◌}
 use Rattle.wire_spec.specs.Dump.{sent_item}
-use Rattle.show_spec.specs.Guesses.{are_mostly_text}
+use Rattle.report_spec.specs.Guesses.{are_mostly_text}
 use Rattle.rtt_show.proofs.Showing.{mostly_is}
 use Rattle.rtt_show.proofs.pairs.are_mostly_texts.Goals as goal
 

@@ -1,6 +1,6 @@
 use Rattle.std.proofs.Common.{◌≡◌, ℕ, List, ◌++◌, ap, ◌∙◌, subst, append_assoc}
 use Rattle.std.specs.Prelude.{codes, decimal}
-use Rattle.show_spec.specs.Showing.{counted}
+use Rattle.report_spec.specs.Showing.{counted}
 use Rattle.rtt_show.proofs.Grouping.{on_ok}
 use Rattle.rtt_show.proofs.Appending.{words, number}
 use Rattle.rtt_show.proofs.print_lines.append_title.Goals as goal

@@ -1,5 +1,5 @@
 use Rattle.std.proofs.Common.{refl}
-use Rattle.rtp_header.specs.Headers.{reading}
+use Rattle.rtp_text.specs.Headers.{reading}
 use Rattle.rtt_show.proofs.Rowing.{origin_is}
 use Rattle.rtt_show.proofs.rows.origin_of.Goals as goal
 

@@ -1,7 +1,7 @@
 use Rattle.std.proofs.Common.{◌∙◌, ap, sym}
 use Rattle.rtt_base.specs.declared.text_packets.PayloadTypes.{PayloadTypes}
 use Rattle.rtt_show.specs.Whole.{ends}
-use Rattle.show_spec.specs.Showing.{recording_view}
+use Rattle.report_spec.specs.Showing.{recording_view}
 use Rattle.rtt_show.proofs.shows.show_recording.Goals as goal
 
 pub returns-in-Ok-show_found-clause-shown : goal.returns-in-Ok-show_found-clause-shown

@@ -1,7 +1,7 @@
 use Rattle.std.proofs.Common.{ℕ, List, ◌++◌, map, subst, ap, ◌∙◌, append_assoc}
 use Rattle.wire_spec.specs.Dump.{sent_item}
 use Rattle.terminal.specs.Terminals.{texts_of}
-use Rattle.show_spec.specs.Showing.{title_of}
+use Rattle.report_spec.specs.Showing.{title_of}
 use Rattle.rtt_show.specs.Shown.{asked, heard_text}
 use Rattle.rtt_show.specs.Missed.{IsMissed, IsMissedOf}
 use Rattle.view_spec.specs.declared.counts.Counts.{Counts}

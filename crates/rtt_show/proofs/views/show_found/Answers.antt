@@ -2,7 +2,7 @@ use Rattle.std.proofs.Common.{ℕ, List, ◌++◌, ap, sym, subst, ◌∙◌}
 use Rattle.std.specs.Prelude.{All}
 use Rattle.command_spec.specs.Streams.{stream_of, pair_of}
 use Rattle.command_spec.specs.Showing.{end_line}
-use Rattle.show_spec.specs.Showing.{start_line}
+use Rattle.report_spec.specs.Showing.{start_line}
 use Rattle.rtt_show.specs.declared.groups.Group.{Group}
 use Rattle.rtt_show.specs.declared.views.Shape.TheVariants.{Stream, Pair}
 use Rattle.rtt_show.specs.Whole.{IsGroupOf, AreShown, ends}

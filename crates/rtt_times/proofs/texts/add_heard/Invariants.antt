@@ -1,5 +1,5 @@
 use Rattle.std.proofs.Common.{◌≡◌}
-use Rattle.ear.specs.Hears.{IsGiving, arrival_count, is_finished}
+use Rattle.receiver.specs.Hears.{IsGiving, arrival_count, is_finished}
 use Rattle.rtt_times.specs.Writing.{UnderName}
 use Rattle.rtt_times.proofs.Writing.{WritesStill}
 use Rattle.rtt_times.proofs.texts.add_heard.Given as goal

@@ -1,8 +1,8 @@
 use Rattle.std.proofs.Common.{[], ◌∷◌, subst}
 use Rattle.std.proofs.Math.Logic.{∥∥₁_map}
 use Rattle.stream_spec.specs.Ready.{chunk_of}
-use Rattle.ear.specs.declared.ears.Ear.{Ear}
-use Rattle.ear.specs.Hears.{Becomes, text_for, told}
+use Rattle.receiver.specs.declared.ears.Ear.{Ear}
+use Rattle.receiver.specs.Hears.{Becomes, text_for, told}
 use Rattle.rtt_times.proofs.Writing.{on_ok, plain_giving, becomes_giving, writes_plain, writes_nothing, writes_told}
 use Rattle.rtt_times.proofs.texts.add_packet.Goals as goal
 

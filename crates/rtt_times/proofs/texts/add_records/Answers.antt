@@ -1,5 +1,5 @@
 use Rattle.std.proofs.Common.{ℕ, ◌∙◌, arith, subst}
-use Rattle.ear.specs.Hears.{arrival_count}
+use Rattle.receiver.specs.Hears.{arrival_count}
 use Rattle.rtpdump_io.proofs.Fronts.{left_less, front_none, front_more, front_all}
 use Rattle.rtt_times.specs.Writing.{HasWrittenOf, WritesPacket}
 use Rattle.rtt_times.proofs.Writing.{item_written}

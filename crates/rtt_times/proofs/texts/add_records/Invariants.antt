@@ -1,6 +1,6 @@
 use Rattle.std.proofs.Common.{◌≡◌, ℕ, List, [], length}
 use Rattle.std.specs.Prelude.{Bool}
-use Rattle.ear.specs.Hears.{IsGiving, arrival_count, is_finished, is_quiet}
+use Rattle.receiver.specs.Hears.{IsGiving, arrival_count, is_finished, is_quiet}
 use Rattle.rtpdump_io.specs.InMemory.{AreRecords}
 use Rattle.rtpdump_io.proofs.Fronts.{Left, Front}
 use Rattle.rtt_times.specs.declared.lines.Lines.{Lines}

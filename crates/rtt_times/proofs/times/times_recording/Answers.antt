@@ -1,7 +1,7 @@
 use Rattle.std.proofs.Common.{◌∙◌, ap, sym}
 use Rattle.rtt_base.specs.declared.text_packets.PayloadTypes.{PayloadTypes}
 use Rattle.rtt_show.specs.Whole.{ends}
-use Rattle.times_spec.specs.Times.{timed_view}
+use Rattle.report_spec.specs.Times.{timed_view}
 use Rattle.rtt_times.proofs.times.times_recording.Goals as goal
 
 pub returns-in-Ok-times_found-clause-told : goal.returns-in-Ok-times_found-clause-told

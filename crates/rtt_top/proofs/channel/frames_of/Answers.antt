@@ -1,8 +1,8 @@
 use Rattle.std.proofs.Common.{◌≡◌, ◌∙◌, true, sym, ap, subst}
-use Rattle.leg_core.specs.Gives.{source_of}
+use Rattle.leg.specs.Gives.{source_of}
 use Rattle.rtpdump_io.specs.declared.items.DumpFault.{DumpFault}
 use Rattle.rtpdump_io.specs.Reading.{is_of_source}
-use Rattle.rtt_relay.specs.declared.faults.ChannelFault.TheVariants as channel_fault
+use Rattle.text_conversions.specs.declared.relay_faults.ChannelFault.TheVariants as channel_fault
 use Rattle.rtt_words.specs.Words.{ChannelWords, Channel}
 use Rattle.rtt_words.specs.Commands.{channelled}
 use Rattle.rtt_top.specs.Outside.{RoseAt}

@@ -1,6 +1,6 @@
 use Rattle.std.proofs.Common.{ap, ◌∙◌}
-use Rattle.check_spec.specs.Checking.{report}
-use Rattle.check_spec.specs.Looks.{legs_in}
+use Rattle.report_spec.specs.Checking.{report}
+use Rattle.report_spec.specs.Looks.{legs_in}
 use Rattle.rtt_words.specs.Commands.{checked}
 use Rattle.rtt_words.specs.Words.{Check}
 use Rattle.rtt_top.specs.Worlds.{ObjectFailedIn, OpenFailedIn}

@@ -1,7 +1,7 @@
 use Rattle.std.proofs.Common.{ap, sym, subst, ◌∙◌}
 use Rattle.rtt_io.specs.Names.{SameBut}
-use Rattle.check_spec.specs.declared.limits.TheConstants.{MOST_CHECKED_OCTETS}
-use Rattle.check_spec.specs.Inputs.{leg_told}
+use Rattle.report_spec.specs.declared.limits.TheConstants.{MOST_CHECKED_OCTETS}
+use Rattle.report_spec.specs.Inputs.{leg_told}
 use Rattle.command_spec.specs.declared.faults.Fault.{Fault}
 use Rattle.rtt_top.specs.Files.{IsReadOf}
 use Rattle.rtt_top.specs.Looks.{IsUnreadAt}

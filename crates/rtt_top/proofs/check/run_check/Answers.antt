@@ -1,11 +1,11 @@
 use Rattle.std.proofs.Common.{Some, Err, refl, ap, sym, ◌∙◌}
 use Rattle.std.specs.Prelude.{Ok, option_map}
-use Rattle.conference.specs.Conferences.{meaning_of}
+use Rattle.file_spec.specs.Conferences.{meaning_of}
 use Rattle.command_spec.specs.declared.faults.Fault.TheVariants.{NoMemory}
 use Rattle.command_spec.specs.Outcomes.{Same}
-use Rattle.check_spec.specs.Checking as checking
-use Rattle.check_spec.specs.Looks.{look}
-use Rattle.check_spec.specs.Ports.{ports_told}
+use Rattle.report_spec.specs.Checking as checking
+use Rattle.report_spec.specs.Looks.{look}
+use Rattle.report_spec.specs.Ports.{ports_told}
 use Rattle.rtt_check.specs.Reports.{as_told, told_of}
 use Rattle.rtt_words.specs.Commands.{checked}
 use Rattle.rtt_top.specs.Looks.{ending_of}

@@ -1,4 +1,4 @@
-use Rattle.check_spec.specs.Told.{told_name}
+use Rattle.report_spec.specs.Told.{told_name}
 use Rattle.rtt_words.specs.Told.{fault_message}
 use Rattle.rtt_top.proofs.Fronts.{front_of}
 use Rattle.rtt_top.proofs.messages.tell.Goals as goal

@@ -1,7 +1,7 @@
 use Rattle.std.proofs.Common.{◌≡◌, codes, decimal, rules, subst}
 use Rattle.std.specs.Prelude.{OnErr}
 use Rattle.rtt_io.specs.Fronts.{TakesFront}
-use Rattle.check_spec.specs.Told.{told_name}
+use Rattle.report_spec.specs.Told.{told_name}
 use Rattle.rtt_top.specs.Sinks.{place_message}
 use Rattle.rtt_top.proofs.messages.write_byte.Goals as goal
 

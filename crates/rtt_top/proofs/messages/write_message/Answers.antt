@@ -1,7 +1,7 @@
 use Rattle.std.proofs.Common.{◌≡◌, ◌++◌, sym, subst}
 use Rattle.std.specs.Prelude.{OnOk, OnErr}
 use Rattle.command_spec.specs.declared.faults.Fault.{Fault}
-use Rattle.check_spec.specs.Told.{told_name}
+use Rattle.report_spec.specs.Told.{told_name}
 use Rattle.rtt_words.specs.Told.{fault_message}
 use Rattle.rtt_io.specs.Fronts.{TakesFront}
 use Rattle.rtt_top.proofs.messages.write_message.Goals as goal

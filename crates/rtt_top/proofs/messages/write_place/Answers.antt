@@ -1,6 +1,6 @@
 use Rattle.std.proofs.Common.{◌++◌, codes}
 use Rattle.rtt_io.specs.Fronts.{TakesFront}
-use Rattle.check_spec.specs.Told.{told_name}
+use Rattle.report_spec.specs.Told.{told_name}
 use Rattle.rtt_top.proofs.Fronts.{behind_err, both, front_before, front_behind, on_err}
 use Rattle.rtt_top.proofs.messages.write_place.Goals as goal
 

@@ -2,7 +2,7 @@ use Rattle.std.proofs.Common.{sym, subst}
 use Rattle.std.specs.Prelude.{OnErr}
 use Rattle.command_spec.specs.declared.faults.Refusal.{Refusal}
 use Rattle.command_spec.specs.Messages.{refusal_message}
-use Rattle.check_spec.specs.Told.{told_name}
+use Rattle.report_spec.specs.Told.{told_name}
 use Rattle.rtt_io.specs.Fronts.{TakesFront}
 use Rattle.rtt_top.proofs.messages.write_refusal.Goals as goal
 

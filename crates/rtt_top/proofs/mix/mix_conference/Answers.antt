@@ -1,5 +1,5 @@
 use Rattle.std.proofs.Common.{Err, refl, ap, sym, subst, ◌∙◌}
-use Rattle.conference.specs.Conferences.{meaning_of}
+use Rattle.file_spec.specs.Conferences.{meaning_of}
 use Rattle.command_spec.specs.declared.faults.Fault.{Fault}
 use Rattle.command_spec.specs.Inputs.{inputs_under}
 use Rattle.command_spec.specs.Mixing.{counted}

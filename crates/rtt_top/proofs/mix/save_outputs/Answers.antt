@@ -1,7 +1,7 @@
 use Rattle.std.proofs.Common.{◌<◌, length, ap, sym, subst, ◌∙◌, arith}
 use Rattle.file_spec.specs.declared.conference_lines.LegLine.{LegLine}
 use Rattle.sent_log.specs.States.{State}
-use Rattle.sent_files.specs.Files.{recording_at, recordings_of}
+use Rattle.sent_log.specs.Files.{recording_at, recordings_of}
 use Rattle.command_spec.specs.Outcomes.{AllStored}
 use Rattle.bridge_run.specs.Mixes.{outputs_of}
 use Rattle.rtt_top.proofs.Saving.{recording_file, take_whole, unwritten, stored_next}

@@ -1,6 +1,6 @@
 use Rattle.std.proofs.Common.{◌≡◌, ℕ, ◌≤◌, List, take}
 use Rattle.command_spec.specs.Outcomes.{AllStored}
-use Rattle.sent_files.specs.Files.{recordings_of}
+use Rattle.sent_log.specs.Files.{recordings_of}
 use Rattle.bridge_run.specs.Mixes.{outputs_of}
 use Rattle.rtt_top.proofs.mix.save_outputs.Given as goal
 

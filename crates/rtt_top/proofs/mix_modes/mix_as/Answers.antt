@@ -2,7 +2,7 @@ use Rattle.std.proofs.Common.{Err, refl, sym, subst, ◌∙◌}
 use Rattle.file_spec.specs.Conference.{Conference}
 use Rattle.rtt_words.specs.Words.{Attend, Command}
 use Rattle.command_spec.specs.declared.faults.Fault.{Fault}
-use Rattle.conference.specs.Conferences.{meaning_of}
+use Rattle.file_spec.specs.Conferences.{meaning_of}
 use Rattle.rtt_top.specs.declared.mix_modes.MixMode.{MixMode}
 use Rattle.rtt_top.specs.declared.mix_modes.MixMode.TheVariants.{Plain}
 use Rattle.rtt_top.specs.Conferences.{ending_name, fault_of_mixing}

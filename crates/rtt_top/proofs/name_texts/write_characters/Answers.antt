@@ -3,7 +3,7 @@ use Rattle.std.specs.List.{concat}
 use Rattle.std.proofs.lemmas.Iterator.{YieldsList-from_chars}
 use Rattle.std.proofs.lemmas.Iterator.Consumers.{YieldsList-end, YieldsList-so_far, YieldsList-turn}
 use Rattle.rtt_io.specs.Fronts.{TakesFront}
-use Rattle.check_spec.specs.Told.{told_character, told_name}
+use Rattle.report_spec.specs.Told.{told_character, told_name}
 use Rattle.rtt_top.proofs.Fronts.{on_err}
 use Rattle.rtt_top.proofs.Telling.{told_at, told_pieces, told_push, told_whole}
 use Rattle.rtt_top.proofs.name_texts.write_characters.Goals as goal

@@ -2,7 +2,7 @@ use Rattle.std.proofs.Common.{◌≡◌, true, ◌++◌, ap, sym, subst, ◌∙�
 use Rattle.std.specs.Prelude.{OnOk, OnErr}
 use Rattle.std.specs.List.{list_all}
 use Rattle.rtt_io.specs.Fronts.{TakesFront}
-use Rattle.check_spec.specs.Told.{told_name}
+use Rattle.report_spec.specs.Told.{told_name}
 use Rattle.rtt_top.specs.Sinks.{is_plain_octet}
 use Rattle.rtt_top.proofs.Telling.{plain_told}
 use Rattle.rtt_top.proofs.name_texts.write_name.Goals as goal

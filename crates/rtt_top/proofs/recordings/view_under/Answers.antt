@@ -6,8 +6,8 @@ use Rattle.rtpdump_io.specs.Faults.{IsSourceFault}
 use Rattle.wire_spec.specs.Dump.{Recording, dump, usual_limit}
 use Rattle.command_spec.specs.Work.{Makes, Work}
 use Rattle.command_spec.specs.Outcomes.{Done, outcome}
-use Rattle.times_spec.specs.Times.{start_of}
-use Rattle.recording_starts.specs.Heads.{left_of}
+use Rattle.report_spec.specs.Times.{start_of}
+use Rattle.rtt_show.specs.Heads.{left_of}
 use Rattle.rtt_top.specs.Faults.{IsTrueOf}
 use Rattle.rtt_top.specs.Outside.{RoseAt}
 use Rattle.rtt_top.specs.Worlds.{OpenFailedIn}

@@ -4,7 +4,7 @@ use Rattle.command_spec.specs.Scripts.{Sending}
 use Rattle.rtt_words.specs.Tasks.{sending_of}
 use Rattle.rtt_words.specs.Words.{SendWords, Relay}
 use Rattle.rtt_words.specs.Commands.{sent}
-use Rattle.rtt_relay.specs.Answers.{IsRelayCause}
+use Rattle.text_conversions.specs.RelayAnswers.{IsRelayCause}
 use Rattle.rtt_top.specs.Worlds.{ObjectFailedIn, OpenFailedIn, StopsOver}
 use Rattle.rtt_top.proofs.Framing.{frames_sent, relay_stops}
 use Rattle.rtt_top.proofs.relay.relayed.Goals as goal

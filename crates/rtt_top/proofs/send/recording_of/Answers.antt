@@ -1,5 +1,5 @@
-use Rattle.rtt_send.proofs.Accepted.{accepted_lines}
-use Rattle.rtt_send.proofs.Lines.{script_typed}
+use Rattle.text_conversions.proofs.Accepted.{accepted_lines}
+use Rattle.text_conversions.proofs.SendLines.{script_typed}
 use Rattle.rtt_top.proofs.send.recording_of.Goals as goal
 
 pub send_script-requires-clause-lines : goal.send_script-requires-clause-lines

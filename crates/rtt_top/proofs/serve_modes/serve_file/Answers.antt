@@ -1,6 +1,6 @@
 use denote.Param.Send.{sendable}
 use Rattle.std.proofs.Common.{Err, refl, ap, sym, subst, ◌∙◌}
-use Rattle.conference.specs.Conferences.{meaning_of}
+use Rattle.file_spec.specs.Conferences.{meaning_of}
 use Rattle.command_spec.specs.Messages.{Ending}
 use Rattle.rtt_words.specs.Commands.{mixed}
 use Rattle.rtt_top.specs.Conferences.{ending_name, serving_of}

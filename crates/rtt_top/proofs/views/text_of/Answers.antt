@@ -1,5 +1,5 @@
 use Rattle.std.proofs.Common.{[], ◌∷◌}
-use Rattle.rtt_read.proofs.Hearing.{text_is}
+use Rattle.recording_views.proofs.Hearing.{text_is}
 use Rattle.rtt_top.proofs.views.text_of.Goals as goal
 
 pub append_view-requires-clause-finished : goal.append_view-requires-clause-finished

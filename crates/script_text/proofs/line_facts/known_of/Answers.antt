@@ -1,5 +1,5 @@
 use Rattle.std.proofs.Common.{◌≡◌, eqb, false, sym, ◌∙◌}
-use Rattle.file_lines.proofs.EachLine.{each_is_text, each_has_all}
+use Rattle.script_text.proofs.EachLine.{each_is_text, each_has_all}
 use Rattle.script_text.proofs.line_facts.known_of.Goals as goal
 
 pub returns : goal.returns

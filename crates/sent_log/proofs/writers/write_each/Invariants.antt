@@ -1,5 +1,5 @@
 use Rattle.std.proofs.Common.{take}
-use Rattle.red_blocks.proofs.Pieces.{Built}
+use Rattle.rtp_text.proofs.Pieces.{Built}
 use Rattle.sent_log.specs.Writing.{kept_texts}
 use Rattle.sent_log.proofs.writers.write_each.Given as goal
 

@@ -1,7 +1,7 @@
 use Rattle.std.proofs.Common.{◌≡◌, ◌+◌, List, ℕ, [], ◌∷◌, take, get_or, ap, subst, sym, ◌∙◌}
 use Rattle.std.proofs.lemmas.Option.{slice_get-get_or}
 use Rattle.rtt_base.specs.Buffers.{Appends}
-use Rattle.red_blocks.proofs.Pieces.{one_more, one_refused}
+use Rattle.rtp_text.proofs.Pieces.{one_more, one_refused}
 use Rattle.sent_log.specs.Lists.{list_at}
 use Rattle.sent_log.specs.Repeats.{nothing, offset_of}
 use Rattle.sent_log.specs.Runs.{IsRun}

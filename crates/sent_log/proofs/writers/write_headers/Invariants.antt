@@ -1,6 +1,6 @@
 use Rattle.std.proofs.Common.{◌+◌, List, ℕ, take}
 use Rattle.std.specs.List.{flat_map}
-use Rattle.red_blocks.proofs.Pieces.{Built}
+use Rattle.rtp_text.proofs.Pieces.{Built}
 use Rattle.sent_log.specs.Lists.{list_at}
 use Rattle.sent_log.specs.Runs.{IsRun}
 use Rattle.sent_log.specs.Writing.{HasTexts, kept_header, kept_texts}

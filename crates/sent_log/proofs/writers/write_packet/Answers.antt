@@ -3,9 +3,9 @@ use Rattle.rtt_base.specs.Buffers.{Appends}
 use Rattle.rtt_base.proofs.Appending.{appends_both, appends_refused}
 use Rattle.wire_spec.specs.Rtp.{Head, rtp_written}
 use Rattle.wire_spec.specs.SentPackets.{payload_sent}
-use Rattle.rtp_header.specs.Headers.{spelled}
-use Rattle.rtp_header.proofs.Parts.{headed}
-use Rattle.aware_output.proofs.Speaking.{has_room}
+use Rattle.rtp_text.specs.Headers.{spelled}
+use Rattle.rtp_text.proofs.Parts.{headed}
+use Rattle.packetizer.proofs.Speaking.{has_room}
 use Rattle.sent_log.specs.Writing.{blocks_in, packet_in, text_in}
 use Rattle.sent_log.proofs.Written.{packet_short}
 use Rattle.sent_log.proofs.writers.write_packet.Goals as goal

@@ -1,6 +1,6 @@
 use Rattle.std.proofs.Common.{List, ℕ, ap, ◌∙◌, map, chars, encode_utf8_all}
-use Rattle.text_spec.specs.Shown.{shown, signs, survivors, lines_of, bells}
-use Rattle.text_spec.proofs.Octets.{lines_of-encode}
+use Rattle.view_spec.specs.Shown.{shown, signs, survivors, lines_of, bells}
+use Rattle.view_spec.proofs.Octets.{lines_of-encode}
 use Rattle.t140_text.proofs.displays.show.Goals as goal
 
 pub returns-clause-lines : goal.returns-clause-lines

@@ -1,5 +1,5 @@
 use Rattle.std.proofs.Common.{◌≡◌, true, ap, ◌∙◌, string_bytes}
-use Rattle.text_spec.specs.Characters.{class_of, is_marker}
+use Rattle.view_spec.specs.Characters.{class_of, is_marker}
 use Rattle.t140_text.proofs.Erased.{erased_text, marked_text, markers, marks_not, none_text}
 use Rattle.t140_text.proofs.screens.erase.Goals as goal
 

@@ -1,6 +1,6 @@
 use Rattle.std.proofs.Common.{◌<◌, length, arith, sym, subst}
 use Rattle.std.specs.Prelude.{IsUtf8}
-use Rattle.source_receiver.specs.declared.source_texts.SourceText.{SourceText}
+use Rattle.receiver.specs.declared.source_texts.SourceText.{SourceText}
 use Rattle.terminal.proofs.views.append_all_named.Goals as goal
 
 pub append_named-requires : goal.append_named-requires

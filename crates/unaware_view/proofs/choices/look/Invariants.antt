@@ -2,7 +2,7 @@ use Rattle.std.proofs.Common.{◌≡◌, ℕ, ◌<◌, length}
 use Rattle.mixer_spec.specs.Composed.{waits_here}
 use Rattle.mixer_spec.specs.Setups.{Setup}
 use Rattle.mixer_spec.specs.Table.{Table}
-use Rattle.slot_table.specs.Standing.{SlotsStandFor}
+use Rattle.mixer_places.specs.SlotStanding.{SlotsStandFor}
 use Rattle.unaware_view.specs.Choices.{is_set}
 use Rattle.unaware_view.proofs.choices.look.Given as goal
 

@@ -1,10 +1,10 @@
 use Rattle.unaware_view.proofs.composers.give_headed.Goals as goal
 use Rattle.std.proofs.Common.{ℕ, ◌≡◌, ◌++◌, List, true, length, subst, ap, ◌∙◌, arith}
-use Rattle.text_spec.specs.Views.{label_after}
+use Rattle.view_spec.specs.TextViews.{label_after}
 use Rattle.mixer_spec.specs.Chunks.{joined, front}
 use Rattle.mixer_spec.proofs.Texts.{front_texts}
-use Rattle.slot_table.specs.Standing.{SlotsStandFor}
-use Rattle.slot_table.specs.Words.{fetched}
+use Rattle.mixer_places.specs.SlotStanding.{SlotsStandFor}
+use Rattle.mixer_places.specs.Words.{fetched}
 use Rattle.unaware_view.specs.Runs.{Heads}
 
 pub head-requires-clause-fits : goal.head-requires-clause-fits

@@ -1,6 +1,6 @@
 use Rattle.std.proofs.Common.{[], length, refl, ap, sym, subst, arith}
 use Rattle.std.proofs.lemmas.List.{length_push}
-use Rattle.conference.specs.Conferences.{meaning_of}
+use Rattle.file_spec.specs.Conferences.{meaning_of}
 use Rattle.sent_log.specs.States.{Sending, State}
 use Rattle.bridge_run.proofs.Noting.{AreNew, IsNewAt, is_new, new_more}
 use Rattle.bridge_run.proofs.logs.Log.new.Goals as goal

@@ -1,5 +1,5 @@
 use Rattle.std.proofs.Common.{◌≡◌, length}
-use Rattle.conference.specs.Conferences.{meaning_of}
+use Rattle.file_spec.specs.Conferences.{meaning_of}
 use Rattle.bridge_run.proofs.Noting.{AreNew}
 use Rattle.bridge_run.proofs.logs.Log.new.Given as goal
 

@@ -1,7 +1,7 @@
 use Rattle.std.proofs.Common.{◌≡◌, List, length, ap, sym, ◌∙◌, subst, arith}
 use Rattle.std.specs.Prelude.{All, ◌<◌, map}
 use Rattle.std.proofs.lemmas.List.{with_items_is}
-use Rattle.cascade_spec.specs.Splitting.{chunks_of}
+use Rattle.command_spec.specs.Splitting.{chunks_of}
 use Rattle.cascade.specs.declared.splitters.SourceRecording.{SourceRecording}
 use Rattle.cascade.specs.Dividers.{ClosesAll}
 use Rattle.cascade.proofs.Gathering.{all_split, all_typed}

@@ -4,8 +4,8 @@ use Rattle.std.specs.Vec.{with_items}
 use Rattle.std.proofs.lemmas.List.{with_items_is}
 use Rattle.rtt_base.specs.declared.text_packets.TextPacket.{TextPacket}
 use Rattle.gap_tracker.specs.Stories.{Story, given_of}
-use Rattle.ear.specs.Hears.{ready_packets}
-use Rattle.ear.proofs.Given.{next_rises}
+use Rattle.receiver.specs.Hears.{ready_packets}
+use Rattle.receiver.proofs.Given.{next_rises}
 use Rattle.cascade.specs.declared.splitters.SourceRecording.{SourceRecording}
 use Rattle.cascade.specs.declared.dividers.Demux.{Demux}
 use Rattle.cascade.specs.Dividing.{Divides, TakesDue, lively_by}

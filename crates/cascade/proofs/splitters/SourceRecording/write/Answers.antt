@@ -2,7 +2,7 @@ use Rattle.std.proofs.Common.{◌≡◌, ℕ, List, ◌++◌, ◌+◌, ◌%◌, 
 use Rattle.std.specs.Prelude.{max}
 use Rattle.wire_spec.specs.Dump.{record_written}
 use Rattle.wire_spec.specs.SentPackets.{packet_written}
-use Rattle.cascade_spec.specs.Splitting.{moment_of, packet_of, timestamp_of}
+use Rattle.command_spec.specs.Splitting.{moment_of, packet_of, timestamp_of}
 use Rattle.cascade.specs.Splitters.{hand_of}
 use Rattle.cascade.proofs.splitters.SourceRecording.write.Goals as goal
 

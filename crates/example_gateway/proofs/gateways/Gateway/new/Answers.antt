@@ -1,6 +1,6 @@
 use Rattle.std.proofs.Common.{◌≡◌, ◌<◌, ◌∙◌, ◌+◌, List, ap, arith, length}
 use Rattle.std.proofs.lemmas.List.{length-map, length_push}
-use Rattle.conference.specs.Conferences.{meaning_of}
+use Rattle.file_spec.specs.Conferences.{meaning_of}
 use Rattle.mixer_turn.specs.Making.{source_counts}
 use Rattle.example_gateway.specs.declared.legs.Leg.{Leg}
 use Rattle.example_gateway.specs.Outputs.{counts_of}

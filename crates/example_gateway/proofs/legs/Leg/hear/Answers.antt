@@ -1,5 +1,5 @@
 use Rattle.std.proofs.Math.Logic.{∥∥₁_map}
-use Rattle.ear.specs.Hears.{text_for, told}
+use Rattle.receiver.specs.Hears.{text_for, told}
 use Rattle.example_gateway.proofs.Ears.{becomes_giving}
 use Rattle.example_gateway.proofs.legs.Leg.hear.Goals as goal
 

@@ -1,7 +1,7 @@
 use Rattle.std.proofs.Common.{◌∙◌, ℕ, List, length, ap, sym, subst}
 use Rattle.terminal.specs.declared.settings.TerminalSettings.{TerminalSettings}
 use Rattle.terminal.specs.Terminals.{Heard}
-use Rattle.serve_spec.specs.Served.{came_at_once}
+use Rattle.live_spec.specs.Served.{came_at_once}
 use Rattle.live_run.specs.Listeners.{HasHeard, Listening}
 use Rattle.live_run.proofs.listeners.Listener.finished.Goals as goal
 

@@ -1,6 +1,6 @@
 use Rattle.std.proofs.Common.{◌≡◌, true, false, sym, ◌∙◌, arith}
 use Rattle.mixer_spec.specs.Table.{is_seated}
-use Rattle.seating.specs.Places.{has_place}
+use Rattle.mixer_places.specs.Places.{has_place}
 use Rattle.mixer_turn.specs.Turns.{turned_below}
 use Rattle.mixer_turn.proofs.Few.{few_before, none_more, one_more_where}
 use Rattle.mixer_turn.proofs.Putting.{leg_turned, leg_passed}

@@ -4,7 +4,7 @@ use Rattle.std.proofs.lemmas.List.{length-map}
 use Rattle.file_spec.specs.declared.conference_lines.LegLine.{LegLine}
 use Rattle.mixer_spec.specs.Setups.{setup}
 use Rattle.mixer_spec.proofs.Conferences.{setup_law}
-use Rattle.conference.specs.Conferences.{meaning_of}
+use Rattle.file_spec.specs.Conferences.{meaning_of}
 use Rattle.mixer_turn.specs.Making.{source_counts}
 use Rattle.mixer_turn.proofs.Counting.{counts_are}
 use Rattle.mixer_turn.proofs.Made.{name_there}

@@ -1,7 +1,7 @@
 use Rattle.std.proofs.Common.{◌≡◌, Some, length, subst, sym}
 use Rattle.mixer_spec.specs.Table.{serve_leg}
-use Rattle.slot_table.specs.Words.{fetched}
-use Rattle.slot_table.specs.Standing as slots
+use Rattle.mixer_places.specs.Words.{fetched}
+use Rattle.mixer_places.specs.SlotStanding as slots
 use Rattle.outlet.specs.AwareStates.{AwareState}
 use Rattle.outlet.specs.AwareTurns.{IsTurned, text_of_leg}
 use Rattle.outlet.proofs.AwareServing.{leg_served}

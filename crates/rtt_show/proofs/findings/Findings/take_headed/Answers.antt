@@ -1,5 +1,5 @@
 use Rattle.std.proofs.Common.{◌≡◌, ◌+◌, ◌*◌, ◌<◌, ◌^◌, sym, ◌∙◌, subst, refl, arith}
-use Rattle.rtp_header.specs.Headers.{reading}
+use Rattle.rtp_text.specs.Headers.{reading}
 use Rattle.rtt_show.specs.Groups.{GroupsMore}
 use Rattle.rtt_show.proofs.Grouping.{on_ok}
 use Rattle.rtt_show.proofs.Finding.{some_octets, small_pair, is_record, of_stream, of_pair}

@@ -1,5 +1,5 @@
 use Rattle.std.proofs.Common.{◌≡◌, ℕ, List, ◌+◌, ◌<◌, ◌++◌, ap, arith, drop, length, get_or, subst, sym, take, ◌∙◌}
-use Rattle.times_spec.specs.Times.{day_of}
+use Rattle.report_spec.specs.Times.{day_of}
 use Rattle.rtt_times.specs.Lines.{timed_line, timed_written}
 use Rattle.rtt_times.specs.declared.lines.Span.{Span}
 use Rattle.rtt_times.proofs.Kept.{early_at, place_is, timed_more}

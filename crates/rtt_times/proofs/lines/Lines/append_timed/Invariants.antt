@@ -1,6 +1,6 @@
 use Rattle.std.proofs.Common.{◌≡◌, ◌++◌, List, drop}
 use Rattle.rtt_times.specs.Lines.{Keeps, Line, timed_written}
-use Rattle.times_spec.specs.Times.{day_of}
+use Rattle.report_spec.specs.Times.{day_of}
 use Rattle.rtt_times.proofs.lines.Lines.append_timed.Given as goal
 
 abbrev pub invariant-loop-index : goal.invariant-loop-index

@@ -1,5 +1,5 @@
 use Rattle.wire_spec.specs.Packets.{packet_of}
-use Rattle.red_blocks.specs.Views.{packet_in}
+use Rattle.rtp_text.specs.Views.{packet_in}
 use Rattle.rtt_times.proofs.Hearing.{no_text_heard, text_heard, with_packet_heard}
 use Rattle.rtt_times.proofs.Writing.{on_ok}
 use Rattle.rtt_times.proofs.stream_packets.StreamPackets.take_octets.Goals as goal

@@ -1,5 +1,5 @@
 use Rattle.std.proofs.Common.{refl}
-use Rattle.red_blocks.specs.Views.{packet_in}
+use Rattle.rtp_text.specs.Views.{packet_in}
 use Rattle.rtt_times.specs.declared.stream_packets.StreamPackets.{StreamPackets}
 use Rattle.rtt_times.proofs.Hearing.{hears_viewed}
 use Rattle.rtt_times.proofs.stream_packets.StreamPackets.take_viewed.Goals as goal

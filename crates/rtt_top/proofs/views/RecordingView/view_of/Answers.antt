@@ -8,9 +8,9 @@ use Rattle.command_spec.specs.Listing.{list_view}
 use Rattle.command_spec.specs.Reading.{read_view}
 use Rattle.command_spec.specs.Showing.{if_no_recording}
 use Rattle.command_spec.specs.Transcripts.{transcript_view}
-use Rattle.show_spec.specs.Showing.{recording_view, show_view}
-use Rattle.times_spec.specs.Times.{timed_view, times_view}
-use Rattle.rtt_script.specs.Writing.{IsTranscript}
+use Rattle.report_spec.specs.Showing.{recording_view, show_view}
+use Rattle.report_spec.specs.Times.{timed_view, times_view}
+use Rattle.recording_views.specs.Writing.{IsTranscript}
 use Rattle.rtt_show.specs.Gathers.{RecordingIsRefused}
 use Rattle.rtt_top.specs.declared.views.RecordingView.{RecordingView}
 use Rattle.rtt_top.specs.RecordingViews.{IsRefusal, IsViewFrom, IsViewOf, refused_by, view_by}

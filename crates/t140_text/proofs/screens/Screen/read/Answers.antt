@@ -1,10 +1,10 @@
 use Rattle.std.proofs.Common.{◌≡◌, ℕ, ◌+◌, Bool, true, false, ◌&&◌, eqb, List, [], ◌∷◌, ◌++◌, ◌⊎◌, inl, inr, refl, sym, ap, ◌∙◌, arith, string_bytes, encode_utf8_all}
 use Rattle.std.proofs.lemmas.Bool.Decides.{nat_tests}
-use Rattle.text_spec.specs.declared.classes.CharClass.{CharClass}
-use Rattle.text_spec.specs.declared.classes.CharClass.TheVariants.{Erase, Bell, NewLine, Silent, Marker, Print}
-use Rattle.text_spec.specs.Characters.{class_of}
-use Rattle.text_spec.specs.Shown.{signs, survivors, bells, ends_with_cr}
-use Rattle.text_spec.proofs.Steps.{stands-erase, stands-bell, stands-silent, stands-shown, stands-new_line, stands-cr_lf, bells_more, bells_same, bells_shown, ends_with_cr-last}
+use Rattle.view_spec.specs.declared.classes.CharClass.{CharClass}
+use Rattle.view_spec.specs.declared.classes.CharClass.TheVariants.{Erase, Bell, NewLine, Silent, Marker, Print}
+use Rattle.view_spec.specs.Characters.{class_of}
+use Rattle.view_spec.specs.Shown.{signs, survivors, bells, ends_with_cr}
+use Rattle.view_spec.proofs.Steps.{stands-erase, stands-bell, stands-silent, stands-shown, stands-new_line, stands-cr_lf, bells_more, bells_same, bells_shown, ends_with_cr-last}
 use Rattle.t140_text.specs.declared.screens.Screen.{Screen}
 use Rattle.t140_text.proofs.Erased.{longer_text}
 use Rattle.t140_text.proofs.screens.Screen.read.Goals as goal

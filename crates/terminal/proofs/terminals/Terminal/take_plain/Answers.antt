@@ -1,8 +1,8 @@
 use Rattle.std.proofs.Common.{◌≡◌, ◌+◌, List, length, refl, ap, sym, subst, arith}
 use Rattle.std.specs.Vec.{with_items}
 use Rattle.std.proofs.lemmas.List.{with_items_is}
-use Rattle.source_receiver.specs.declared.source_texts.SourceText.{SourceText}
-use Rattle.ear.specs.Plain.{HearsPlain}
+use Rattle.receiver.specs.declared.source_texts.SourceText.{SourceText}
+use Rattle.receiver.specs.EarPlain.{HearsPlain}
 use Rattle.terminal.specs.declared.terminals.Terminal.{Terminal}
 use Rattle.terminal.proofs.Listening.{took_plain}
 use Rattle.terminal.proofs.terminals.Terminal.take_plain.Goals as goal

@@ -4,7 +4,7 @@ use Rattle.std.specs.Prelude.{is_some}
 use Rattle.std.specs.Vec.{with_items}
 use Rattle.std.proofs.lemmas.List.{with_items_is}
 use Rattle.mixer_spec.specs.Composed.{began_alone, began_behind_cr, chars_of, run_of, text_given, Asked}
-use Rattle.slot_table.specs.Standing.{SlotsStandFor}
+use Rattle.mixer_places.specs.SlotStanding.{SlotsStandFor}
 use Rattle.unaware_view.specs.States.{State}
 use Rattle.unaware_view.specs.Insides.{state_of}
 use Rattle.unaware_view.specs.Choices.{is_set, speaker_of}

@@ -1,6 +1,6 @@
 use Rattle.unaware_view.proofs.runs.Run.begin_alone.Goals as goal
 use Rattle.std.proofs.Common.{[], ◌++◌, true, refl, ap, ◌∙◌}
-use Rattle.text_spec.specs.Views.{label_after}
+use Rattle.view_spec.specs.TextViews.{label_after}
 use Rattle.unaware_view.proofs.RunSteps.{opened}
 
 pub returns-clause-alone : goal.returns-clause-alone

@@ -1,6 +1,6 @@
 use Rattle.unaware_view.proofs.runs.Run.head_before.Goals as goal
 use Rattle.std.proofs.Common.{◌≡◌, Bool, true, length, length-append, ap, sym, ◌∙◌, arith}
-use Rattle.text_spec.specs.Views.{label_after}
+use Rattle.view_spec.specs.TextViews.{label_after}
 use Rattle.mixer_spec.proofs.Texts.{label_less}
 use Rattle.unaware_view.specs.Runs.{is_headed, label_room}
 use Rattle.unaware_view.proofs.RunSteps.{headed_parts}

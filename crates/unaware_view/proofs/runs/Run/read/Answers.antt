@@ -1,8 +1,8 @@
 use Rattle.unaware_view.proofs.runs.Run.read.Goals as goal
 use Rattle.std.proofs.Common.{ap, ◌∙◌}
 use Rattle.std.specs.Prelude.{◌==◌}
-use Rattle.text_spec.specs.declared.classes.CharClass.{CharClass}
-use Rattle.text_spec.specs.Characters.{opens}
+use Rattle.view_spec.specs.declared.classes.CharClass.{CharClass}
+use Rattle.view_spec.specs.Characters.{opens}
 use Rattle.unaware_view.specs.Runs.{erasable_by}
 
 pub returns-clause-run : goal.returns-clause-run

@@ -2,7 +2,7 @@ use Rattle.unaware_view.proofs.runs.Run.write.Goals as goal
 use Rattle.std.proofs.Common.{◌≡◌, [], sym, ◌∙◌, arith, length, chars}
 use Rattle.std.proofs.lemmas.List.{nil_from_length}
 use Rattle.std.proofs.lemmas.Bool.{eqb-true}
-use Rattle.text_spec.specs.Views.{without_directions}
+use Rattle.view_spec.specs.TextViews.{without_directions}
 use Rattle.unaware_view.proofs.RunSteps.{write_end}
 
 pub returns-clause-sends : goal.returns-clause-sends

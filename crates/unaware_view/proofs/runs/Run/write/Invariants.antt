@@ -1,7 +1,7 @@
 use Rattle.std.proofs.Common.{◌≡◌, ◌+◌, ◌≤◌, ℕ, Bool, List, length, chars, IsUtf8}
 use denote.Text.{Utf8}
 use denote.Shadow.{shadow}
-use Rattle.text_spec.specs.Views.{without_directions}
+use Rattle.view_spec.specs.TextViews.{without_directions}
 use Rattle.unaware_view.specs.Runs.{IsRun, Writes, label_room}
 use Rattle.unaware_view.proofs.runs.Run.write.Given as goal
 use Rattle.rtt_base.specs.declared.limits.TheConstants.{MOST_TEXT_OCTETS}

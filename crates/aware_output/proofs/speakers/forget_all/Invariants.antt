@@ -1,6 +1,0 @@
-use Rattle.std.proofs.Common.{◌≡◌, ℕ, ◌++◌, map, take, drop}
-use Rattle.aware_output.specs.Speakers.{anew}
-use Rattle.aware_output.proofs.speakers.forget_all.Given as goal
-
-abbrev pub invariant-loop-speaker : goal.invariant-loop-speaker
-invariant-loop-speaker l = (base : ℕ) → l.speakers ≡ map (anew l.generations base) (take l.speaker-index l.fn.speakers) ++ drop l.speaker-index l.fn.speakers

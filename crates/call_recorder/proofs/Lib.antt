@@ -1,4 +1,0 @@
-pub mod Pieces
-pub mod Under
-pub mod Fronts
-pub mod Noting

@@ -1,0 +1,18 @@
+use Rattle.std.proofs.Common.{◌≡◌, ◌≤◌, ℕ, List, length}
+use Rattle.std.specs.Vec.{vec_len, vec_capacity}
+use Rattle.cascade.specs.Splits.{recordings_of}
+use Rattle.cascade.specs.TrunkSources.{faults_in, left_in, name_in}
+use Rattle.cascade.specs.Feeding.{AllFed, AreCalm}
+use Rattle.cascade.proofs.feeds.open_legs.Given as goal
+
+abbrev pub invariant-loop-index : goal.invariant-loop-index
+invariant-loop-index g l = record {
+  count : length l.inlets.items ≡ l.index;
+  len : vec_len l.inlets ≡ l.index;
+  room : length l.legs ≤ vec_capacity l.inlets;
+  fed : AllFed g.W.World.tells g.W.Src.Source.tells (left_in g.W.Src.Source.left) (faults_in g.W.Src.Source.faults) (name_in g.W.Src.Source.name) (g.W.World.contents l.fn.world) l.wait l.limit l.legs (recordings_of l.splits) l.inlets.items;
+  calm : AreCalm (faults_in g.W.Src.Source.faults) l.inlets.items;
+  same_own : (n : List ℕ) → g.W.World.own_faults l.world n ≡ g.W.World.own_faults l.fn.world n;
+  same_objects : (n : List ℕ) → g.W.World.object_faults l.world n ≡ g.W.World.object_faults l.fn.world n;
+  contents : g.W.World.tells → (n : List ℕ) → g.W.World.contents l.world n ≡ g.W.World.contents l.fn.world n;
+}

@@ -1,2 +1,0 @@
-pub mod LongFiles
-mod Examples

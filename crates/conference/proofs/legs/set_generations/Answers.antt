@@ -1,6 +1,0 @@
-use Rattle.file_spec.specs.Conference.{with_generations}
-use Rattle.conference.proofs.Changed.{change_at}
-use Rattle.conference.proofs.legs.set_generations.Goals as goal
-
-pub returns : goal.returns
-returns c = change_at (with_generations c.args.generations) c.args.legs.now c.args.leg c.item_mut.result.now c.requires c.item_mut.ensures.value

@@ -1,6 +1,0 @@
-use Rattle.conference.specs.Changes.{with_name}
-use Rattle.conference.proofs.Changed.{change_at}
-use Rattle.conference.proofs.legs.set_name.Goals as goal
-
-pub returns : goal.returns
-returns c = change_at (with_name c.args.name) c.args.legs.now c.args.leg c.item_mut.result.now c.requires c.item_mut.ensures.value

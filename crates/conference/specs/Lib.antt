@@ -1,3 +1,0 @@
-pub mod Conferences
-pub mod Changes
-pub mod Speakers

@@ -1,7 +1,0 @@
-pub mod Each
-pub mod Accepted
-pub mod Given
-pub mod ReadyBy
-pub mod Giving
-pub mod Plain
-pub mod Anew

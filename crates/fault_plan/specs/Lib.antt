@@ -1,3 +1,0 @@
-pub mod Arriving
-pub mod Fates
-pub mod Unplanned

@@ -1,5 +1,0 @@
-pub mod Digits
-pub mod EachLine
-pub mod FirstLine
-pub mod LineByLine
-pub mod TextLine

@@ -1,4 +1,0 @@
-pub mod Readings
-pub mod Sound
-pub mod Fronts
-mod Examples

@@ -1,5 +1,0 @@
-use Rattle.frame_spec.proofs.Sound.{read_back}
-use Rattle.frame_spec.proofs.laws.frames_are_read_back.Goals as goal
-
-pub returns : goal.returns
-returns c = read_back

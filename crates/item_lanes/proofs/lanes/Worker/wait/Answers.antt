@@ -1,4 +1,0 @@
-use Rattle.item_lanes.proofs.lanes.Worker.wait.Goals as goal
-
-pub returns-clause-runs : goal.returns-clause-runs
-returns-clause-runs g c = λ first began x e. c.step_runner.ensures.stands x (began x e)

@@ -1,2 +1,0 @@
-pub mod Relaying
-pub mod Feeding

@@ -1,4 +1,0 @@
-pub mod Rule
-pub mod Passes
-pub mod Giving
-pub mod Feeds

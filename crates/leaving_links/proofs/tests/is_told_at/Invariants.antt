@@ -1,5 +1,0 @@
-use Rattle.leaving_links.proofs.tests.is_told_at.Given as goal
-
--- so long as is said
-abbrev pub ghosts-is_told_by : goal.ghosts-is_told_by
-ghosts-is_told_by a = record { longest = a.longest }

@@ -1,4 +1,0 @@
-pub mod Feeding
-pub mod Telling
-pub mod OfConferences
-pub mod Pushing

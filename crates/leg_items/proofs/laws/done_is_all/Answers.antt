@@ -1,5 +1,0 @@
-use Rattle.leg_items.proofs.Pushing.{done_all}
-use Rattle.leg_items.proofs.laws.done_is_all.Goals as goal
-
-pub returns : goal.returns
-returns g c = λ first feed a t s st d. done_all g.S.Source.tells g.S.Source.left g.S.Source.faults g.S.Source.name first feed a t s st d

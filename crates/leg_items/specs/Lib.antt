@@ -1,4 +1,0 @@
-pub mod Feds
-pub mod Answers
-pub mod Laws
-pub mod Done

@@ -1,2 +1,0 @@
-pub mod Mixings
-pub mod Jobs

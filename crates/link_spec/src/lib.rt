@@ -1,2 +1,0 @@
-//! What the inbound end of a link gives: definitions, and no code.
-#![tactic(auto)]

@@ -1,9 +1,0 @@
-pub mod Opening
-pub mod AsLeg
-pub mod Covering
-pub mod Finding
-pub mod Following
-pub mod Serving
-pub mod Closing
-pub mod Draining
-pub mod Served

@@ -1,4 +1,0 @@
-pub mod Signals
-pub mod Covers
-pub mod Laws
-pub mod Served

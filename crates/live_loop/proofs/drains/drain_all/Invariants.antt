@@ -1,5 +1,0 @@
-use Rattle.live_loop.specs.Walks.{AllGrew, AreAt}
-use Rattle.live_loop.proofs.drains.drain_all.Given as goal
-
-abbrev pub invariant-loop-leg : goal.invariant-loop-leg
-invariant-loop-leg g l = AreAt l.ports × AllGrew g.I.Consumer.popped g.I.Consumer.began l.fn.ports l.ports

@@ -1,4 +1,0 @@
-use Rattle.live_loop.proofs.lanes.WorkerLegItemLinkLegConsumer.wait.Goals as goal
-
-pub returns-clause-began : goal.returns-clause-began
-returns-clause-began g c = λ first h leg r. c.wait.ensures.runs leg (h leg r)

@@ -1,5 +1,0 @@
-use Rattle.live_loop.proofs.Begun.{may_begin}
-use Rattle.live_loop.proofs.laws.turns_may_begin.Goals as goal
-
-pub returns : goal.returns
-returns g c = may_begin g.I.Consumer.popped g.M.MixerCalls.stands

@@ -1,0 +1,13 @@
+pub mod Keeping
+pub mod Few
+pub mod Lists
+pub mod Fronts
+pub mod Sizes
+pub mod Holding
+pub mod Utf8
+pub mod Taking
+pub mod Adding
+pub mod Rebasing
+pub mod Spanning
+pub mod Starting
+pub mod Sources

@@ -1,0 +1,11 @@
+pub mod States
+pub mod Places
+pub mod Insides
+pub mod SeatStanding
+pub mod Rings
+pub mod RingInsides
+pub mod Lanes
+pub mod LaneInsides
+pub mod Words
+pub mod SlotStanding
+pub mod SlotInsides

@@ -1,0 +1,69 @@
+-- Chunks in pieces.
+use Rattle.std.proofs.Common.{◌≡◌, ℕ, ◌≤◌, true, inl, inr, List, [], ◌∷◌, ◌++◌, length, refl, ap, ◌∙◌, arith}
+use Rattle.std.specs.Prelude.{map, IsUtf8}
+use Rattle.std.specs.List.{AllByRecursion}
+use Rattle.wire_spec.specs.Packets.{has_text}
+use Rattle.stream_spec.specs.Lists.{In}
+use Rattle.stream_spec.specs.Hearing.{text_list}
+use Rattle.stream_spec.specs.Ready.{Chunk, ReadyRises}
+use Rattle.stream_spec.proofs.Lists.{in_append}
+use Rattle.mixer_spec.specs.Laws.{AreTexts}
+use Rattle.mixer_spec.specs.Pieces.{pieces, chunk_pieces, chunks_cut}
+use Rattle.mixer_spec.proofs.Cutting as cut_texts
+use Rattle.mixer_spec.proofs.PieceTold.{HasTexts}
+
+abbrev pub as_chunks : Chunk → List (List ℕ) → List Chunk
+as_chunks c ts = map (λ t. record { source = c.source; ready = c.ready; text = t }) ts
+
+are_texts : (c : Chunk) (ts : List (List ℕ)) (rest : List Chunk) → HasTexts ts → AllByRecursion IsUtf8 ts → AreTexts rest → AreTexts (as_chunks c ts ++ rest)
+are_texts c [] rest h u a = a
+are_texts c (t ∷ ts) rest h u a = (h.0, u.0, are_texts c ts rest h.1 u.1 a)
+
+pub texts_law : (n : ℕ) → 4 ≤ n → (cs : List Chunk) → AreTexts cs → AreTexts (chunks_cut (pieces n) cs)
+texts_law n f [] a = tt
+texts_law n f (c ∷ cs) a = are_texts c (pieces n c.text) (chunks_cut (pieces n) cs) ((cut_texts.whole_law n f).some c.text) (cut_texts.text_law n c.text f a.1) (texts_law n f cs a.2)
+
+are_short : (n : ℕ) (c : Chunk) (ts : List (List ℕ)) (rest : List Chunk) → AllByRecursion (λ (t : List ℕ). length t ≤ n) ts → AllByRecursion (λ (c : Chunk). length c.text ≤ n) rest → AllByRecursion (λ (c : Chunk). length c.text ≤ n) (as_chunks c ts ++ rest)
+are_short n c [] rest h a = a
+are_short n c (t ∷ ts) rest h a = (h.0, are_short n c ts rest h.1 a)
+
+pub short_law : (n : ℕ) → 4 ≤ n → (cs : List Chunk) → AllByRecursion (λ (c : Chunk). length c.text ≤ n) (chunks_cut (pieces n) cs)
+short_law n f [] = tt
+short_law n f (c ∷ cs) = are_short n c (pieces n c.text) (chunks_cut (pieces n) cs) (cut_texts.short_law n c.text f) (short_law n f cs)
+
+-- a piece of chunks stands at the moment of one of them
+moment_in : (cutting : List ℕ → List (List ℕ)) (cs : List Chunk) (t : ℕ) → ((d : Chunk) → In d cs → t ≤ d.ready) → (d : Chunk) → In d (chunks_cut cutting cs) → t ≤ d.ready
+moment_in cutting [] t f d i = absurd i
+moment_in cutting (c ∷ cs) t f d i = elim (in_append d (chunk_pieces cutting c) (chunks_cut cutting cs) i) [
+  | inl j ↦ of_one (cutting c.text) j
+  | inr j ↦ moment_in cutting cs t (λ e k. f e (inr k)) d j
+]
+  where
+    of_one : (ts : List (List ℕ)) → In d (as_chunks c ts) → t ≤ d.ready
+    of_one [] i = absurd i
+    of_one (x ∷ ts) (inl e) = let l = f c (inl refl) in omega (arith, l, ap (λ (z : Chunk). z.ready) e)
+    of_one (x ∷ ts) (inr i) = of_one ts i
+
+one_rises : (c : Chunk) (ts : List (List ℕ)) (rest : List Chunk) → ReadyRises rest → ((d : Chunk) → In d rest → c.ready ≤ d.ready) → ReadyRises (as_chunks c ts ++ rest)
+one_rises c [] rest r f = r
+one_rises c (t ∷ ts) rest r f = (λ d i. elim (in_append d (as_chunks c ts) rest i) [ inl j ↦ same ts d j | inr j ↦ f d j ], one_rises c ts rest r f)
+  where
+    same : (ts : List (List ℕ)) (d : Chunk) → In d (as_chunks c ts) → c.ready ≤ d.ready
+    same [] d i = absurd i
+    same (x ∷ ts) d (inl e) = omega (arith, ap (λ (z : Chunk). z.ready) e)
+    same (x ∷ ts) d (inr i) = same ts d i
+
+pub rises_law : (cutting : List ℕ → List (List ℕ)) (cs : List Chunk) → ReadyRises cs → ReadyRises (chunks_cut cutting cs)
+rises_law cutting [] r = tt
+rises_law cutting (c ∷ cs) r = one_rises c (cutting c.text) (chunks_cut cutting cs) (rises_law cutting cs r.1) (moment_in cutting cs c.ready r.0)
+
+-- a text is its own list
+one_text : (text : List ℕ) → has_text text ≡ true → text_list text ≡ text ∷ []
+one_text [] e = cc e
+one_text (x ∷ text) e = refl
+
+pub stay_law : (n : ℕ) (cs : List Chunk) → AreTexts cs → AllByRecursion (λ (c : Chunk). length c.text ≤ n) cs → chunks_cut (pieces n) cs ≡ cs
+stay_law n [] a l = refl
+stay_law n (c ∷ cs) a l =
+    ap (λ ts. as_chunks c ts ++ chunks_cut (pieces n) cs) (cut_texts.stays_law n c.text l.0 ∙ one_text c.text a.0)
+    ∙ ap (λ ds. c ∷ ds) (stay_law n cs a.2 l.1)

@@ -1,4 +1,0 @@
-pub mod Stretches
-pub mod Named
-pub mod Heard
-pub mod Seen

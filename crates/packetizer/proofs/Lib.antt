@@ -1,0 +1,6 @@
+pub mod Repeating
+pub mod Fitting
+pub mod Speaking
+pub mod Fronts
+pub mod Sending
+pub mod Scripts

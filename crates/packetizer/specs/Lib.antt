@@ -1,0 +1,15 @@
+pub mod Kept
+pub mod WindowStanding
+pub mod WindowLaws
+pub mod OutputSettings
+pub mod Speakers
+pub mod OutputStates
+pub mod OutputStanding
+pub mod Sending
+pub mod OutputLaws
+pub mod SenderSettings
+pub mod SenderStates
+pub mod Insides
+pub mod SenderStanding
+pub mod Scripts
+pub mod SenderLaws

@@ -1,8 +1,0 @@
-use Rattle.piece_spec.proofs.laws.told_in_pieces.Goals as goal
-use Rattle.piece_spec.proofs.Told.{said_law, told_law}
-
-pub returns-clause-said : goal.returns-clause-said
-returns-clause-said c = said_law
-
-pub returns-clause-each : goal.returns-clause-each
-returns-clause-each c = told_law

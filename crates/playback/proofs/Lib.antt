@@ -1,0 +1,10 @@
+pub mod Order
+pub mod Packets
+pub mod PlanUnplanned
+pub mod PlayedUnplanned
+pub mod Going
+pub mod PlayedCopies
+pub mod Sendings
+pub mod SameRecords
+pub mod Whole
+pub mod SaidTexts

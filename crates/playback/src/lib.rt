@@ -1,0 +1,16 @@
+//! Playback of what was sent to a terminal: what comes to it by the plan of a conference, and what is heard and counted there.
+#![tactic(auto)]
+
+mod copies;
+mod fates;
+mod indexes;
+pub mod plan_laws;
+pub mod played_laws;
+mod receptions;
+mod sent_texts;
+
+pub use copies::{Arrival, arrivals};
+pub use receptions::played;
+
+#[cfg(test)]
+mod tests;

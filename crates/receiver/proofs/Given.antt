@@ -1,0 +1,92 @@
+-- Used packets rise in number and are no more than came, and those that were given are the first of them.
+use Rattle.std.proofs.Common.{◌≡◌, ℕ, suc, ◌+◌, ◌<◌, ◌≤◌, Bool, true, false, cond, Option, Some, None, List, [], ◌∷◌, ◌++◌, refl, ap, sym, ◌∙◌, inl, inr, arith, length, map, length-append, append_assoc, subst}
+use Rattle.std.specs.Option.{ForSome}
+use Rattle.std.proofs.lemmas.List.{map-append, length-map}
+use Rattle.wire_spec.specs.Packets.{Arrival, IsTextPacket, AreTextArrivals}
+use Rattle.stream_spec.specs.Lists.{In}
+use Rattle.stream_spec.specs.Numbering.{Numbered, RisingNumbers, numbered, in_time, used, by_number}
+use Rattle.stream_spec.specs.ChunksBy.{stamped}
+use Rattle.stream_spec.proofs.Rising.{used_rises, length_by_number, rising_below}
+use Rattle.stream_spec.proofs.Lists.{in_right, in_left}
+use Rattle.stream_spec.proofs.ReadyBy.{rising_stamped}
+use Rattle.stream_spec.proofs.Matched.{used_in}
+use Rattle.gap_tracker.specs.Stories.{Story, Given, gave, dues, due_at}
+use Rattle.gap_tracker.specs.Tracks.{Tracks}
+use Rattle.gap_tracker.specs.States.{State, arrival_count}
+use Rattle.gap_tracker.proofs.Giving.{order_is}
+use Rattle.receiver.specs.Hears.{ready_packet, ready_packets, last_after}
+use Rattle.stream_spec.proofs.HeardTexts.{numbered_texts}
+
+-- ---- no more than came
+length-used : (wait : ℕ) (past : List Numbered) → length (used wait past) ≤ length past
+length-used wait [] = omega arith
+length-used wait (e ∷ past) = go (in_time wait e past) (length-used wait past)
+  where
+    go : (t : Bool) → length (used wait past) ≤ length past → length (cond t (by_number e (used wait past)) (used wait past)) ≤ suc (length past)
+    go true h = omega (arith, length_by_number e (used wait past))
+    go false h = omega arith
+
+numbered_length : (a : List Arrival) → length (numbered a) ≡ length a
+numbered_length [] = refl
+numbered_length (x ∷ past) = ap suc (numbered_length past)
+
+-- ---- in rising number
+pub ready_stamped : (wait : ℕ) (past us : List Numbered) → ready_packets (map (due_at wait past) us) ≡ map (stamped wait past) us
+ready_stamped wait past [] = refl
+ready_stamped wait past (u ∷ us) = ap (λ xs. stamped wait past u ∷ xs) (ready_stamped wait past us)
+
+pub dues_rise : (story : Story) → RisingNumbers (ready_packets (dues story))
+dues_rise story = rw (ready_stamped story.wait (numbered story.past) (used story.wait (numbered story.past))) (rising_stamped story.wait (numbered story.past) _ (used_rises story.wait (numbered story.past)))
+
+-- ---- what was given is a front of what is due
+pub record Fronts (story : Story) : Type 0 where
+  pub rest : List Given
+  pub is : dues story ≡ story.given ++ rest
+
+pub fronts : (s : State) (story : Story) → Tracks s story → Fronts story
+fronts s story k =
+    let o = order_is s story k in
+    let held : List Given = map (due_at story.wait (numbered story.past)) s.held in
+    record { rest = s.settled ++ held; is = o.dues_are ∙ (ap (λ gs. gs ++ held) o.ready_is ∙ append_assoc story.given s.settled held) }
+
+pub given_fits : (s : State) (story : Story) → Tracks s story → length story.given ≤ arrival_count s
+given_fits s story t =
+    let f = fronts s story t in
+    let all : length (dues story) ≡ length (used story.wait (numbered story.past)) = length-map (used story.wait (numbered story.past)) (due_at story.wait (numbered story.past)) in
+    let few = length-used story.wait (numbered story.past) in
+    let came : length (numbered story.past) ≡ length story.past = numbered_length story.past in
+    let two : length (dues story) ≡ length story.given + length f.rest = ap length f.is ∙ length-append story.given f.rest in
+    omega (arith, t.follows.arrivals)
+
+-- the packets given before are below the one given now
+pub above_given : (s : State) (story : Story) (g : Given) → Tracks s (gave story g) → (y : Numbered) → In y (ready_packets story.given) → y.number < g.number
+above_given s story g t = rising_below (ready_packets story.given) (ready_packet g) (ready_packets (fronts s (gave story g) t).rest) all
+  where
+    all : RisingNumbers (ready_packets story.given ++ ready_packet g ∷ ready_packets (fronts s (gave story g) t).rest)
+    all = let r = dues_rise (gave story g) in
+        rw ((fronts s (gave story g) t).is, map-append ready_packet (story.given ++ g ∷ []) (fronts s (gave story g) t).rest, map-append ready_packet story.given (g ∷ []), append_assoc (ready_packets story.given) (ready_packet g ∷ []) (ready_packets (fronts s (gave story g) t).rest)) at r
+
+pub next_rises : (s : State) (story : Story) (g : Given) → Tracks s (gave story g) → ForSome (last_after None (ready_packets story.given)) (λ latest. latest < g.number)
+next_rises s story g t latest e = above (ready_packets story.given) None (λ n q. absurd (cc)) (above_given s story g t) e
+  where
+    above : (us : List Numbered) (last : Option ℕ) → ((n : ℕ) → last ≡ Some n → n < g.number) → ((y : Numbered) → In y us → y.number < g.number) → last_after last us ≡ Some latest → latest < g.number
+    above [] last p q h = p latest h
+    above (u ∷ us) last p q h = above us (Some u.number) (λ n k. let m : u.number ≡ n = cc in let l = q u (inl refl) in omega (arith, m)) (λ y i. q y (inr i)) h
+
+-- a packet that was given came
+pub given_text : (s : State) (story : Story) (g : Given) → Tracks s (gave story g) → AreTextArrivals story.past → IsTextPacket g.packet
+given_text s story g t texts =
+    let f = fronts s (gave story g) t in
+    let here : In g (dues (gave story g)) = subst (λ (gs : List Given). In g gs) (sym f.is) (in_left g (story.given ++ g ∷ []) f.rest (in_right g story.given (g ∷ []) (inl refl))) in
+    let u = back (used story.wait (numbered story.past)) here in
+    subst IsTextPacket (sym u.2) (numbered_texts story.past texts u.0 (used_in story.wait (numbered story.past) u.0 u.1))
+  where
+    back : (us : List Numbered) → In g (map (due_at story.wait (numbered story.past)) us) → (u : Numbered) × In u us × (g.packet ≡ u.packet)
+    back [] i = absurd i
+    back (u ∷ us) (inl e) = (u, inl refl, ap (λ (h : Given). h.packet) e)
+    back (u ∷ us) (inr i) = let r = back us i in (r.0, inr r.1, r.2)
+
+-- ---- the last number
+pub last_snoc : (last : Option ℕ) (us : List Numbered) (u : Numbered) → last_after last (us ++ u ∷ []) ≡ Some u.number
+last_snoc last [] u = refl
+last_snoc last (v ∷ us) u = last_snoc (Some v.number) us u

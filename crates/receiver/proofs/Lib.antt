@@ -1,0 +1,11 @@
+pub mod Parts
+pub mod Takes
+pub mod Blockwise
+pub mod Plain
+pub mod Each
+pub mod Accepted
+pub mod Given
+pub mod ReadyBy
+pub mod Giving
+pub mod EarPlain
+pub mod Anew

@@ -1,0 +1,33 @@
+use Rattle.std.proofs.Common.{◌≡◌, ◌<◌, IsUtf8, [], ◌∷◌, length, refl, ap, sym, arith, subst}
+use Rattle.std.proofs.lemmas.Bool.Decides.{nat_tests}
+use Rattle.stream_spec.specs.Ready.{Chunk, chunk_of}
+use Rattle.rtp_text.specs.Views.{packet_in}
+use Rattle.receiver.proofs.EarPlain.{rises_there, gives_plain, primary_utf8, texts_none, texts_one}
+use Rattle.receiver.proofs.ears.Ear.hear_plain_chunk.Goals as goal
+
+pub take_plain_piece-requires-clause-rises : goal.take_plain_piece-requires-clause-rises
+take_plain_piece-requires-clause-rises c = rises_there c.args.self.now c.args.now c.in-Some-next_in_order.number (packet_in c.in-Some.view) c.in-Some-next_in_order.ensures.next c.in-Some-next_in_order.ensures.number c.requires.gave
+
+pub returns-then-is_empty-clause-none : goal.returns-then-is_empty-clause-none
+returns-then-is_empty-clause-none c = λ ok.
+    let t = c.if-not-take_plain_piece.false in
+    let r = c.take_plain_piece.ensures in
+    let e = c.is_empty.ensures in
+    let q = c.if-is_empty.true in
+    let nothing : length c.in-Some.view.primary.now ≡ 0 = grind (arith, nat_tests) in
+    gives_plain c.args.self.now _ c.in-Some.view c.args.now c.in-Some-next_in_order.number c.give_at_once-ready.result c.args.octets.now c.requires.quiet c.in-Some-next_in_order.ensures.number c.in-Some.ensures.packet refl refl
+    c.give_at_once-ready.ensures.stands (r.stands t) (r.latest t) (r.heard t) [] (texts_none c.give_at_once-ready.result c.in-Some.view.primary.now nothing)
+
+pub returns-clause-some : goal.returns-clause-some
+returns-clause-some c = λ ok.
+    let t = c.if-not-take_plain_piece.false in
+    let r = c.take_plain_piece.ensures in
+    let e = c.is_empty.ensures in
+    let q = c.if-is_empty.false in
+    let some : 0 < length c.in-Some.view.primary.now = grind (arith, nat_tests) in
+    gives_plain c.args.self.now _ c.in-Some.view c.args.now c.in-Some-next_in_order.number c.give_at_once-ready.result c.args.octets.now c.requires.quiet c.in-Some-next_in_order.ensures.number c.in-Some.ensures.packet refl refl
+    c.give_at_once-ready.ensures.stands (r.stands t) (r.latest t) (r.heard t) (chunk_of c.write_chunk.new.chunk ∷ [])
+    (texts_one c.give_at_once-ready.result c.in-Some.view.primary.now (chunk_of c.write_chunk.new.chunk) c.write_chunk.ensures some)
+
+pub returns-clause-utf8 : goal.returns-clause-utf8
+returns-clause-utf8 c = λ ok. subst IsUtf8 (sym (ap (λ (k : Chunk). k.text) c.write_chunk.ensures)) (primary_utf8 c.args.self.now.settings c.args.octets.now c.in-Some.view c.in-Some.ensures.packet)

@@ -1,6 +1,0 @@
-mod Examples
-pub mod Heads
-pub mod Reading
-pub mod Growing
-pub mod Heard
-pub mod Fronts

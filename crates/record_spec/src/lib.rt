@@ -1,4 +1,0 @@
-//! What a call writes down of its links as it runs: definitions and their laws, and no code.
-#![tactic(auto)]
-
-pub mod laws;

@@ -1,0 +1,11 @@
+mod ReadExamples
+pub mod Hearing
+pub mod Digits
+pub mod Going
+pub mod Sizes
+mod ListExamples
+pub mod Escaping
+pub mod Printing
+pub mod Unescaping
+pub mod Reading
+mod ScriptExamples

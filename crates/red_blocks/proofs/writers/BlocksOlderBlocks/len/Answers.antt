@@ -1,6 +1,0 @@
-use Rattle.std.proofs.Common.{ap, sym, ◌-◌, ◌∙◌}
-use Rattle.red_blocks.proofs.Spelling.{redundant_length}
-use Rattle.red_blocks.proofs.writers.BlocksOlderBlocks.len.Goals as goal
-
-pub returns : goal.returns
-returns c = λ _. c.saturating_sub.ensures ∙ (ap (λ n. n - 1) c.len.ensures.value ∙ sym (redundant_length c.args.self.now))

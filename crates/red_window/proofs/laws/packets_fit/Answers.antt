@@ -1,5 +1,0 @@
-use Rattle.stream_spec.proofs.Fitting.{packet_fits, few_octets}
-use Rattle.red_window.proofs.laws.packets_fit.Goals as goal
-
-pub returns : goal.returns
-returns c = record { fits = packet_fits; few = few_octets }

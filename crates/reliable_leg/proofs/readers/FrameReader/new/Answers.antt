@@ -1,5 +1,0 @@
-use Rattle.reliable_leg.proofs.Feeding.{goes_new}
-use Rattle.reliable_leg.proofs.readers.FrameReader.new.Goals as goal
-
-pub returns : goal.returns
-returns c = goes_new c.new.result c.new.ensures

@@ -1,0 +1,15 @@
+pub mod Ordered
+pub mod Numbers
+pub mod Times
+pub mod TimesLaws
+pub mod Missed
+pub mod Guesses
+pub mod Showing
+pub mod ShowLaws
+pub mod Told
+pub mod Sentences
+pub mod Forms
+pub mod Checking
+pub mod Inputs
+pub mod Ports
+pub mod Looks

@@ -1,3 +1,0 @@
-pub mod Rtcp
-pub mod Recorded
-pub mod Laws

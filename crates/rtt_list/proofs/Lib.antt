@@ -1,4 +1,0 @@
-pub mod Digits
-pub mod Going
-pub mod Sizes
-mod Examples

@@ -1,5 +1,0 @@
-pub mod Escaping
-pub mod Printing
-pub mod Unescaping
-pub mod Reading
-mod Examples

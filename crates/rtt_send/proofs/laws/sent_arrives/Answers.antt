@@ -1,8 +1,0 @@
-use Rattle.rtt_send.proofs.Arriving.{recording_arrives}
-use Rattle.rtt_send.proofs.laws.sent_arrives.Goals as goal
-
-pub returns : goal.returns
-returns c = record {
-  come = λ settings lines t r. (recording_arrives settings lines t r.settings_is r.ssrc r.lines_are r.until r.moments r.size).come;
-  all = λ settings lines t wait r. (recording_arrives settings lines t r.settings_is r.ssrc r.lines_are r.until r.moments r.size).all wait;
-}

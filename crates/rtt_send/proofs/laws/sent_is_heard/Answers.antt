@@ -1,5 +1,0 @@
-use Rattle.rtt_send.proofs.Heard.{script_heard}
-use Rattle.rtt_send.proofs.laws.sent_is_heard.Goals as goal
-
-pub returns : goal.returns
-returns c = λ settings lines t wait r e. script_heard settings lines t wait r.settings_is r.ssrc r.lines_are r.until e r.moments r.size

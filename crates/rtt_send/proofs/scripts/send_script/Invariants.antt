@@ -1,6 +1,0 @@
-use Rattle.std.proofs.Common.{take, drop}
-use Rattle.rtt_send.proofs.Lines.{Sends}
-use Rattle.rtt_send.proofs.scripts.send_script.Given as goal
-
-abbrev pub invariant-loop-index : goal.invariant-loop-index
-invariant-loop-index l = Sends l.fn.settings l.script (take l.index l.script) (drop l.index l.script) l.recorder

@@ -1,4 +1,0 @@
-pub mod States
-pub mod Places
-pub mod Insides
-pub mod Standing

@@ -1,7 +1,0 @@
--- What is known of places: the seat of each leg, and the leg that holds each place.
-use Rattle.std.specs.Prelude.{ℕ, Option, List}
-use Rattle.seating.specs.declared.seats.Seat.{Seat}
-
-pub record State : Type 0 where
-  pub legs : List Seat
-  pub places : List (Option ℕ)

@@ -1,6 +1,0 @@
-use Rattle.std.proofs.Common.{◌≡◌}
-use Rattle.sent_files.proofs.Trials.{log_with}
-use Rattle.sent_files.proofs.tests.log_of.Given as goal
-
-abbrev pub invariant-loop-number : goal.invariant-loop-number
-invariant-loop-number l = l.log ≡ log_with l.fn.stream l.number

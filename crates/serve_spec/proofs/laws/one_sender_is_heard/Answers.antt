@@ -1,8 +1,0 @@
-use Rattle.serve_spec.proofs.HeardLive.{one_sender, unfollowed}
-use Rattle.serve_spec.proofs.laws.one_sender_is_heard.Goals as goal
-
-pub returns-clause-heard : goal.returns-clause-heard
-returns-clause-heard c = one_sender
-
-pub returns-clause-unfollowed : goal.returns-clause-unfollowed
-returns-clause-unfollowed c = unfollowed

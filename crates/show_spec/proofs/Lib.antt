@@ -1,2 +1,0 @@
-pub mod ShowExamples
-pub mod Rows

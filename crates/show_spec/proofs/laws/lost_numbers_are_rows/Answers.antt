@@ -1,5 +1,0 @@
-use Rattle.show_spec.proofs.Rows.{rows_are_lost}
-use Rattle.show_spec.proofs.laws.lost_numbers_are_rows.Goals as goal
-
-pub returns : goal.returns
-returns c = rows_are_lost

@@ -1,4 +1,0 @@
-pub mod Missed
-pub mod Guesses
-pub mod Showing
-pub mod Laws

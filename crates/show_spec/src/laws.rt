@@ -1,7 +1,0 @@
-//! What holds of the definitions.
-ghost use Rattle.show_spec.specs.Laws.{LostAreRows};
-
-/// As many numbers of a stream are lost as stand in the rows that `times` tells of.
-pub fn lost_numbers_are_rows()
-    ensures { LostAreRows }
-{}

@@ -1,5 +1,0 @@
-use Rattle.slot_table.proofs.Sources.{Told}
-use Rattle.slot_table.proofs.slots.Slots.listen.Given as goal
-
-abbrev pub invariant-loop-source : goal.invariant-loop-source
-invariant-loop-source l = Told l.fn.terminal l.fn.on l.source l.fn.self l.self-inside.lanes.items

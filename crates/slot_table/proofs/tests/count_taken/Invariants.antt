@@ -1,5 +1,0 @@
-use Rattle.std.proofs.Common.{◌≡◌, ◌≤◌, length}
-use Rattle.slot_table.proofs.tests.count_taken.Given as goal
-
-abbrev pub invariant-loop : goal.invariant-loop
-invariant-loop l = (length l.slots ≡ length l.fn.slots) × (l.count ≤ l.counter)

@@ -1,4 +1,0 @@
-pub mod Parts
-pub mod Takes
-pub mod Blockwise
-pub mod Plain

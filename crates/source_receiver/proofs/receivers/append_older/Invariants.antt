@@ -1,7 +1,0 @@
-use Rattle.std.proofs.Common.{◌≡◌, ◌++◌, take}
-use Rattle.std.specs.List.{concat}
-use Rattle.source_receiver.specs.Steps.{older_since}
-use Rattle.source_receiver.proofs.receivers.append_older.Given as goal
-
-abbrev pub invariant-loop-block : goal.invariant-loop-block
-invariant-loop-block l = l.out ≡ l.initial.out ++ concat (older_since l.seen l.timestamp (take l.block-index l.older))

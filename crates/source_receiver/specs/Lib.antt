@@ -1,5 +1,0 @@
-pub mod Each
-pub mod Stands
-pub mod Steps
-pub mod Pieces
-pub mod Plain

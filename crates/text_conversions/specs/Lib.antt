@@ -1,0 +1,10 @@
+pub mod Fronts
+pub mod Readers
+pub mod Scripts
+pub mod Recordings
+pub mod SendAnswers
+pub mod Insides
+pub mod SendLaws
+pub mod RelayAnswers
+pub mod Channels
+pub mod RelayLaws

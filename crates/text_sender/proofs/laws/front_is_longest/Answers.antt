@@ -1,6 +1,0 @@
-use Rattle.stream_spec.proofs.Typing.{front_fits}
-use Rattle.text_sender.proofs.Scripts.{longest_front}
-use Rattle.text_sender.proofs.laws.front_is_longest.Goals as goal
-
-pub returns : goal.returns
-returns c = record { whole = λ n octets u. (front_fits n octets u).front_is; fits = λ n octets u. (front_fits n octets u).short; longest = longest_front }

@@ -1,7 +1,0 @@
-use Rattle.std.proofs.Common.{ap}
-use Rattle.std.specs.Prelude.{reverse}
-use Rattle.std.proofs.lemmas.Str.{chars-encodes}
-use Rattle.text_spec.proofs.laws.ends.Goals as goal
-
-pub returns : goal.returns
-returns c cs s = ap reverse (chars-encodes cs s)

@@ -1,8 +1,0 @@
-use Rattle.text_spec.proofs.Signs.{signs-append, signs-cr_lf}
-use Rattle.text_spec.proofs.laws.pieces.Goals as goal
-
-pub returns-clause-apart : goal.returns-clause-apart
-returns-clause-apart c = signs-append
-
-pub returns-clause-cr_lf : goal.returns-clause-cr_lf
-returns-clause-cr_lf c = signs-cr_lf

@@ -1,4 +1,0 @@
-pub mod Ordered
-pub mod Numbers
-pub mod Times
-pub mod Laws

@@ -1,7 +1,0 @@
-//! What holds of the definitions.
-ghost use Rattle.times_spec.specs.Laws.{TextLinesAreScripts};
-
-/// The text lines of a stream and a source are the lines of their script, in the same order.
-pub fn text_lines_are_scripts()
-    ensures { TextLinesAreScripts }
-{}

@@ -1,0 +1,4 @@
+pub mod Relaying
+pub mod Feeding
+pub mod Matching
+pub mod Beginning

@@ -1,0 +1,10 @@
+pub mod Rule
+pub mod Passes
+pub mod Giving
+pub mod Feeds
+pub mod Gates
+pub mod Pairs
+pub mod Lent
+pub mod Runners
+pub mod Lanes
+pub mod Rooms
