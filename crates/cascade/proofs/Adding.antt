@@ -16,7 +16,7 @@ use Rattle.stream_spec.specs.ChunksBy.{chunks_added, chunks_by, texts_added}
 use Rattle.stream_spec.specs.Still.{is_lively_chunk, is_blank}
 use Rattle.stream_spec.proofs.ByNumber.{by_more}
 use Rattle.stream_spec.proofs.Rising.{rising_below}
-use Rattle.gap_tracker.specs.declared.answers.Due.{Due}
+use Rattle.reorder_buffer.specs.declared.answers.Due.{Due}
 use Rattle.receiver.specs.declared.pieces.TextCursor.{TextCursor}
 use Rattle.receiver.specs.declared.receivers.Receiver.{Receiver}
 use Rattle.receiver.specs.Each.{LeavesAdded}

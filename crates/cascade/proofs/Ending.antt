@@ -21,13 +21,13 @@ use Rattle.command_spec.specs.Mixing.{input_at}
 use Rattle.command_spec.specs.Cascading.{cascades, is_on_trunk, trunk_of}
 use Rattle.cascade.specs.declared.splits.Splits.{Splits}
 use Rattle.cascade.specs.Splits.{recordings_of}
-use Rattle.bridge_run.specs.declared.results.MixFault.{MixFault}
-use Rattle.bridge_run.specs.declared.results.MixFault.TheVariants as mix
-use Rattle.bridge_run.specs.declared.results.Mixed.{Mixed}
+use Rattle.rtt_mix.specs.declared.results.MixFault.{MixFault}
+use Rattle.rtt_mix.specs.declared.results.MixFault.TheVariants as mix
+use Rattle.rtt_mix.specs.declared.results.Mixed.{Mixed}
 use Rattle.sent_log.specs.Files as sent
-use Rattle.bridge_run.specs.Mixes as bridge
-use Rattle.bridge_run.specs.Mixes.{outputs_of}
-use Rattle.bridge_run.specs.Answered.{AreMixed, MixesTo}
+use Rattle.rtt_mix.specs.Mixes as bridge
+use Rattle.rtt_mix.specs.Mixes.{outputs_of}
+use Rattle.rtt_mix.specs.Answered.{AreMixed, MixesTo}
 use Rattle.cascade.specs.declared.faults.CascadeFault.{CascadeFault}
 use Rattle.cascade.specs.declared.faults.CascadeFault.TheVariants.{Open, Dump, TooLong, NoMemory}
 use Rattle.cascade.specs.Inputs.{IsInputBehind, RefusesNoneBefore, input_name, input_number}

@@ -15,11 +15,11 @@ use Rattle.stream_spec.specs.Ready.{Chunk, chunks}
 use Rattle.stream_spec.specs.Still.{is_lively_chunk, still}
 use Rattle.stream_spec.proofs.ByNumber.{all_by}
 use Rattle.stream_spec.proofs.StillChunks.{chunks_still}
-use Rattle.gap_tracker.specs.Stories.{Story, Given, came, dues, ended, gave, given_of, ready_dues}
-use Rattle.gap_tracker.specs.States.{State, has_ready, is_finished, with_packet}
-use Rattle.gap_tracker.specs.Tracks.{Tracks}
-use Rattle.gap_tracker.specs.declared.answers.Due.{Due}
-use Rattle.gap_tracker.proofs.Steps.{tracks_with}
+use Rattle.reorder_buffer.specs.Stories.{Story, Given, came, dues, ended, gave, given_of, ready_dues}
+use Rattle.reorder_buffer.specs.States.{State, has_ready, is_finished, with_packet}
+use Rattle.reorder_buffer.specs.Tracks.{Tracks}
+use Rattle.reorder_buffer.specs.declared.answers.Due.{Due}
+use Rattle.reorder_buffer.proofs.Steps.{tracks_with}
 use Rattle.receiver.specs.declared.receivers.Receiver.{Receiver}
 use Rattle.receiver.specs.Stands.{Stands, latest_number}
 use Rattle.receiver.specs.Hears.{all_given, last_after, ready_packet, ready_packets}

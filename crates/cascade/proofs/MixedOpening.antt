@@ -9,12 +9,12 @@ use Rattle.mixer_spec.specs.Setups.{leg_at}
 use Rattle.command_spec.specs.Work.{Contents}
 use Rattle.command_spec.specs.Mixing.{input_at}
 use Rattle.command_spec.specs.Cascading.{is_on_trunk}
-use Rattle.bridge_run.specs.declared.results.MixFault.{MixFault}
-use Rattle.bridge_run.specs.declared.results.MixFault.TheVariants.{Open, Dump, TooLong, NoMemory}
-use Rattle.bridge_run.specs.Opened as of_inputs
-use Rattle.bridge_run.specs.Opened.{ear_of}
+use Rattle.rtt_mix.specs.declared.results.MixFault.{MixFault}
+use Rattle.rtt_mix.specs.declared.results.MixFault.TheVariants.{Open, Dump, TooLong, NoMemory}
+use Rattle.rtt_mix.specs.Opened as of_inputs
+use Rattle.rtt_mix.specs.Opened.{ear_of}
 use Rattle.mixer_posts.proofs.Backward.{pushed}
-use Rattle.bridge_run.proofs.Opening.{is_there, rose_behind, rose_on}
+use Rattle.rtt_mix.proofs.Opening.{is_there, rose_behind, rose_on}
 use Rattle.cascade.specs.Texts.{text_of}
 use Rattle.cascade.specs.Feeding.{AddsFaults, AllFed, IsFedLeg, IsNotOpened, FeedIsRefused, LeavesCount, RisesFor}
 

@@ -19,12 +19,12 @@ use Rattle.mixer_posts.specs.Streams.{payload_types_of}
 use Rattle.cascade.specs.declared.trunk_sources.TrunkSource.{TrunkSource}
 use Rattle.cascade.specs.declared.trunk_sources.TrunkSource.TheVariants.{Split, Below}
 use Rattle.cascade.specs.TrunkSources.{below, faults_in, left_in, name_in}
-use Rattle.bridge_run.specs.declared.results.MixFault.{MixFault}
-use Rattle.bridge_run.specs.declared.results.MixFault.TheVariants.{Open, Dump, TooLong, NoMemory}
-use Rattle.bridge_run.specs.declared.results.Mixed.{Mixed}
-use Rattle.bridge_run.specs.Answered.{AreKept, IsOfLegs, MixesAsked, MixesTo, WasReadWell, asked_of}
-use Rattle.bridge_run.proofs.Handing.{all_calm, by_reading, leg_before}
-use Rattle.bridge_run.proofs.Opening.{is_there}
+use Rattle.rtt_mix.specs.declared.results.MixFault.{MixFault}
+use Rattle.rtt_mix.specs.declared.results.MixFault.TheVariants.{Open, Dump, TooLong, NoMemory}
+use Rattle.rtt_mix.specs.declared.results.Mixed.{Mixed}
+use Rattle.rtt_mix.specs.Answered.{AreKept, IsOfLegs, MixesAsked, MixesTo, WasReadWell, asked_of}
+use Rattle.rtt_mix.proofs.Handing.{all_calm, by_reading, leg_before}
+use Rattle.rtt_mix.proofs.Opening.{is_there}
 use Rattle.cascade.specs.Texts.{AllOwnLie, text_of, texts_of}
 use Rattle.cascade.specs.Feeding.{AllFed, AreCalm, EachSource, IsNotOpened, LeavesCount, RisesFor, source_name}
 use Rattle.cascade.specs.Mixes.{CountsKept, IsCaused, MixesFed}

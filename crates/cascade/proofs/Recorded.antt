@@ -13,7 +13,7 @@ use Rattle.file_spec.specs.Kept.{Differ}
 use Rattle.command_spec.specs.Work.{Contents}
 use Rattle.command_spec.specs.Splitting.{Trunk}
 use Rattle.command_spec.specs.Cascading.{trunk_limit, trunk_of}
-use Rattle.bridge_run.proofs.Opening.{rose_behind}
+use Rattle.rtt_mix.proofs.Opening.{rose_behind}
 use Rattle.cascade.specs.Cascades.{IsUnsplit, trunk_fault}
 use Rattle.command_spec.proofs.GroupSizes.{by_bool}
 use Rattle.cascade.proofs.Ending.{refused_at}

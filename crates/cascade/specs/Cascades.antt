@@ -15,11 +15,11 @@ use Rattle.command_spec.specs.Outcomes.{Outcome, Done, Refused, outcome_from}
 use Rattle.command_spec.specs.Cascading.{cascades, trunk_limit, trunk_of}
 use Rattle.cascade.specs.declared.splits.Splits.{Splits}
 use Rattle.cascade.specs.Splits.{recordings_of}
-use Rattle.bridge_run.specs.declared.results.MixFault.{MixFault}
-use Rattle.bridge_run.specs.declared.results.MixFault.TheVariants as mix
-use Rattle.bridge_run.specs.declared.results.Mixed.{Mixed}
+use Rattle.rtt_mix.specs.declared.results.MixFault.{MixFault}
+use Rattle.rtt_mix.specs.declared.results.MixFault.TheVariants as mix
+use Rattle.rtt_mix.specs.declared.results.Mixed.{Mixed}
 use Rattle.sent_log.specs.Files as sent
-use Rattle.bridge_run.specs.Mixes.{NoOtherFailed, RoseAt, outputs_of}
+use Rattle.rtt_mix.specs.Mixes.{NoOtherFailed, RoseAt, outputs_of}
 use Rattle.cascade.specs.declared.faults.CascadeFault.{CascadeFault}
 use Rattle.cascade.specs.declared.faults.CascadeFault.TheVariants.{Open, Dump, TooLong, NoMemory}
 use Rattle.cascade.specs.Inputs.{IsInputBehind, NoneHasName, RefusesNoneBefore, input_name, input_number}

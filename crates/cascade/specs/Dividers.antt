@@ -4,9 +4,9 @@ use Rattle.rtt_base.specs.declared.text_packets.PayloadTypes.{PayloadTypes}
 use Rattle.wire_spec.specs.Packets.{Arrival}
 use Rattle.wire_spec.specs.Dump.{arrived}
 use Rattle.wire_spec.specs.Text.{text_of}
-use Rattle.gap_tracker.specs.Stories.{Story}
-use Rattle.gap_tracker.specs.Tracks.{Tracks}
-use Rattle.gap_tracker.specs.States.{has_ready, is_finished}
+use Rattle.reorder_buffer.specs.Stories.{Story}
+use Rattle.reorder_buffer.specs.Tracks.{Tracks}
+use Rattle.reorder_buffer.specs.States.{has_ready, is_finished}
 use Rattle.receiver.specs.Stands.{Stands, latest_number}
 use Rattle.receiver.specs.Hears.{IsToldOf, all_given, last_after, ready_packets}
 use Rattle.command_spec.specs.Splitting.{Trunk, chunks_of, split}

@@ -6,7 +6,7 @@ use Rattle.stream_spec.specs.Numbering.{Numbered}
 use Rattle.stream_spec.specs.Ready.{Chunk, chunk}
 use Rattle.stream_spec.specs.ChunksBy.{chunks_by}
 use Rattle.stream_spec.specs.Still.{is_lively_chunk}
-use Rattle.gap_tracker.specs.declared.answers.Due.{Due}
+use Rattle.reorder_buffer.specs.declared.answers.Due.{Due}
 use Rattle.receiver.specs.declared.receivers.Receiver.{Receiver}
 use Rattle.receiver.specs.Stands.{Stands, used_packet}
 use Rattle.cascade.specs.declared.splitters.SourceRecording.{SourceRecording}

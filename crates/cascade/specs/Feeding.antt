@@ -12,9 +12,9 @@ use Rattle.command_spec.specs.Work.{Contents}
 use Rattle.command_spec.specs.Mixing.{input_at}
 use Rattle.command_spec.specs.Cascading.{is_on_trunk}
 use Rattle.cascade.specs.TrunkSources.{below}
-use Rattle.bridge_run.specs.Opened.{ear_of}
-use Rattle.bridge_run.specs.declared.results.MixFault.{MixFault}
-use Rattle.bridge_run.specs.declared.results.MixFault.TheVariants.{Open, Dump, TooLong, NoMemory}
+use Rattle.rtt_mix.specs.Opened.{ear_of}
+use Rattle.rtt_mix.specs.declared.results.MixFault.{MixFault}
+use Rattle.rtt_mix.specs.declared.results.MixFault.TheVariants.{Open, Dump, TooLong, NoMemory}
 use Rattle.cascade.specs.Texts.{OwnLieBelow, text_of}
 
 -- the name of the source that has the text of a leg

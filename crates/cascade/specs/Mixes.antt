@@ -6,11 +6,11 @@ use Rattle.file_spec.specs.Conference.{Conference}
 use Rattle.mixer_spec.specs.Setups.{leg_at}
 use Rattle.command_spec.specs.Work.{Contents}
 use Rattle.command_spec.specs.Cascading.{is_on_trunk}
-use Rattle.bridge_run.specs.declared.results.MixFault.{MixFault}
-use Rattle.bridge_run.specs.declared.results.MixFault.TheVariants.{Open, Dump, TooLong, NoMemory}
-use Rattle.bridge_run.specs.declared.results.Mixed.{Mixed}
-use Rattle.bridge_run.specs.Answered.{AreMixed, MixesTo}
-use Rattle.bridge_run.specs.Mixes.{RoseAt}
+use Rattle.rtt_mix.specs.declared.results.MixFault.{MixFault}
+use Rattle.rtt_mix.specs.declared.results.MixFault.TheVariants.{Open, Dump, TooLong, NoMemory}
+use Rattle.rtt_mix.specs.declared.results.Mixed.{Mixed}
+use Rattle.rtt_mix.specs.Answered.{AreMixed, MixesTo}
+use Rattle.rtt_mix.specs.Mixes.{RoseAt}
 use Rattle.cascade.specs.Texts.{AllOwnLie, OwnLieBelow, texts_of}
 use Rattle.cascade.specs.Feeding.{OfOwn}
 

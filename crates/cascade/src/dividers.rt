@@ -1,13 +1,13 @@
 //! Splitting the packets of one stream into recordings of its sources.
 ghost use Rattle.std.specs.Prelude.{◌≡◌, ◌≢◌, ◌+◌, ◌≤◌, ◌<◌, ◌^◌, ℕ, [], length, All, Bool, OnOk, IfOk, AllPairs};
-ghost use Rattle.gap_tracker.specs.States.{arrival_count, has_ready, is_finished};
+ghost use Rattle.reorder_buffer.specs.States.{arrival_count, has_ready, is_finished};
 ghost use Rattle.cascade.specs.Dividers.{Listens, IsListening, IsHearing, IsStarted, Gathers, ClosesAll, SplitsAll, Takes, Ends};
 ghost use Rattle.rtt_base.specs.declared.limits.TheConstants.{END_OF_MOMENTS, LONGEST_WAIT, MOST_ARRIVALS, MOST_SOURCES};
 
 use crate::routes::divide;
 use crate::splitters::SourceRecording;
-use gap_tracker::ReorderBuffer;
 use receiver::Receiver;
+use reorder_buffer::ReorderBuffer;
 use rtp_text::read_text;
 use rtt_base::{NoMemory, Packet, PayloadTypes, Text};
 use std::alloc::Global;

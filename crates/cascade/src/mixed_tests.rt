@@ -1,10 +1,10 @@
 use crate::{CascadeFault, cascade};
-use bridge_run::Piece;
 use conf_text::read_conf;
 use file_spec::{Conference, Form};
 use rtpdump_io::DumpFault;
 use rtt_base::{Bytes, NoMemory};
 use rtt_io::{MemWorld, StillGate};
+use rtt_mix::Piece;
 use std::alloc::Global;
 use std::sync::Wait;
 use std::test::Fail;

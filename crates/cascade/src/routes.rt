@@ -7,8 +7,8 @@ ghost use Rattle.cascade.specs.Dividing.{AddsTexts, Divides, TakesDue};
 ghost use Rattle.rtt_base.specs.declared.limits.TheConstants.{MOST_TEXT_OCTETS};
 
 use crate::splitters::SourceRecording;
-use gap_tracker::Due;
 use receiver::{Receiver, TextCursor, is_blank};
+use reorder_buffer::Due;
 use rtt_base::{NoMemory, Packet, Text, TextPacket};
 
 /// The place of the source among these.

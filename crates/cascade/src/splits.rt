@@ -1,7 +1,7 @@
 //! A recording of what a mixer sent, split into recordings of its sources.
 ghost use Rattle.std.specs.Prelude.{◌≡◌, ◌≢◌, ◌+◌, ◌≤◌, ◌<◌, ◌^◌, [], ◌∷◌, length, Bool, None, Some, OnOk, IfOk, IfErr, AllPairs, slice_get};
 ghost use Rattle.wire_spec.specs.Dump.{dump};
-ghost use Rattle.gap_tracker.specs.States.{arrival_count};
+ghost use Rattle.reorder_buffer.specs.States.{arrival_count};
 ghost use Rattle.rtpdump_io.specs.Reading.{to_come};
 ghost use Rattle.rtpdump_io.specs.Answers.{record_of, is_end};
 ghost use Rattle.rtpdump_io.specs.Calls.{ReadsToEnd};

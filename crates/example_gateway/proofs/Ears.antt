@@ -1,7 +1,7 @@
 -- What an ear gave is known from its beginning on.
 use Rattle.std.proofs.Common.{◌≡◌, ◌∷◌, [], ◌++◌, ℕ, List, Bool, true, false, refl}
 use Rattle.stream_spec.specs.Ready.{Chunk}
-use Rattle.gap_tracker.specs.Stories.{Story, begun}
+use Rattle.reorder_buffer.specs.Stories.{Story, begun}
 use Rattle.receiver.specs.declared.settings.EarSettings.{EarSettings}
 use Rattle.receiver.specs.declared.ears.Ear.{Ear}
 use Rattle.receiver.specs.Hears.{Becomes, Gave, GivesChunk, GivesNone, IsGiving}

@@ -1,6 +1,6 @@
 -- What stays of a mixer that takes text.
 use Rattle.std.specs.Prelude.{◌≡◌}
-use Rattle.mixer_turn.specs.States.{State, legs_of, sources_of}
+use Rattle.mixer.specs.States.{State, legs_of, sources_of}
 
 -- its legs, how many sources their terminals have, and its turns
 pub record IsSame (old new : State) : Type 0 where

@@ -1,9 +1,9 @@
 //! A gateway on the mixer.
 ghost use Rattle.std.specs.Prelude.{◌≡◌, ◌+◌, ◌<◌, ◌≤◌, ◌^◌, true, false, Some, length, slice_get, IfOk};
 ghost use Rattle.file_spec.specs.Conferences.{meaning_of};
-ghost use Rattle.mixer_turn.specs.Making.{source_counts};
-ghost use Rattle.mixer_turn.specs.Posts.{ArePosts, IsPost};
-ghost use Rattle.mixer_turn.specs.States.{legs_of, sources_of};
+ghost use Rattle.mixer.specs.Making.{source_counts};
+ghost use Rattle.mixer.specs.Posts.{ArePosts, IsPost};
+ghost use Rattle.mixer.specs.States.{legs_of, sources_of};
 ghost use Rattle.example_gateway.specs.Mixers.{IsSame};
 ghost use Rattle.example_gateway.specs.Outputs.{counts_of};
 ghost use Rattle.file_spec.specs.declared.limits.TheConstants.{MOST_LEGS, MOST_TURNS};
@@ -11,8 +11,8 @@ ghost use Rattle.file_spec.specs.declared.limits.TheConstants.{MOST_LEGS, MOST_T
 use crate::legs::Leg;
 use file_spec::Conference;
 use file_spec::limits::MOST_TURNS;
+use mixer::{Batch, Mixer, Post};
 use mixer_posts::{sources_to, stream_to};
-use mixer_turn::{Batch, Mixer, Post};
 use packetizer::Packetizer;
 use rtt_base::{Full, NoMemory, Packet};
 use std::alloc::Global;

@@ -2,12 +2,12 @@
 ghost use Rattle.std.specs.Prelude.{◌≡◌, ◌<◌, true, false, length};
 ghost use Rattle.std.specs.Str.{is_utf8};
 ghost use Rattle.receiver.specs.Hears.{IsGiving, is_quiet};
-ghost use Rattle.mixer_turn.specs.States.{legs_of};
+ghost use Rattle.mixer.specs.States.{legs_of};
 ghost use Rattle.example_gateway.specs.Mixers.{IsSame};
 ghost use Rattle.rtt_base.specs.declared.limits.TheConstants.{END_OF_MOMENTS};
 
 use file_spec::Conference;
-use mixer_turn::Mixer;
+use mixer::Mixer;
 use receiver::{Ear, EarSettings, is_blank};
 use rtt_base::limits::MOST_ARRIVALS;
 use rtt_base::{Chunk, Full, NoMemory};

@@ -6,11 +6,11 @@ use Rattle.wire_spec.specs.Packets.{Arrival}
 use Rattle.stream_spec.specs.Numbering.{Numbered, Falling, numbered, used}
 use Rattle.stream_spec.specs.Ready.{Chunk, chunk, chunks}
 use Rattle.stream_spec.specs.ChunksBy.{chunks_by}
-use Rattle.gap_tracker.specs.Stories.{Story, Given, dues_of, is_due}
-use Rattle.gap_tracker.specs.States.{State}
-use Rattle.gap_tracker.specs.Tracks.{Tracks}
-use Rattle.gap_tracker.specs.Tracks as tracks
-use Rattle.gap_tracker.proofs.Giving.{order_is}
+use Rattle.reorder_buffer.specs.Stories.{Story, Given, dues_of, is_due}
+use Rattle.reorder_buffer.specs.States.{State}
+use Rattle.reorder_buffer.specs.Tracks.{Tracks}
+use Rattle.reorder_buffer.specs.Tracks as tracks
+use Rattle.reorder_buffer.proofs.Giving.{order_is}
 use Rattle.rtpdump_io.specs.declared.readers.DumpReader.{DumpReader}
 use Rattle.rtpdump_io.specs.Reading.{to_come}
 use Rattle.receiver.specs.declared.settings.EarSettings.{EarSettings}

@@ -6,7 +6,7 @@ use Rattle.wire_spec.specs.Packets.{Arrival}
 use Rattle.wire_spec.specs.Dump.{Recording, with_item, arrivals_with, arrivals_after}
 use Rattle.wire_spec.specs.Text.{text_of}
 use Rattle.stream_spec.specs.Ready.{Chunk, chunks}
-use Rattle.gap_tracker.specs.Stories.{Story, Given, ended}
+use Rattle.reorder_buffer.specs.Stories.{Story, Given, ended}
 use Rattle.rtpdump_io.specs.declared.items.DumpFault.{DumpFault}
 use Rattle.rtpdump_io.specs.declared.items.DumpItem.{DumpItem}
 use Rattle.rtpdump_io.specs.declared.items.DumpItem.TheVariants.{Packet, Rtcp, Cut, Large, End}

@@ -2,7 +2,7 @@
 use Rattle.std.specs.Prelude.{ℕ, List, ◌++◌, Some}
 use Rattle.stream_spec.specs.Ready.{Chunk}
 use Rattle.wire_spec.specs.Text.{text_of}
-use Rattle.gap_tracker.specs.Stories.{Story, ended}
+use Rattle.reorder_buffer.specs.Stories.{Story, ended}
 use Rattle.rtpdump_io.specs.declared.items.DumpItem.{DumpItem}
 use Rattle.rtpdump_io.specs.declared.items.DumpItem.TheVariants.{Packet, Rtcp, Cut, Large, End}
 use Rattle.receiver.specs.declared.settings.EarSettings.{EarSettings}

@@ -1,7 +1,7 @@
 -- A leg of whose link nothing was asked.
 use Rattle.std.proofs.Common.{◌≡◌, ℕ, true≢false, None, Some, [], refl, sym, ap, subst, arith}
 use Rattle.std.specs.Prelude.{Bool, true, false, if◌then◌else◌}
-use Rattle.gap_tracker.specs.Stories.{begun as begun_story}
+use Rattle.reorder_buffer.specs.Stories.{begun as begun_story}
 use Rattle.receiver.specs.declared.settings.EarSettings.{EarSettings}
 use Rattle.receiver.specs.Hears.{Gave, settings_of}
 use Rattle.rtt_io.specs.Counts.{Rose}

@@ -1,7 +1,7 @@
 -- What a take tells a leg is what its definition has it told.
 use Rattle.std.proofs.Common.{◌≡◌, ◌⊎◌, ℕ, List, inl, inr, refl, ap, sym, ◌∙◌, subst}
 use Rattle.std.specs.Prelude.{unwrap_or}
-use Rattle.gap_tracker.specs.Stories.{ended, went}
+use Rattle.reorder_buffer.specs.Stories.{ended, went}
 use Rattle.receiver.specs.declared.ears.Ear.{Ear}
 use Rattle.receiver.specs.Hears.{AllReady, Becomes, settings_of, text_for, told}
 use Rattle.link_io.specs.declared.ends.Came.{Came}

@@ -9,7 +9,7 @@ use Rattle.wire_spec.specs.Text.{text_of}
 use Rattle.stream_spec.specs.Fronts.{is_ready_by}
 use Rattle.stream_spec.specs.Ready.{Chunk}
 use Rattle.stream_spec.specs.Still.{is_lively_chunk}
-use Rattle.gap_tracker.specs.Stories.{Story, begun, came, ended, went}
+use Rattle.reorder_buffer.specs.Stories.{Story, begun, came, ended, went}
 use Rattle.receiver.specs.declared.settings.EarSettings.{EarSettings}
 use Rattle.receiver.specs.declared.ears.Ear.{Ear}
 use Rattle.receiver.specs.Hears.{Gave, settings_of, ready_chunks, story_chunks, text_for, told}

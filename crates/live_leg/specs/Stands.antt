@@ -4,7 +4,7 @@ use Rattle.rtt_base.specs.declared.limits.TheConstants.{MOST_ARRIVALS}
 use Rattle.stream_spec.specs.Fronts.{IsFront}
 use Rattle.stream_spec.specs.Ready.{Chunk}
 use Rattle.stream_spec.specs.Still.{is_lively_chunk}
-use Rattle.gap_tracker.specs.Stories.{Story}
+use Rattle.reorder_buffer.specs.Stories.{Story}
 use Rattle.wire_spec.specs.Packets.{Packet}
 use Rattle.wire_spec.specs.Text.{text_of}
 use Rattle.receiver.specs.declared.ears.Ear.{Ear}

@@ -2,7 +2,7 @@
 use Rattle.std.specs.Prelude.{◌≡◌, ℕ, Option, None, Some, List, []}
 use Rattle.stream_spec.specs.Ready.{Chunk}
 use Rattle.wire_spec.specs.Packets.{Arrival}
-use Rattle.gap_tracker.specs.Stories.{Story, begun, went, ended}
+use Rattle.reorder_buffer.specs.Stories.{Story, begun, went, ended}
 use Rattle.receiver.specs.declared.settings.EarSettings.{EarSettings}
 use Rattle.receiver.specs.declared.ears.Ear.{Ear}
 use Rattle.receiver.specs.Hears.{AllReady, Becomes, Gave, settings_of, told, text_for}

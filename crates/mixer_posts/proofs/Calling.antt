@@ -8,11 +8,11 @@ use Rattle.mixer_spec.specs.Table.{Call, Turn, after_calls}
 use Rattle.mix_loop.specs.Items.{IsOf}
 use Rattle.mix_loop.specs.Addresses.{Address}
 use Rattle.mix_loop.specs.Mixers.{Keeps}
-use Rattle.mixer_turn.specs.declared.batches.Post.{Post}
-use Rattle.mixer_turn.specs.Allowed.{IsOffer}
-use Rattle.mixer_turn.specs.States.{legs_of}
-use Rattle.mixer_turn.specs.Standing.{LeadsByCall, MixerStandsFor}
-use Rattle.mixer_turn.specs.Turns.{HasBatch, OfCalls, posts_at}
+use Rattle.mixer.specs.declared.batches.Post.{Post}
+use Rattle.mixer.specs.Allowed.{IsOffer}
+use Rattle.mixer.specs.States.{legs_of}
+use Rattle.mixer.specs.Standing.{LeadsByCall, MixerStandsFor}
+use Rattle.mixer.specs.Turns.{HasBatch, OfCalls, posts_at}
 use Rattle.mixer_posts.specs.States.{SendingState}
 use Rattle.mixer_posts.specs.Posts.{AreNext, IsHaltedIn, TakesAll, TakesFirst, sent_by, with_posts}
 use Rattle.mixer_posts.specs.Standing.{HaltsFor, SendsFor}

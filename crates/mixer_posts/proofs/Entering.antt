@@ -10,10 +10,10 @@ use Rattle.mixer_spec.specs.Setups.{Setup}
 use Rattle.mixer_spec.specs.Table.{Admit, Hush, Leave, Offer, Turn, Seats, Table, Terminal, TurnEntry, after_calls, answer_at, come_to, compose, free_place, given, has_room, is_asked, is_seated, leg_in, next_media, repeated, sent_from, serve, serve_leg, served, turn_at, turn_aware, turn_unaware, turned}
 use Rattle.mixer_spec.proofs.Finish.{given_sent}
 use Rattle.mixer_spec.proofs.Seats.{leave_with, leg_in_some}
-use Rattle.outlet.specs.Turns.{new_entry, number_of}
-use Rattle.mixer_turn.specs.declared.batches.Post.{Post}
-use Rattle.mixer_turn.specs.Turns.{post_of, posts_at}
-use Rattle.mixer_turn.proofs.Entered.{entered_to}
+use Rattle.terminal_scheduler.specs.Turns.{new_entry, number_of}
+use Rattle.mixer.specs.declared.batches.Post.{Post}
+use Rattle.mixer.specs.Turns.{post_of, posts_at}
+use Rattle.mixer.proofs.Entered.{entered_to}
 use Rattle.mixer_posts.specs.Streams.{AreSourcesAt, AreSourcesOf}
 use Rattle.mixer_posts.specs.Posts.{sent_by, sent_of_post, sents_to, with_posts}
 use Rattle.mixer_posts.specs.Laws.{PostsAreEntered}

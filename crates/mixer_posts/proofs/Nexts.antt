@@ -5,10 +5,10 @@ use Rattle.stream_spec.specs.Own.{Sent}
 use Rattle.mixer_spec.specs.Setups.{Setup, stream}
 use Rattle.mixer_spec.specs.Table.{Call, TurnEntry, after_calls, sents}
 use Rattle.packetizer.specs.Speakers.{EachIsNext}
-use Rattle.mixer_turn.specs.declared.batches.Post.{Post}
-use Rattle.mixer_turn.specs.States.{State}
-use Rattle.mixer_turn.specs.Standing.{MixerStandsFor}
-use Rattle.mixer_turn.proofs.Nexts.{each_is_next}
+use Rattle.mixer.specs.declared.batches.Post.{Post}
+use Rattle.mixer.specs.States.{State}
+use Rattle.mixer.specs.Standing.{MixerStandsFor}
+use Rattle.mixer.proofs.Nexts.{each_is_next}
 use Rattle.mixer_posts.specs.Posts.{AreNext, sent_by, sent_of_post, sents_to}
 use Rattle.mixer_posts.proofs.Entering.{entered_law}
 

@@ -5,8 +5,8 @@ use Rattle.std.proofs.lemmas.List.{take-append-drop}
 use Rattle.std.proofs.Math.Seq.{drop-cons, take-suc}
 use Rattle.rtt_base.specs.declared.text_packets.PayloadTypes.{PayloadTypes}
 use Rattle.mixer_spec.specs.Setups.{Setup}
-use Rattle.mixer_turn.specs.declared.batches.Post.{Post}
-use Rattle.mixer_turn.specs.Posts.{ArePosts, IsPost}
+use Rattle.mixer.specs.declared.batches.Post.{Post}
+use Rattle.mixer.specs.Posts.{ArePosts, IsPost}
 use Rattle.mixer_posts.specs.Posts.{AreNext, IsHaltedIn, Takes, TakesAll, TakesSome, with_posts}
 use Rattle.mixer_posts.proofs.Nexts.{next_before}
 

@@ -12,7 +12,7 @@ use Rattle.mixer_spec.specs.Setups.{generations_of, is_aware_leg, leg_at, setup,
 use Rattle.packetizer.specs.declared.outputs.PacketizerSettings.{PacketizerSettings}
 use Rattle.packetizer.specs.OutputSettings.{AreSettings}
 use Rattle.packetizer.specs.Speakers.{AreDistinct}
-use Rattle.mixer_turn.specs.Making.{source_counts}
+use Rattle.mixer.specs.Making.{source_counts}
 use Rattle.mixer_posts.specs.Streams.{AreSourcesAt, AreSourcesOf, settings_at, payload_types_at, payload_types_of}
 
 -- ---- the leg

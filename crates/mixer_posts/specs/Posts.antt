@@ -5,8 +5,8 @@ use Rattle.stream_spec.specs.Own.{Sent}
 use Rattle.mixer_spec.specs.Setups.{Setup, stream}
 use Rattle.mixer_spec.specs.Table.{Call, Admit, Hush, Leave, Offer, Turn, after_calls}
 use Rattle.packetizer.specs.Speakers.{EachIsNext, text_of}
-use Rattle.mixer_turn.specs.declared.batches.Post.{Post}
-use Rattle.mixer_turn.specs.Turns.{posts_at}
+use Rattle.mixer.specs.declared.batches.Post.{Post}
+use Rattle.mixer.specs.Turns.{posts_at}
 use Rattle.mixer_posts.specs.Streams.{AreSourcesAt}
 
 -- these posts, sent at this moment, behind what was sent before, newest first

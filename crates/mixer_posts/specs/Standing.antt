@@ -4,10 +4,10 @@ use Rattle.rtt_base.specs.declared.text_packets.PayloadTypes.{PayloadTypes}
 use Rattle.mixer_spec.specs.Setups.{Setup}
 use Rattle.mixer_spec.specs.Table.{Call, Admit, Hush, Leave, Offer, Turn, after_calls}
 use Rattle.mixer_spec.specs.Calls.{turns_made}
-use Rattle.mixer_turn.specs.declared.batches.Post.{Post}
-use Rattle.mixer_turn.specs.Standing.{MixerStandsFor}
+use Rattle.mixer.specs.declared.batches.Post.{Post}
+use Rattle.mixer.specs.Standing.{MixerStandsFor}
 use Rattle.mixer_posts.specs.States.{SendingState}
-use Rattle.mixer_turn.specs.Turns.{posts_at}
+use Rattle.mixer.specs.Turns.{posts_at}
 use Rattle.mixer_posts.specs.Posts.{IsHaltedIn, sent_by}
 
 -- each turn came before this moment

@@ -1,6 +1,6 @@
 -- What is known of a mixer whose packets are sent.
 use Rattle.std.specs.Prelude.{◌≡◌, ℕ, List}
-use Rattle.mixer_turn.specs.States.{State, sources_of}
+use Rattle.mixer.specs.States.{State, sources_of}
 
 -- the mixer, and where its packets go
 pub record SendingState (O : Type 0) : Type 0 where

@@ -1,12 +1,12 @@
 //! A mixer with where its posts go.
 ghost use Rattle.std.specs.Prelude.{◌≡◌};
-ghost use Rattle.mixer_turn.specs.States.{sources_of};
+ghost use Rattle.mixer.specs.States.{sources_of};
 
 use crate::PostSink;
 use crate::posts::send_posts;
 use link_io::Beat;
 use mix_loop::MixerCalls;
-use mixer_turn::{Batch, Mixer};
+use mixer::{Batch, Mixer};
 use rtt_base::{Chunk, Full};
 use std::marker::Model;
 
@@ -58,7 +58,7 @@ impl<O: PostSink> SendingMixer<O> {
 
 impl<O: PostSink> MixerCalls for SendingMixer<O> {
     ghost use Rattle.mixer_posts.specs.Standing.{HaltsFor, SendsFor};
-    ghost use Rattle.mixer_turn.specs.States.{legs_of};
+    ghost use Rattle.mixer.specs.States.{legs_of};
 
     type Fault = O::Fault;
 

@@ -2,13 +2,13 @@
 ghost use Rattle.std.specs.Prelude.{◌≡◌, ◌<◌, ◌≤◌, ◌^◌, ℕ, List, OnOk, OnErr, IfErr};
 ghost use Rattle.rtt_base.specs.declared.text_packets.PayloadTypes.{PayloadTypes};
 ghost use Rattle.mixer_spec.specs.Setups.{Setup};
-ghost use Rattle.mixer_turn.specs.declared.batches.Post.{Post};
-ghost use Rattle.mixer_turn.specs.Posts.{IsPost};
+ghost use Rattle.mixer.specs.declared.batches.Post.{Post};
+ghost use Rattle.mixer.specs.Posts.{IsPost};
 ghost use Rattle.mix_loop.specs.Addresses.{Address, GiveAfter};
 ghost use Rattle.mixer_posts.specs.Posts.{Takes, TakesSome};
 
 use link_io::Beat;
-use mixer_turn::Post;
+use mixer::Post;
 
 /// Where what is sent to the terminals of a conference goes: recordings, or links. It makes the packets.
 pub trait PostSink {

@@ -1,12 +1,12 @@
 //! What a turn sends is given to an outbound.
 ghost use Rattle.std.specs.Prelude.{◌≡◌, ◌<◌, OnOk, OnErr, IfErr};
-ghost use Rattle.mixer_turn.specs.Posts.{ArePosts};
+ghost use Rattle.mixer.specs.Posts.{ArePosts};
 ghost use Rattle.mix_loop.specs.Addresses.{GiveAfter};
 ghost use Rattle.mixer_posts.specs.Posts.{TakesAll, TakesFirst};
 
 use crate::PostSink;
 use link_io::Beat;
-use mixer_turn::Post;
+use mixer::Post;
 
 /// Gives these posts at the moment `now` (milliseconds), at this beat of the clock, one after the other.
 pub(crate) fn send_posts<O: PostSink>(

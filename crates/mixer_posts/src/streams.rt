@@ -4,7 +4,7 @@ ghost use Rattle.mixer_spec.specs.Setups.{setup};
 ghost use Rattle.file_spec.specs.Conferences.{meaning_of};
 ghost use Rattle.packetizer.specs.OutputSettings.{AreSettings};
 ghost use Rattle.packetizer.specs.Speakers.{AreDistinct};
-ghost use Rattle.mixer_turn.specs.Making.{source_counts};
+ghost use Rattle.mixer.specs.Making.{source_counts};
 ghost use Rattle.mixer_posts.specs.Streams.{AreSourcesAt, settings_at, payload_types_at};
 
 use file_spec::{Conference, LegLine};

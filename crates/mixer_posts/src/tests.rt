@@ -6,7 +6,7 @@ use conf_text::{Form, read_conf};
 use file_spec::Conference;
 use link_io::Beat;
 use mix_loop::MixerCalls;
-use mixer_turn::{Batch, Mixer, Post};
+use mixer::{Batch, Mixer, Post};
 use rtt_base::{Chunk, NoMemory, Text};
 use std::alloc::Global;
 use std::process::Abort;
@@ -27,7 +27,7 @@ impl PostSink for Notes {
     ghost use Rattle.std.proofs.Common.{rules};
     ghost use Rattle.std.specs.Prelude.{◌^◌, []};
     ghost use Rattle.file_spec.specs.Conferences.{meaning_of};
-    ghost use Rattle.mixer_turn.specs.Making.{source_counts};
+    ghost use Rattle.mixer.specs.Making.{source_counts};
 
     type Fault = NoMemory;
 

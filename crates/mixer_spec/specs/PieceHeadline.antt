@@ -45,7 +45,7 @@ pub record PieceHeadline (cutting : List ℕ → List (List ℕ)) (p q : Hop) (c
   -- or stands at the number of an item that is not; where it is sent on, one stands behind both, unless it was lost in turn at an
   -- end of the second stream.
   pub marked_first : (x k : Placed) → IsBlock p x → IsPieceOf cutting x k → AllLost p x → IsBetween p x → PartsAt k (pieces_told cutting p)
-  pub marker_is : (k : Placed) (is_marker : PartsAt k (pieces_told cutting p)) → PartsAt k cut.sent ⊎ IsNotSent cut (length marker.0)
+  pub marker_is : (k : Placed) (marker_part : PartsAt k (pieces_told cutting p)) → PartsAt k cut.sent ⊎ IsNotSent cut (length marker_part.0)
   pub marked : (k : Placed) → PartsAt k cut.sent → IsMarkerBehind q cut.sent k
   -- Each mark is one of a hop; so with no number missing on either there is none.
   pub markers : In Marker (told_by cut.sent q) → In Marker (told p) ⊎ In Marker (told q)

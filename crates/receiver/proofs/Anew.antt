@@ -5,8 +5,8 @@ use Rattle.std.proofs.lemmas.Grind.{not_there}
 use Rattle.std.proofs.lemmas.List.{length-map}
 use Rattle.stream_spec.specs.Hearing.{AreHeardTexts}
 use Rattle.stream_spec.specs.Ready.{Chunk, chunk}
-use Rattle.gap_tracker.specs.Stories.{Story, begun}
-use Rattle.gap_tracker.specs.Tracks.{Tracks}
+use Rattle.reorder_buffer.specs.Stories.{Story, begun}
+use Rattle.reorder_buffer.specs.Tracks.{Tracks}
 use Rattle.receiver.specs.Each.{sources_count}
 use Rattle.receiver.specs.Pieces.{is_heard, left_of}
 use Rattle.receiver.specs.Stands.{Stands, latest_number}

@@ -4,10 +4,10 @@ use Rattle.std.specs.Prelude.{All, ◌&&◌, slice_index}
 use Rattle.std.proofs.lemmas.List.{map-append, length-map}
 use Rattle.stream_spec.specs.Numbering.{Numbered}
 use Rattle.stream_spec.specs.Hearing.{adds_marker, is_packet_of}
-use Rattle.gap_tracker.specs.Stories.{Story, Given, gave, given_of, ready_dues}
-use Rattle.gap_tracker.specs.Tracks.{Tracks}
-use Rattle.gap_tracker.specs.States.{State}
-use Rattle.gap_tracker.specs.declared.answers.Due.{Due}
+use Rattle.reorder_buffer.specs.Stories.{Story, Given, gave, given_of, ready_dues}
+use Rattle.reorder_buffer.specs.Tracks.{Tracks}
+use Rattle.reorder_buffer.specs.States.{State}
+use Rattle.reorder_buffer.specs.declared.answers.Due.{Due}
 use Rattle.receiver.specs.declared.receivers.ListedSource.{ListedSource}
 use Rattle.receiver.specs.declared.source_texts.SourceText.{SourceText}
 use Rattle.receiver.specs.Stands.{Stands, latest_number, used_packet}

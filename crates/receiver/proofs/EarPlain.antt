@@ -12,11 +12,11 @@ use Rattle.stream_spec.specs.Hearing.{AreHeardTexts, text_list}
 use Rattle.stream_spec.specs.Ready.{Chunk, chunk}
 use Rattle.stream_spec.specs.ChunksBy.{chunks_by, texts_added}
 use Rattle.stream_spec.proofs.ByNumber.{by_more}
-use Rattle.gap_tracker.specs.Stories.{Story, Given, came, gave, given_packet, ready_dues}
-use Rattle.gap_tracker.specs.States.{IsNext, given_at_once, ready_at_once}
-use Rattle.gap_tracker.specs.Views.{next_number}
-use Rattle.gap_tracker.specs.Told as buffer
-use Rattle.gap_tracker.proofs.AtOnce.{gives_at_once}
+use Rattle.reorder_buffer.specs.Stories.{Story, Given, came, gave, given_packet, ready_dues}
+use Rattle.reorder_buffer.specs.States.{IsNext, given_at_once, ready_at_once}
+use Rattle.reorder_buffer.specs.Views.{next_number}
+use Rattle.reorder_buffer.specs.Told as buffer
+use Rattle.reorder_buffer.proofs.AtOnce.{gives_at_once}
 use Rattle.rtp_text.specs.declared.views.TextView.{TextView}
 use Rattle.rtp_text.specs.Views.{packet_in}
 use Rattle.receiver.specs.declared.source_texts.SourceText.{SourceText}

@@ -10,10 +10,10 @@ use Rattle.stream_spec.proofs.Rising.{used_rises, length_by_number, rising_below
 use Rattle.stream_spec.proofs.Lists.{in_right, in_left}
 use Rattle.stream_spec.proofs.ReadyBy.{rising_stamped}
 use Rattle.stream_spec.proofs.Matched.{used_in}
-use Rattle.gap_tracker.specs.Stories.{Story, Given, gave, dues, due_at}
-use Rattle.gap_tracker.specs.Tracks.{Tracks}
-use Rattle.gap_tracker.specs.States.{State, arrival_count}
-use Rattle.gap_tracker.proofs.Giving.{order_is}
+use Rattle.reorder_buffer.specs.Stories.{Story, Given, gave, dues, due_at}
+use Rattle.reorder_buffer.specs.Tracks.{Tracks}
+use Rattle.reorder_buffer.specs.States.{State, arrival_count}
+use Rattle.reorder_buffer.proofs.Giving.{order_is}
 use Rattle.receiver.specs.Hears.{ready_packet, ready_packets, last_after}
 use Rattle.stream_spec.proofs.HeardTexts.{numbered_texts}
 

@@ -18,12 +18,12 @@ use Rattle.stream_spec.specs.Ready.{Chunk, chunk}
 use Rattle.stream_spec.specs.ChunksBy.{chunks_by, texts_added}
 use Rattle.stream_spec.proofs.ByNumber.{by_more}
 use Rattle.stream_spec.proofs.Taking.{heard_by_more}
-use Rattle.gap_tracker.specs.Stories.{Story, Given, came, ended, gave, given_of, dues, ready_dues}
-use Rattle.gap_tracker.specs.Tracks.{Tracks}
-use Rattle.gap_tracker.specs.States.{State, has_ready, with_packet}
-use Rattle.gap_tracker.proofs.Steps.{tracks_with}
-use Rattle.gap_tracker.specs.declared.answers.Due.{Due}
-use Rattle.gap_tracker.proofs.Giving.{order_is}
+use Rattle.reorder_buffer.specs.Stories.{Story, Given, came, ended, gave, given_of, dues, ready_dues}
+use Rattle.reorder_buffer.specs.Tracks.{Tracks}
+use Rattle.reorder_buffer.specs.States.{State, has_ready, with_packet}
+use Rattle.reorder_buffer.proofs.Steps.{tracks_with}
+use Rattle.reorder_buffer.specs.declared.answers.Due.{Due}
+use Rattle.reorder_buffer.proofs.Giving.{order_is}
 use Rattle.receiver.specs.Stands.{Stands, latest_number, used_packet}
 use Rattle.receiver.specs.Pieces.{left_of, is_heard}
 use Rattle.receiver.proofs.Blockwise.{heard_left}

@@ -18,7 +18,7 @@ use Rattle.stream_spec.proofs.ChunkTexts.{chunk_texts}
 use Rattle.stream_spec.specs.Fronts.{is_ready_by}
 use Rattle.stream_spec.proofs.ReadyBy.{by_early, by_late, by_front}
 use Rattle.stream_spec.proofs.Lists.{in_filter, filter_in}
-use Rattle.gap_tracker.specs.Stories.{Story, Given, dues, ready_dues, is_due}
+use Rattle.reorder_buffer.specs.Stories.{Story, Given, dues, ready_dues, is_due}
 use Rattle.receiver.specs.declared.settings.EarSettings.{EarSettings}
 use Rattle.receiver.specs.Hears.{told, IsToldOf, ready_packet, ready_packets, ready_chunks, story_chunks}
 use Rattle.receiver.proofs.Given.{dues_rise, ready_stamped}

@@ -1,6 +1,6 @@
 -- What an ear of many sources gives: what is heard of each of them (profile).
 use Rattle.std.specs.Prelude.{◌≡◌, ℕ, ◌+◌, ◌≤◌, List, length}
-use Rattle.gap_tracker.specs.Stories.{Story, ready_dues}
+use Rattle.reorder_buffer.specs.Stories.{Story, ready_dues}
 use Rattle.receiver.specs.declared.source_texts.SourceText.{SourceText}
 use Rattle.receiver.specs.Each.{AreHeard}
 use Rattle.receiver.specs.declared.settings.EarSettings.{EarSettings}

@@ -2,7 +2,7 @@
 use Rattle.std.specs.Prelude.{◌≡◌, ℕ, Ok, List, ◌++◌}
 use Rattle.wire_spec.specs.Packets.{Packet}
 use Rattle.stream_spec.specs.Ready.{Chunk}
-use Rattle.gap_tracker.specs.Stories.{Story}
+use Rattle.reorder_buffer.specs.Stories.{Story}
 use Rattle.receiver.specs.declared.source_texts.SourceText.{SourceText}
 use Rattle.receiver.specs.declared.settings.EarSettings.{EarSettings}
 use Rattle.receiver.specs.declared.ears.Ear.{Ear}

@@ -9,10 +9,10 @@ use Rattle.stream_spec.specs.Hearing.{AreHeardTexts}
 use Rattle.stream_spec.specs.Ready.{Chunk, chunk, chunks}
 use Rattle.stream_spec.specs.Fronts.{is_ready_by}
 use Rattle.stream_spec.specs.ChunksBy.{chunks_by}
-use Rattle.gap_tracker.specs.Stories.{Story, Given, begun, came, ended, dues, ready_dues}
-use Rattle.gap_tracker.specs.Tracks.{Tracks}
-use Rattle.gap_tracker.specs.States.{has_ready}
-use Rattle.gap_tracker.specs.States as buffer
+use Rattle.reorder_buffer.specs.Stories.{Story, Given, begun, came, ended, dues, ready_dues}
+use Rattle.reorder_buffer.specs.Tracks.{Tracks}
+use Rattle.reorder_buffer.specs.States.{has_ready}
+use Rattle.reorder_buffer.specs.States as buffer
 use Rattle.receiver.specs.Stands.{Stands, latest_number}
 use Rattle.receiver.specs.Pieces.{left_of, is_heard}
 use Rattle.receiver.specs.declared.settings.EarSettings.{EarSettings}

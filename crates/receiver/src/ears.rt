@@ -2,7 +2,7 @@
 ghost use Rattle.std.specs.Prelude.{◌≡◌, ◌≢◌, ℕ, ◌+◌, ◌≤◌, ◌<◌, List, [], ◌∷◌, ◌++◌, length, Bool, Some, Ok, Err, OnOk, OnErr, IfOk, IfErr, IsTrue, IsUtf8, AllPairs};
 ghost use Rattle.wire_spec.specs.Packets.{Packet, has_text};
 ghost use Rattle.stream_spec.specs.Ready.{chunk_of, chunk as heard_chunk};
-ghost use Rattle.gap_tracker.specs.Stories.{Story, begun, went, ended};
+ghost use Rattle.reorder_buffer.specs.Stories.{Story, begun, went, ended};
 ghost use Rattle.receiver.specs.declared.settings.EarSettings.{EarSettings};
 ghost use Rattle.receiver.specs.declared.answers.PlainAnswer.{PlainAnswer};
 ghost use Rattle.receiver.specs.Hears.{settings_of, arrival_count, is_finished, is_clear, is_quiet, text_for, told, Hears, Gave, IsGiving, BeginsAnew, Becomes, GivesChunk, GivesNone, GaveReady, GaveFront, AllReady};
@@ -11,7 +11,7 @@ ghost use Rattle.receiver.specs.EarPlain.{IsTextFor, HearsPlain, GivesPlain};
 ghost use Rattle.rtt_base.specs.declared.limits.TheConstants.{END_OF_MOMENTS, LONGEST_WAIT, MOST_ARRIVALS, MOST_SOURCES};
 
 use crate::{EarSettings, PlainAnswer, Receiver, SourceText, TextCursor};
-use gap_tracker::ReorderBuffer;
+use reorder_buffer::ReorderBuffer;
 use rtp_text::{read_text, view_text};
 use rtt_base::{Chunk, NoMemory};
 use std::alloc::Global;

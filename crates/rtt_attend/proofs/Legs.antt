@@ -17,15 +17,15 @@ use Rattle.command_spec.specs.Mixing.{hears_of, input_at, makes}
 use Rattle.command_spec.specs.Attending.{named, named_by, says_of}
 use Rattle.command_spec.proofs.Naming.{same_named}
 use Rattle.leg.specs.Answers.{read_well}
-use Rattle.bridge_run.specs.declared.results.MixFault.{MixFault}
-use Rattle.bridge_run.specs.declared.results.MixFault.TheVariants.{Open, Dump, TooLong, NoMemory}
+use Rattle.rtt_mix.specs.declared.results.MixFault.{MixFault}
+use Rattle.rtt_mix.specs.declared.results.MixFault.TheVariants.{Open, Dump, TooLong, NoMemory}
 use Rattle.command_spec.specs.Inputs.{AllLie, LieBelow, NoneFailedBelow, inputs_under, octets_under}
-use Rattle.bridge_run.specs.Mixes.{IsFirst, NoneFailed, RoseAt, Stops}
-use Rattle.bridge_run.specs.Opened.{IsNotOpened}
+use Rattle.rtt_mix.specs.Mixes.{IsFirst, NoneFailed, RoseAt, Stops}
+use Rattle.rtt_mix.specs.Opened.{IsNotOpened}
 use Rattle.mixer_posts.proofs.Backward.{pushed}
-use Rattle.bridge_run.proofs.Opening.{is_there, leg_read_at, rose_behind}
-use Rattle.bridge_run.proofs.Handing.{input_is}
-use Rattle.bridge_run.proofs.Answering.{broken_steps, leg_within}
+use Rattle.rtt_mix.proofs.Opening.{is_there, leg_read_at, rose_behind}
+use Rattle.rtt_mix.proofs.Handing.{input_is}
+use Rattle.rtt_mix.proofs.Answering.{broken_steps, leg_within}
 use Rattle.rtt_attend.specs.declared.sender_reports.SenderReport.{SenderReport}
 use Rattle.rtt_attend.specs.Heard.{Hears, IsRead}
 use Rattle.view_spec.specs.Tallies.{tally_at}

@@ -12,7 +12,7 @@ use Rattle.mixer_posts.proofs.LegLines.{legs_more}
 use Rattle.command_spec.specs.Inputs.{inputs_under}
 use Rattle.command_spec.specs.Mixing.{counts_lines, leg_tally}
 use Rattle.command_spec.specs.Work.{Contents}
-use Rattle.bridge_run.proofs.Opening.{leg_read_at}
+use Rattle.rtt_mix.proofs.Opening.{leg_read_at}
 use Rattle.rtt_attend.specs.declared.sender_reports.SenderReport.{SenderReport}
 use Rattle.rtt_attend.specs.Named.{AreTold, lines_below}
 

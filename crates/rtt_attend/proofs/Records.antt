@@ -9,7 +9,7 @@ use Rattle.view_spec.specs.Tallies.{tally_at}
 use Rattle.rtt_attend.specs.Counted.{CountsFate, IsCounted, fate_in}
 use Rattle.rtt_attend.proofs.Tallying.{StayFew, all_counted, item_counted, stay_few}
 use Rattle.rtt_io.specs.Counts.{Rose}
-use Rattle.bridge_run.proofs.Answering.{source_read}
+use Rattle.rtt_mix.proofs.Answering.{source_read}
 use Rattle.wire_spec.specs.declared.rtcp_faults.RtcpRefusal.TheVariants.{Short}
 use Rattle.wire_spec.specs.Rtcp.{packets_within, rtcp}
 use Rattle.wire_spec.specs.Recorded.{Entry, entries}

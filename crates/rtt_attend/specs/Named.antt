@@ -10,8 +10,8 @@ use Rattle.command_spec.specs.Work.{Contents}
 use Rattle.command_spec.specs.Attending as attending
 use Rattle.command_spec.specs.Attending.{named, named_by, nothing, says_of}
 use Rattle.command_spec.specs.Inputs.{AllLie, inputs_under}
-use Rattle.bridge_run.specs.Mixes.{NoneFailed, WholeBelow}
-use Rattle.bridge_run.specs.declared.results.MixFault.{MixFault}
+use Rattle.rtt_mix.specs.Mixes.{NoneFailed, WholeBelow}
+use Rattle.rtt_mix.specs.declared.results.MixFault.{MixFault}
 use Rattle.rtt_attend.specs.declared.sender_reports.SenderReport.{SenderReport}
 use Rattle.rtt_attend.specs.Heard.{said_of}
 

@@ -11,9 +11,9 @@ use Rattle.view_spec.specs.Seen.{Reception}
 use Rattle.command_spec.specs.Mixing.{input_at}
 use Rattle.leg.specs.Answers.{read_well}
 use Rattle.command_spec.specs.Inputs.{NoneFailedBelow, inputs_under}
-use Rattle.bridge_run.specs.Mixes.{RoseAt}
-use Rattle.bridge_run.specs.declared.results.MixFault.{MixFault}
-use Rattle.bridge_run.specs.declared.results.MixFault.TheVariants.{Open, Dump, TooLong, NoMemory}
+use Rattle.rtt_mix.specs.Mixes.{RoseAt}
+use Rattle.rtt_mix.specs.declared.results.MixFault.{MixFault}
+use Rattle.rtt_mix.specs.declared.results.MixFault.TheVariants.{Open, Dump, TooLong, NoMemory}
 use Rattle.rtt_attend.specs.declared.sender_reports.SenderReport.{SenderReport}
 use Rattle.rtt_attend.specs.Heard.{Hears}
 

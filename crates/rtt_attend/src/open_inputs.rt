@@ -2,14 +2,14 @@
 ghost use Rattle.std.specs.Prelude.{◌≡◌, ◌<◌, ◌≤◌, length, IfOk, IfErr, OnOk};
 ghost use Rattle.std.specs.Vec.Iter.{into_iter_items, into_iter_len};
 ghost use Rattle.rtt_io.specs.Names.{NoneFalls, Same};
-ghost use Rattle.bridge_run.specs.Mixes.{IsFirstIn};
-ghost use Rattle.bridge_run.specs.Opened.{Unopened};
+ghost use Rattle.rtt_mix.specs.Mixes.{IsFirstIn};
+ghost use Rattle.rtt_mix.specs.Opened.{Unopened};
 ghost use Rattle.file_spec.specs.declared.limits.TheConstants.{MOST_LEGS};
 ghost use Rattle.rtt_attend.specs.Opened.{AreFresh, AreInputs};
 
-use bridge_run::MixFault;
 use file_spec::LegLine;
 use rtt_io::World;
+use rtt_mix::MixFault;
 use std::alloc::Global;
 use std::vec::IntoIter;
 

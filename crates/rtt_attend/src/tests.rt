@@ -1,11 +1,11 @@
 //! Calls of two, with RTCP in the recordings by hand.
 use crate::hear_names;
-use bridge_run::MixFault;
 use conf_text::read_conf;
 use file_spec::{Conference, Form};
 use rtpdump_io::{DumpFault, write_opening};
 use rtt_base::{Bytes, NoMemory, Path};
 use rtt_io::{FailingCall, MemWorld};
+use rtt_mix::MixFault;
 use std::alloc::Global;
 use std::test::Fail;
 use wire_spec::DumpKind;

@@ -7,13 +7,13 @@ use Rattle.wire_spec.specs.Packets.{Packet, Arrival, packet_of}
 use Rattle.wire_spec.specs.Dump.{Item, arrived, arrivals_after}
 use Rattle.stream_spec.specs.Numbering.{Numbered, numbered, number_it, in_time, first_number, greatest, distinct_from}
 use Rattle.command_spec.specs.Reading.{usual_wait}
-use Rattle.gap_tracker.specs.declared.answers.Due.{Due}
-use Rattle.gap_tracker.specs.Stories.{Story, given_of, begun}
-use Rattle.gap_tracker.specs.Stories as stories
-use Rattle.gap_tracker.specs.States.{State, current_of, with_packet}
-use Rattle.gap_tracker.specs.Tracks.{Tracks}
-use Rattle.gap_tracker.specs.Told.{LeadsStory, TellsStory, Gives, came_current, is_current_in_time}
-use Rattle.gap_tracker.proofs.Steps.{tracks_with}
+use Rattle.reorder_buffer.specs.declared.answers.Due.{Due}
+use Rattle.reorder_buffer.specs.Stories.{Story, given_of, begun}
+use Rattle.reorder_buffer.specs.Stories as stories
+use Rattle.reorder_buffer.specs.States.{State, current_of, with_packet}
+use Rattle.reorder_buffer.specs.Tracks.{Tracks}
+use Rattle.reorder_buffer.specs.Told.{LeadsStory, TellsStory, Gives, came_current, is_current_in_time}
+use Rattle.reorder_buffer.proofs.Steps.{tracks_with}
 use Rattle.receiver.specs.Hears.{IsToldOf}
 use Rattle.receiver.proofs.ReadyBy.{told_arrived}
 use Rattle.report_spec.specs.Missed.{lost_count}

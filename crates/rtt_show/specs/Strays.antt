@@ -7,9 +7,9 @@ use Rattle.wire_spec.specs.Packets.{Packet, Arrival, packet_of}
 use Rattle.wire_spec.specs.Dump.{latest}
 use Rattle.stream_spec.specs.Numbering.{Numbered, numbered, number_it, used, in_time, has_number, first_number, distinct_from}
 use Rattle.command_spec.specs.Reading.{usual_wait}
-use Rattle.gap_tracker.specs.Stories.{Story, Given}
-use Rattle.gap_tracker.specs.States.{State, arrival_count, has_ready, current_of}
-use Rattle.gap_tracker.specs.Tracks.{Tracks}
+use Rattle.reorder_buffer.specs.Stories.{Story, Given}
+use Rattle.reorder_buffer.specs.States.{State, arrival_count, has_ready, current_of}
+use Rattle.reorder_buffer.specs.Tracks.{Tracks}
 use Rattle.receiver.specs.Hears.{IsToldOf}
 use Rattle.report_spec.specs.Missed.{late_count}
 use Rattle.rtt_show.specs.declared.strays.NumberedPacket.{NumberedPacket}

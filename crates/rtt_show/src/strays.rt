@@ -1,8 +1,8 @@
 //! The packets of a stream that came twice or late.
 ghost use Rattle.std.specs.Prelude.{◌≡◌, ℕ, ◌+◌, ◌≤◌, ◌<◌, ◌^◌, [], Some, false, IfOk, OnOk};
 ghost use Rattle.wire_spec.specs.Text.{text_of};
-ghost use Rattle.gap_tracker.specs.Stories.{is_used};
-ghost use Rattle.gap_tracker.specs.States.{has_ready, arrival_count};
+ghost use Rattle.reorder_buffer.specs.Stories.{is_used};
+ghost use Rattle.reorder_buffer.specs.States.{has_ready, arrival_count};
 ghost use Rattle.rtpdump_io.specs.InMemory.{HasRecords};
 ghost use Rattle.rtt_show.specs.Records.{OfRecords};
 ghost use Rattle.rtt_show.specs.Missed.{IsMissed};
@@ -11,7 +11,7 @@ ghost use Rattle.rtt_show.specs.Strays.{Drains, Follows, CurrentComes, FollowsMo
 use crate::losses::{Losses, missing};
 use crate::spreads::Spread;
 use crate::sums::one_if;
-use gap_tracker::{ReorderBuffer, Taken};
+use reorder_buffer::{ReorderBuffer, Taken};
 use rtp_text::read_text;
 use rtpdump_io::next_record;
 use rtt_base::limits::USUAL_WAIT;

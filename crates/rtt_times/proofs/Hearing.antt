@@ -13,13 +13,13 @@ use Rattle.stream_spec.specs.Numbering.{numbered, number_after, greatest, neares
 use Rattle.command_spec.specs.Firsts.{Firsts, with_name}
 use Rattle.command_spec.specs.Reading.{usual_wait}
 use Rattle.command_spec.specs.Streams.{source_in, sources, text_at}
-use Rattle.gap_tracker.specs.declared.answers.Due.{Due}
-use Rattle.gap_tracker.specs.Stories.{Story, Given, begun, came, ended, given_of, given_packet, dues, ready_dues}
-use Rattle.gap_tracker.specs.States.{State, with_packet}
-use Rattle.gap_tracker.specs.Tracks.{Tracks}
-use Rattle.gap_tracker.specs.Views.{next_number}
-use Rattle.gap_tracker.specs.Told.{LeadsStory, Gives, GivesAtOnce, GaveReady, AllReady}
-use Rattle.gap_tracker.proofs.Steps.{tracks_with}
+use Rattle.reorder_buffer.specs.declared.answers.Due.{Due}
+use Rattle.reorder_buffer.specs.Stories.{Story, Given, begun, came, ended, given_of, given_packet, dues, ready_dues}
+use Rattle.reorder_buffer.specs.States.{State, with_packet}
+use Rattle.reorder_buffer.specs.Tracks.{Tracks}
+use Rattle.reorder_buffer.specs.Views.{next_number}
+use Rattle.reorder_buffer.specs.Told.{LeadsStory, Gives, GivesAtOnce, GaveReady, AllReady}
+use Rattle.reorder_buffer.proofs.Steps.{tracks_with}
 use Rattle.receiver.specs.Hears.{IsToldOf, told}
 use Rattle.receiver.proofs.ReadyBy.{told_arrived}
 use Rattle.rtt_show.specs.Surveys.{firsts_of}

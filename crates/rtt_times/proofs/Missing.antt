@@ -13,8 +13,8 @@ use Rattle.stream_spec.specs.Numbering.{Numbered, RisingNumbers, by_number, has_
 use Rattle.stream_spec.specs.Ready.{ready_of}
 use Rattle.stream_spec.proofs.Rising.{used_rises, length_by_number}
 use Rattle.command_spec.specs.Reading.{usual_wait}
-use Rattle.gap_tracker.specs.declared.answers.Due.{Due}
-use Rattle.gap_tracker.specs.Stories.{dues_of, due_at}
+use Rattle.reorder_buffer.specs.declared.answers.Due.{Due}
+use Rattle.reorder_buffer.specs.Stories.{dues_of, due_at}
 use Rattle.report_spec.specs.Numbers.{Lost, Row, is_late, late, lost, lost_among, lost_before, lost_from, missing, with_number}
 use Rattle.report_spec.specs.Times as times
 use Rattle.report_spec.specs.Times.{late_line, lost_line, number_lines}

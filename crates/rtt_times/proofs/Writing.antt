@@ -10,7 +10,7 @@ use Rattle.wire_spec.specs.Dump.{Item, arrivals_after, arrivals_with, sent_item}
 use Rattle.stream_spec.specs.Ready.{Chunk, chunks}
 use Rattle.command_spec.specs.declared.requests.ReadRequest.{ReadRequest}
 use Rattle.command_spec.specs.Reading.{usual_wait}
-use Rattle.gap_tracker.specs.Stories.{Story, Given, begun, ended}
+use Rattle.reorder_buffer.specs.Stories.{Story, Given, begun, ended}
 use Rattle.receiver.specs.declared.settings.EarSettings.{EarSettings}
 use Rattle.receiver.specs.declared.ears.Ear.{Ear}
 use Rattle.receiver.specs.Hears.{AllReady, Becomes, Gave, GaveReady, GivesChunk, GivesNone, IsGiving, arrival_count, text_for, told}

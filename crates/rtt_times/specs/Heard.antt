@@ -7,11 +7,11 @@ use Rattle.stream_spec.specs.Numbering.{Numbered, numbered, nearest, greatest}
 use Rattle.command_spec.specs.Firsts.{Firsts, firsts, with_name}
 use Rattle.command_spec.specs.Reading.{usual_wait}
 use Rattle.command_spec.specs.Streams.{sources}
-use Rattle.gap_tracker.specs.declared.answers.Due.{Due}
-use Rattle.gap_tracker.specs.Stories.{Story, Given, dues_of, ready_dues}
-use Rattle.gap_tracker.specs.Stories as stories
-use Rattle.gap_tracker.specs.States.{State, current_of}
-use Rattle.gap_tracker.specs.Tracks.{Tracks}
+use Rattle.reorder_buffer.specs.declared.answers.Due.{Due}
+use Rattle.reorder_buffer.specs.Stories.{Story, Given, dues_of, ready_dues}
+use Rattle.reorder_buffer.specs.Stories as stories
+use Rattle.reorder_buffer.specs.States.{State, current_of}
+use Rattle.reorder_buffer.specs.Tracks.{Tracks}
 use Rattle.receiver.specs.Hears.{IsToldOf}
 use Rattle.rtp_text.specs.declared.views.TextView.{TextView}
 use Rattle.rtp_text.specs.Views.{packet_in}

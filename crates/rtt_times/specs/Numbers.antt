@@ -4,7 +4,7 @@ use Rattle.std.specs.List.{list_any}
 use Rattle.std.specs.List.Sorted.{IsNonDecreasing}
 use Rattle.stream_spec.specs.Numbering.{Numbered}
 use Rattle.command_spec.specs.Reading.{usual_wait}
-use Rattle.gap_tracker.specs.declared.answers.Due.{Due}
+use Rattle.reorder_buffer.specs.declared.answers.Due.{Due}
 use Rattle.report_spec.specs.Numbers.{Row, late, missing}
 use Rattle.report_spec.specs.Times.{LateNumber, lost_line, number_lines}
 use Rattle.rtt_times.specs.declared.stream_packets.TimedPacket.{TimedPacket}

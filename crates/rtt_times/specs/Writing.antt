@@ -6,7 +6,7 @@ use Rattle.stream_spec.specs.Ready.{Chunk}
 use Rattle.command_spec.specs.declared.requests.ReadRequest.{ReadRequest}
 use Rattle.command_spec.specs.Reading.{usual_wait}
 use Rattle.report_spec.specs.Times.{source_lines}
-use Rattle.gap_tracker.specs.Stories.{Story}
+use Rattle.reorder_buffer.specs.Stories.{Story}
 use Rattle.receiver.specs.declared.settings.EarSettings.{EarSettings}
 use Rattle.receiver.specs.declared.ears.Ear.{Ear}
 use Rattle.receiver.specs.Hears.{GaveSome, IsToldOf, ready_chunks, story_chunks, text_for, told}

@@ -6,7 +6,7 @@ ghost use Rattle.rtt_times.specs.Numbers.{AddsBefore, AddsMissing, AddsNumbers, 
 
 use crate::lines::Lines;
 use crate::stream_packets::{StreamPackets, TimedPacket};
-use gap_tracker::Due;
+use reorder_buffer::Due;
 use rtt_base::NoMemory;
 use std::alloc::Global;
 

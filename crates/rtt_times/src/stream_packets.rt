@@ -2,12 +2,12 @@
 ghost use Rattle.std.specs.Prelude.{◌≡◌, ℕ, ◌+◌, ◌<◌, ◌≤◌, ◌^◌, Bool, IfOk, OnOk};
 ghost use Rattle.rtt_base.specs.declared.limits.TheConstants.{END_OF_MOMENTS};
 ghost use Rattle.rtpdump_io.specs.InMemory.{HasRecords};
-ghost use Rattle.gap_tracker.specs.States.{IsNext, arrival_count, current_of, has_ready, is_finished};
-ghost use Rattle.gap_tracker.specs.Views.{next_number};
+ghost use Rattle.reorder_buffer.specs.States.{IsNext, arrival_count, current_of, has_ready, is_finished};
+ghost use Rattle.reorder_buffer.specs.Views.{next_number};
 ghost use Rattle.rtt_show.specs.Records.{OfRecords};
 ghost use Rattle.rtt_times.specs.Heard.{Counts, Drains, HearsCurrent, HearsOctets, HearsRecords, HearsViewed, IsEmpty, IsHeard, IsSmall, number_from};
 
-use gap_tracker::{Due, ReorderBuffer};
+use reorder_buffer::{Due, ReorderBuffer};
 use rtp_text::{TextView, read_text, view_text};
 use rtpdump_io::next_record;
 use rtt_base::limits::USUAL_WAIT;

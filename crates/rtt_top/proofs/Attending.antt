@@ -21,10 +21,10 @@ use Rattle.command_spec.specs.Inputs.{AllLie, LieBelow, NoneReads, inputs_under}
 use Rattle.command_spec.specs.Mixing.{input_at, makes, mixes, unless_one_broken}
 use Rattle.command_spec.specs.Attending.{named, says_of}
 use Rattle.command_spec.proofs.SameFiles.{HaveFilesOf, back, same_inputs, same_many, there}
-use Rattle.bridge_run.specs.declared.results.MixFault.{MixFault}
-use Rattle.bridge_run.specs.declared.results.MixFault.TheVariants.{Open, Dump, TooLong}
-use Rattle.bridge_run.specs.declared.results.MixFault.TheVariants as mix
-use Rattle.bridge_run.specs.Mixes.{IsFirst, NoneFailed, Stops, steps_of}
+use Rattle.rtt_mix.specs.declared.results.MixFault.{MixFault}
+use Rattle.rtt_mix.specs.declared.results.MixFault.TheVariants.{Open, Dump, TooLong}
+use Rattle.rtt_mix.specs.declared.results.MixFault.TheVariants as mix
+use Rattle.rtt_mix.specs.Mixes.{IsFirst, NoneFailed, Stops, steps_of}
 use Rattle.rtt_top.specs.Conferences.{ending_name, fault_name, fault_of_mixing, input_name, input_of}
 use Rattle.rtt_top.specs.Outside.{CallFailed, ObjectFailed, Outside}
 use Rattle.rtt_top.specs.Runs.{Ends, Unchanged}

@@ -19,11 +19,11 @@ use Rattle.command_spec.specs.Inputs.{LieBelow, AllLie, inputs_under}
 use Rattle.command_spec.specs.Mixing.{counted}
 use Rattle.command_spec.proofs.Reached.{counted_makes}
 use Rattle.command_spec.specs.Messages.{Ending}
-use Rattle.bridge_run.specs.declared.results.MixFault.{MixFault}
-use Rattle.bridge_run.specs.declared.results.MixFault.TheVariants.{Open, Dump, TooLong}
-use Rattle.bridge_run.specs.declared.results.MixFault.TheVariants as mix
-use Rattle.bridge_run.specs.Mixes.{IsBroken, outputs_of, steps_of}
-use Rattle.bridge_run.specs.Mixes as bridge
+use Rattle.rtt_mix.specs.declared.results.MixFault.{MixFault}
+use Rattle.rtt_mix.specs.declared.results.MixFault.TheVariants.{Open, Dump, TooLong}
+use Rattle.rtt_mix.specs.declared.results.MixFault.TheVariants as mix
+use Rattle.rtt_mix.specs.Mixes.{IsBroken, outputs_of, steps_of}
+use Rattle.rtt_mix.specs.Mixes as bridge
 use Rattle.rtt_top.specs.Conferences.{ComesToMixing, MakesOutputs, NamesOutputs, ending_name, fault_of_mixing, input_name, input_of, output_of}
 use Rattle.rtt_top.specs.Faults.{NoneBefore, is_recording}
 use Rattle.rtt_top.specs.Outputs.{IsUnwritten}

@@ -15,7 +15,7 @@ use Rattle.rtt_words.specs.Tasks.{work}
 use Rattle.command_spec.specs.Mixing.{makes, reads_inputs}
 use Rattle.command_spec.specs.Mixing as mixed
 use Rattle.command_spec.specs.Inputs.{octets_under, inputs_under, LieBelow, AllLie}
-use Rattle.bridge_run.specs.Mixes.{WholeBelow, steps_of}
+use Rattle.rtt_mix.specs.Mixes.{WholeBelow, steps_of}
 use Rattle.rtt_top.specs.Faults.{NoneBefore}
 use Rattle.rtt_top.specs.Conferences.{ComesToMixing, input_name, input_of, steps_counted}
 use Rattle.rtt_top.proofs.Before.{none_broken, none_makes}

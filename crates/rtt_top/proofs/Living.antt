@@ -13,15 +13,15 @@ use Rattle.live_spec.proofs.LinksStay.{apart_law, stay_law}
 use Rattle.live_spec.proofs.Totals.{covers_told}
 use Rattle.mix_loop.specs.Clocks.{IsPaced}
 use Rattle.mix_loop.specs.Walks.{IsPaused}
-use Rattle.live_run.specs.declared.faults.LiveFault.{LiveFault}
-use Rattle.live_run.specs.declared.faults.LiveFault.TheVariants as live
-use Rattle.live_run.specs.declared.reports.LiveEnd.{LiveEnd}
-use Rattle.live_run.specs.declared.reports.LiveReport.{LiveReport}
-use Rattle.live_run.specs.declared.reports.LiveEnd.TheVariants as ends
-use Rattle.live_run.specs.Calls.{BrokeOff, IsOfLinks, WasGivenUp, WasPaced, WasServed, at_ports_of}
-use Rattle.live_run.specs.Opened.{LeadsAll, LeadsSome}
-use Rattle.live_run.specs.Reports.{end_of}
-use Rattle.live_run.specs.Watched.{WasWatched}
+use Rattle.rtt_live.specs.declared.faults.LiveFault.{LiveFault}
+use Rattle.rtt_live.specs.declared.faults.LiveFault.TheVariants as live
+use Rattle.rtt_live.specs.declared.reports.LiveEnd.{LiveEnd}
+use Rattle.rtt_live.specs.declared.reports.LiveReport.{LiveReport}
+use Rattle.rtt_live.specs.declared.reports.LiveEnd.TheVariants as ends
+use Rattle.rtt_live.specs.Calls.{BrokeOff, IsOfLinks, WasGivenUp, WasPaced, WasServed, at_ports_of}
+use Rattle.rtt_live.specs.Opened.{LeadsAll, LeadsSome}
+use Rattle.rtt_live.specs.Reports.{end_of}
+use Rattle.rtt_live.specs.Watched.{WasWatched}
 use Rattle.command_spec.specs.declared.faults.Fault.{Fault}
 use Rattle.command_spec.specs.declared.faults.Fault.TheVariants.{WrongWords, CannotOpen, CannotRead, Refused, CannotPrint, CannotWrite, LinkFailed, NoMemory}
 use Rattle.command_spec.specs.declared.faults.Refusal.TheVariants.{AtByte, AtFrame, AtLine, AtTrunk, AfterTurns}

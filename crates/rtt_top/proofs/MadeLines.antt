@@ -21,10 +21,10 @@ use Rattle.command_spec.specs.Sums.{Sums, sums_mixed}
 use Rattle.rtt_words.specs.Words.{Command, Make}
 use Rattle.command_spec.specs.Work.{Contents, Steps, Reads, Refuses, Makes, Serves}
 use Rattle.command_spec.specs.Outcomes.{outcome, AllStored}
-use Rattle.bridge_run.specs.declared.results.MixFault.{MixFault}
-use Rattle.bridge_run.specs.declared.results.MixFault.TheVariants.{Open, Dump, TooLong}
-use Rattle.bridge_run.specs.declared.results.MixFault.TheVariants as mix
-use Rattle.bridge_run.specs.Answered.{MixesTo}
+use Rattle.rtt_mix.specs.declared.results.MixFault.{MixFault}
+use Rattle.rtt_mix.specs.declared.results.MixFault.TheVariants.{Open, Dump, TooLong}
+use Rattle.rtt_mix.specs.declared.results.MixFault.TheVariants as mix
+use Rattle.rtt_mix.specs.Answered.{MixesTo}
 use Rattle.rtt_top.specs.Makings.{IsWhy, fault_in_memory}
 use Rattle.rtt_top.specs.Outside.{Outside, Failed}
 use Rattle.rtt_top.specs.Runs.{Ends, Prints, PrintsFront}

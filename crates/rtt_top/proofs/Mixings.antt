@@ -14,7 +14,7 @@ use Rattle.command_spec.specs.Attending.{Said, attending, attends, attends_read,
 use Rattle.command_spec.proofs.Naming.{files_told}
 use Rattle.command_spec.proofs.Outputs.{attended_output, is_output}
 use Rattle.command_spec.proofs.SameFiles.{HaveFilesOf, back, same_inputs, same_many, there}
-use Rattle.bridge_run.specs.Mixes.{steps_of}
+use Rattle.rtt_mix.specs.Mixes.{steps_of}
 use Rattle.rtt_top.specs.Conferences.{ComesToMixing, steps_counted}
 use Rattle.rtt_top.proofs.Bridging.{leg_within}
 use Rattle.rtt_top.proofs.Chain.{chain, leg_input}

@@ -12,7 +12,7 @@ use Rattle.command_spec.specs.Work.{Contents, Made, IsNth}
 use Rattle.command_spec.specs.Outcomes.{Stores, AllStored}
 use Rattle.rtt_top.specs.Files.{IsPartlyStored}
 use Rattle.rtt_top.specs.Runs.{PartlyStored}
-use Rattle.bridge_run.specs.Mixes.{outputs_of}
+use Rattle.rtt_mix.specs.Mixes.{outputs_of}
 use Rattle.rtt_top.specs.Outputs.{IsUnwritten}
 use Rattle.rtt_top.specs.Outside.{RoseAt}
 use Rattle.rtt_top.proofs.Counts.{rose_since}

@@ -13,7 +13,7 @@ use Rattle.command_spec.specs.Outcomes as outcomes
 use Rattle.command_spec.specs.Messages.{Ending}
 use Rattle.file_spec.specs.declared.conference_lines.LegLine.{LegLine}
 use Rattle.command_spec.specs.Inputs.{LieBelow}
-use Rattle.bridge_run.specs.Mixes.{steps_of}
+use Rattle.rtt_mix.specs.Mixes.{steps_of}
 use Rattle.rtt_top.specs.Conferences.{ComesToMixing, MakesOutputs, steps_counted}
 use Rattle.rtt_top.specs.Faults.{NoneBefore, RefusesSo, WhereRead, has_frames, is_recording, name_in}
 use Rattle.rtt_top.specs.Outside.{Outside, Output, Failed, CallFailed, ObjectFailed}

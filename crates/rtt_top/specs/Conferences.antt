@@ -17,21 +17,21 @@ use Rattle.rtt_words.specs.Tasks.{work}
 use Rattle.command_spec.specs.Outcomes.{Done, outcome, outcome_from}
 use Rattle.command_spec.specs.Inputs.{AllLie, LieBelow, inputs_under}
 use Rattle.command_spec.specs.Mixing.{counted, mixes_counted}
-use Rattle.bridge_run.specs.declared.results.Mixed.{Mixed}
+use Rattle.rtt_mix.specs.declared.results.Mixed.{Mixed}
 use Rattle.sent_log.specs.Files.{recordings_of}
-use Rattle.bridge_run.specs.Mixes.{outputs_of, steps_of}
+use Rattle.rtt_mix.specs.Mixes.{outputs_of, steps_of}
 use Rattle.rtt_top.specs.Faults.{WhereRead, fault_of_dump, is_mixed, is_recording}
 use Rattle.rtt_io.specs.declared.sinks.Sink as sinks
 use Rattle.rtt_io.specs.declared.worlds.World as worlds
 use Rattle.rtt_top.specs.Across.{EndsAcross}
-use Rattle.bridge_run.specs.declared.results.MixFault.{MixFault}
-use Rattle.bridge_run.specs.declared.results.MixFault.TheVariants.{Open, Dump, TooLong}
-use Rattle.bridge_run.specs.declared.results.MixFault.TheVariants as mix
+use Rattle.rtt_mix.specs.declared.results.MixFault.{MixFault}
+use Rattle.rtt_mix.specs.declared.results.MixFault.TheVariants.{Open, Dump, TooLong}
+use Rattle.rtt_mix.specs.declared.results.MixFault.TheVariants as mix
 use Rattle.cascade.specs.declared.faults.CascadeFault.{CascadeFault}
 use Rattle.cascade.specs.declared.faults.CascadeFault.TheVariants as behind
 use Rattle.cascade.specs.Inputs as behind_inputs
-use Rattle.live_run.specs.declared.faults.LiveFault.{LiveFault}
-use Rattle.live_run.specs.declared.faults.LiveFault.TheVariants as live
+use Rattle.rtt_live.specs.declared.faults.LiveFault.{LiveFault}
+use Rattle.rtt_live.specs.declared.faults.LiveFault.TheVariants as live
 
 -- The fault of a command for that of a mixing of at most so many turns. The conference is the first input, and the recording of leg k
 -- is the one of number k + 1.

@@ -14,12 +14,12 @@ use Rattle.live_spec.specs.HeadLive.{HeadLive}
 use Rattle.mix_loop.specs.Clocks.{IsPaced}
 use Rattle.mix_loop.specs.Walks.{IsPaused}
 use Rattle.rtt_io.specs.declared.sinks.Sink as sinks
-use Rattle.live_run.specs.declared.faults.LiveFault.{LiveFault}
-use Rattle.live_run.specs.declared.reports.LiveReport.{LiveReport}
-use Rattle.live_run.specs.Calls.{AtPorts, BrokeOff, WasPaced, at_ports_of}
-use Rattle.live_run.specs.Ends.{packets_in}
-use Rattle.live_run.specs.Opened.{LeadsAll, LeadsSome}
-use Rattle.live_run.specs.Spans.{Span}
+use Rattle.rtt_live.specs.declared.faults.LiveFault.{LiveFault}
+use Rattle.rtt_live.specs.declared.reports.LiveReport.{LiveReport}
+use Rattle.rtt_live.specs.Calls.{AtPorts, BrokeOff, WasPaced, at_ports_of}
+use Rattle.rtt_live.specs.Ends.{packets_in}
+use Rattle.rtt_live.specs.Opened.{LeadsAll, LeadsSome}
+use Rattle.rtt_live.specs.Spans.{Span}
 use Rattle.rtt_top.specs.declared.serve_modes.ServeMode.{ServeMode}
 use Rattle.rtt_top.specs.declared.serve_modes.ServeMode.TheVariants.{Alone, Watched}
 use Rattle.rtt_top.specs.Conferences.{fault_of_live, serving_of}

@@ -4,9 +4,9 @@ use Rattle.command_spec.specs.declared.faults.Refusal.TheVariants.{AfterTurns}
 use Rattle.command_spec.specs.declared.faults.Fault.{Fault}
 use Rattle.command_spec.specs.declared.faults.Fault.TheVariants.{WrongWords, CannotOpen, CannotRead, Refused, CannotPrint, CannotWrite, LinkFailed, NoMemory}
 use Rattle.command_spec.specs.Work.{Steps, Refuses}
-use Rattle.bridge_run.specs.declared.results.MixFault.{MixFault}
-use Rattle.bridge_run.specs.declared.results.MixFault.TheVariants.{Open, Dump, TooLong}
-use Rattle.bridge_run.specs.declared.results.MixFault.TheVariants as mix
+use Rattle.rtt_mix.specs.declared.results.MixFault.{MixFault}
+use Rattle.rtt_mix.specs.declared.results.MixFault.TheVariants.{Open, Dump, TooLong}
+use Rattle.rtt_mix.specs.declared.results.MixFault.TheVariants as mix
 
 -- the fault of a command for that of a mixing in memory of at most so many turns: no recording there has a fault of its own
 abbrev pub fault_in_memory : ℕ → MixFault → Fault

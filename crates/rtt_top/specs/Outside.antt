@@ -6,7 +6,7 @@ use Rattle.rtt_io.specs.declared.worlds.World as worlds
 use Rattle.stream_spec.specs.Links.{Takes}
 use Rattle.link_io.specs.declared.links.Links as links
 use Rattle.command_spec.specs.Work.{Contents}
-use Rattle.bridge_run.specs.Mixes.{NoOtherFailed}
+use Rattle.rtt_mix.specs.Mixes.{NoOtherFailed}
 
 -- What an output took, and how often it failed.
 pub record Output : Type 0 where

@@ -14,7 +14,7 @@ use Rattle.rtt_words.specs.Tasks.{sending_of, sends, work}
 use Rattle.command_spec.specs.Frames.{channel, relay}
 use Rattle.wire_spec.specs.Dump.{dump, usual_limit}
 use Rattle.command_spec.specs.Outcomes.{outcome, Done, Stores, AllStored}
-use Rattle.bridge_run.specs.Mixes.{NoOtherFailed, outputs_of}
+use Rattle.rtt_mix.specs.Mixes.{NoOtherFailed, outputs_of}
 use Rattle.rtt_top.specs.Outside.{RoseAt}
 use Rattle.rtt_top.specs.Files.{made_file, IsPartlyStored}
 use Rattle.rtt_top.specs.Faults.{Stops, IsUnread}

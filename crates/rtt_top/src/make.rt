@@ -7,11 +7,11 @@ ghost use Rattle.rtt_top.specs.Makings.{fault_in_memory, IsWhy};
 ghost use Rattle.rtt_top.specs.Across.{EndsAcross, RunsAcross};
 
 use crate::messages::{finish_with, print};
-use bridge_run::{MixFault, mix_held};
 use command_spec::{Fault, Refusal};
 use rtt_base::Bytes;
 use rtt_io::{Gate, Sink, World};
 use rtt_make::{Totals, make_conf, recordings_of, summary_of};
+use rtt_mix::{MixFault, mix_held};
 use std::alloc::Global;
 use std::sync::Wait;
 use std::thread::Threads;

@@ -10,13 +10,13 @@ ghost use Rattle.rtt_top.specs.Sinks.{Wrote, WrotePartly, TookFront, TookIfCalm,
 
 use crate::name_texts::write_name;
 use crate::names::ending_name;
-use bridge_run::Piece;
 use command_spec::{Fault, Refusal, dump_kind_name};
 use file_spec::{ConfKind, FrameKind};
 use itoa::Buffer;
 use rtt_base::{Bytes, Failed};
 use rtt_check::{conf_kind_name, frame_kind_name};
 use rtt_io::Sink;
+use rtt_mix::Piece;
 use rtt_words::{Topic, help_text};
 
 /// The program's status for a refusal.

@@ -9,12 +9,12 @@ ghost use Rattle.file_spec.specs.declared.limits.TheConstants.{MOST_LEGS};
 
 use crate::files::{fault_of_dump, save_recording};
 use crate::messages::print_views;
-use bridge_run::{MixFault, Mixed, Piece, mix};
 use command_spec::{Fault, Refusal};
 use file_spec::{Conference, LegLine};
 use rtt_attend::count_inputs;
 use rtt_base::{Bytes, NoMemory};
 use rtt_io::{Gate, Sink, World};
+use rtt_mix::{MixFault, Mixed, Piece, mix};
 use sent_log::SentFiles;
 use std::alloc::Global;
 use std::sync::Wait;

@@ -1,7 +1,7 @@
 //! A live call of the conference of a file is served, and what was seen is printed.
 ghost use Rattle.std.specs.Prelude.{◌≡◌, true};
 ghost use Rattle.file_spec.specs.Conferences.{meaning_of};
-ghost use Rattle.live_run.specs.Calls.{IsOfLinks};
+ghost use Rattle.rtt_live.specs.Calls.{IsOfLinks};
 ghost use Rattle.rtt_words.specs.Commands.{mixed};
 ghost use Rattle.rtt_top.specs.Conferences.{fault_of_live};
 ghost use Rattle.rtt_top.specs.Lives.{EndsServing, GivesUp, IsGivenUp, IsServedFrom, OnGivenUp, PrintsReport, ServingEnds, Share, is_unserved, served_by, status_at};
@@ -13,8 +13,8 @@ use command_spec::Fault;
 use conf_text::Form;
 use file_spec::Conference;
 use link_io::Links;
-use live_run::{LiveFault, LiveReport, serve, serve_watched};
 use rtt_io::{Gate, Sink, World};
+use rtt_live::{LiveFault, LiveReport, serve, serve_watched};
 use rtt_words::MixWords;
 use std::alloc::Global;
 use std::sync::Wait;

@@ -13,7 +13,7 @@ use Rattle.wire_spec.specs.Dump.{Item, Rtcp, arrivals_with, arrivals_after, sent
 use Rattle.stream_spec.specs.Numbering.{Numbered, numbered, used}
 use Rattle.stream_spec.specs.Hearing.{heard, heard_by}
 use Rattle.stream_spec.specs.ChunksBy.{used_ready}
-use Rattle.gap_tracker.specs.Stories.{Story, Given, begun, ended, dues, due_at, ready_dues}
+use Rattle.reorder_buffer.specs.Stories.{Story, Given, begun, ended, dues, due_at, ready_dues}
 use Rattle.receiver.specs.declared.source_texts.SourceText.{SourceText}
 use Rattle.receiver.specs.Each.{IsHeardOf, markers_by}
 use Rattle.receiver.specs.declared.settings.EarSettings.{EarSettings}

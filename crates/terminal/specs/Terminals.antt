@@ -1,7 +1,7 @@
 -- What a terminal stands for: what came to it so far, what was heard of each source, and the counts (profile).
 use Rattle.std.specs.Prelude.{◌≡◌, ℕ, ◌+◌, ◌<◌, ◌≤◌, ◌⊎◌, Bool, true, false, List, [], length, All, IsUtf8, slice_index, slice_index_or, if◌then◌else◌}
 use Rattle.wire_spec.specs.Dump.{Item, What, Cut, Large}
-use Rattle.gap_tracker.specs.Stories.{Story}
+use Rattle.reorder_buffer.specs.Stories.{Story}
 use Rattle.receiver.specs.declared.source_texts.SourceText.{SourceText}
 use Rattle.receiver.specs.declared.settings.EarSettings.{EarSettings}
 use Rattle.receiver.specs.Hears.{IsToldOf, arrival_count, is_quiet, is_finished}

@@ -3,7 +3,7 @@ use Rattle.std.specs.Prelude.{◌≡◌, ◌<◌, ℕ, List, [], ◌∷◌, ◌+
 use Rattle.rtt_base.specs.declared.limits.TheConstants.{END_OF_MOMENTS, MOST_ARRIVALS}
 use Rattle.wire_spec.specs.declared.faults.TextFault.{TextFault}
 use Rattle.wire_spec.specs.Dump.{Item, sent_item}
-use Rattle.gap_tracker.specs.Stories.{Story}
+use Rattle.reorder_buffer.specs.Stories.{Story}
 use Rattle.receiver.specs.Hears.{all_given}
 use Rattle.view_spec.specs.Seen.{Speaker, fate_of, is_refused, is_foreign, text_seen, unaware_seen, aware_seen}
 use Rattle.terminal.specs.declared.settings.TerminalSettings.{TerminalSettings}

@@ -3,8 +3,8 @@ use Rattle.rtt_io.specs.Counts.{Rose}
 use Rattle.file_spec.specs.declared.conference_lines.LegLine.{LegLine}
 use Rattle.file_spec.specs.Conferences.{meaning_of}
 use Rattle.cascade.specs.Splits.{recordings_of}
-use Rattle.bridge_run.specs.Mixes.{IsFirst}
-use Rattle.bridge_run.proofs.Handing.{none_refused, on_ok}
+use Rattle.rtt_mix.specs.Mixes.{IsFirst}
+use Rattle.rtt_mix.proofs.Handing.{none_refused, on_ok}
 use Rattle.cascade.specs.Feeding.{IsNotOpened}
 use Rattle.cascade.proofs.Mixing.{are_new, caused, caused_none, counts_kept, fed_none, kept_none, mixes_fed}
 use Rattle.cascade.proofs.feeds.mix_fed.Goals as goal

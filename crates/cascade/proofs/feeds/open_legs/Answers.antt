@@ -5,7 +5,7 @@ use Rattle.command_spec.specs.Mixing.{input_at}
 use Rattle.cascade.specs.declared.trunk_sources.TrunkSource.{TrunkSource}
 use Rattle.cascade.specs.Splits.{recordings_of}
 use Rattle.cascade.specs.TrunkSources.{faults_in, left_in, name_in}
-use Rattle.bridge_run.proofs.Opening.{is_first, leg_read_at}
+use Rattle.rtt_mix.proofs.Opening.{is_first, leg_read_at}
 use Rattle.cascade.specs.Feeding.{AllFed}
 use Rattle.cascade.proofs.MixedOpening.{fed_more, got_input, not_opened, refused}
 use Rattle.cascade.proofs.feeds.open_legs.Goals as goal

@@ -1,5 +1,5 @@
 use Rattle.std.proofs.Math.Logic.{∥∥₁_map}
-use Rattle.gap_tracker.specs.Stories.{ended}
+use Rattle.reorder_buffer.specs.Stories.{ended}
 use Rattle.receiver.specs.Hears.{text_for, told}
 use Rattle.live_leg.proofs.Ears.{becomes_giving}
 use Rattle.live_leg.proofs.Taking.{sent_first, sent_other, sent_sender, sent_unheard}

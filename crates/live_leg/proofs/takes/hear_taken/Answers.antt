@@ -1,5 +1,5 @@
 use Rattle.std.proofs.Math.Logic.{∥∥₁_map}
-use Rattle.gap_tracker.specs.Stories.{ended, went}
+use Rattle.reorder_buffer.specs.Stories.{ended, went}
 use Rattle.live_leg.proofs.Ears.{becomes_giving}
 use Rattle.live_leg.proofs.Taking.{follows_closed, follows_datagram, follows_large, follows_quiet}
 use Rattle.live_leg.proofs.Tallying.{counts_closed, counts_datagram, counts_large, counts_quiet}

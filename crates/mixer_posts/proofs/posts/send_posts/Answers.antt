@@ -1,5 +1,5 @@
 use Rattle.std.proofs.Common.{◌∙◌, ℕ, List, refl, subst, sym}
-use Rattle.mixer_turn.specs.Posts.{IsPost}
+use Rattle.mixer.specs.Posts.{IsPost}
 use Rattle.mix_loop.proofs.Addresses.{give_none, give_then}
 use Rattle.mixer_posts.proofs.Posting.{halted_in, is_post, taken_more}
 use Rattle.mixer_posts.proofs.posts.send_posts.Goals as goal

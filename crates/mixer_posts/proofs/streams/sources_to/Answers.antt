@@ -4,7 +4,7 @@ use Rattle.std.specs.Global.{Vec}
 use Rattle.mixer_spec.specs.Setups.{setup}
 use Rattle.packetizer.specs.Speakers.{AreDistinct}
 use Rattle.file_spec.specs.Conferences.{meaning_of}
-use Rattle.mixer_turn.specs.Making.{source_counts}
+use Rattle.mixer.specs.Making.{source_counts}
 use Rattle.mixer_posts.specs.Streams.{AreSourcesAt}
 use Rattle.mixer_posts.proofs.Streaming.{AreSourcesTo, all_made, leg_read, mixer_alone, of_made}
 use Rattle.mixer_posts.proofs.streams.sources_to.Goals as goal

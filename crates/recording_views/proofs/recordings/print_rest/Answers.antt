@@ -1,5 +1,5 @@
 use Rattle.std.proofs.Math.Logic.{∥∥₁_map}
-use Rattle.gap_tracker.specs.Stories.{ended}
+use Rattle.reorder_buffer.specs.Stories.{ended}
 use Rattle.recording_views.proofs.Printing.{on_ok, becomes_giving, prints_end}
 use Rattle.recording_views.proofs.recordings.print_rest.Goals as goal
 

@@ -5,7 +5,7 @@ use Rattle.file_spec.specs.Conferences.{meaning_of}
 use Rattle.mixer_spec.specs.Bridged.{input_limit}
 use Rattle.command_spec.specs.Work.{Contents}
 use Rattle.command_spec.specs.Inputs.{AllLie}
-use Rattle.bridge_run.specs.Mixes.{RoseAt}
+use Rattle.rtt_mix.specs.Mixes.{RoseAt}
 use Rattle.rtt_attend.specs.declared.sender_reports.SenderReport.{SenderReport}
 use Rattle.rtt_attend.specs.Opened.{AreHeard}
 use Rattle.rtt_attend.specs.Named.{AreTold}

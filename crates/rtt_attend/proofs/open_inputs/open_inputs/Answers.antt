@@ -3,7 +3,7 @@ use Rattle.std.specs.Prelude.{IsSome, Some}
 use Rattle.std.proofs.lemmas.List.{length_push}
 use Rattle.rtt_io.specs.Counts.{Rose}
 use Rattle.file_spec.specs.declared.conference_lines.LegLine.{LegLine}
-use Rattle.bridge_run.proofs.Opening.{first_here, leg_read_at}
+use Rattle.rtt_mix.proofs.Opening.{first_here, leg_read_at}
 use Rattle.rtt_attend.specs.Opened.{AreFresh, AreInputs}
 use Rattle.rtt_attend.proofs.Legs.{are_fresh, lie_below, opened_more}
 use Rattle.rtt_attend.proofs.open_inputs.open_inputs.Goals as goal

@@ -1,5 +1,5 @@
 use Rattle.std.proofs.Common.{◌≡◌, length}
-use Rattle.gap_tracker.specs.States.{packets_in, arrival_count}
+use Rattle.reorder_buffer.specs.States.{packets_in, arrival_count}
 use Rattle.rtt_show.specs.Strays.{Drains}
 use Rattle.rtt_show.proofs.strays.drain.Given as goal
 

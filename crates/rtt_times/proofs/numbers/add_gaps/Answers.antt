@@ -1,5 +1,5 @@
 use Rattle.std.proofs.Common.{◌≡◌, ◌+◌, ◌-◌, ◌<◌, ℕ, arith, drop, length, get_or, refl, subst, sym, ◌∙◌, ap}
-use Rattle.gap_tracker.specs.declared.answers.Due.{Due}
+use Rattle.reorder_buffer.specs.declared.answers.Due.{Due}
 use Rattle.rtt_times.proofs.Kept.{place_is}
 use Rattle.rtt_times.proofs.Missing.{GapsSoFar, gaps_end, gaps_more}
 use Rattle.rtt_times.proofs.numbers.add_gaps.Goals as goal

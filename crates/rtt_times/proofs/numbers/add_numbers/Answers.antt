@@ -1,5 +1,5 @@
 use Rattle.std.proofs.Common.{List, ℕ, sym, subst}
-use Rattle.gap_tracker.specs.declared.answers.Due.{Due}
+use Rattle.reorder_buffer.specs.declared.answers.Due.{Due}
 use Rattle.rtt_times.specs.declared.stream_packets.TimedPacket.{TimedPacket}
 use Rattle.rtt_times.specs.Lines.{AddsLines}
 use Rattle.rtt_times.specs.Numbers.{AreAbove, AreLateNumbers, gap_lines, late_lines}

@@ -1,7 +1,7 @@
 use Rattle.std.proofs.Common.{List, ◌∙◌, arith, ap, sym, subst}
 use Rattle.std.proofs.lemmas.Result.{IfOk-weaker}
 use Rattle.std.specs.List.Sorted.{IsNonDecreasingBy}
-use Rattle.gap_tracker.specs.declared.answers.Due.{Due}
+use Rattle.reorder_buffer.specs.declared.answers.Due.{Due}
 use Rattle.rtt_times.specs.Numbers.{IsLate, due_number, late_among}
 use Rattle.rtt_times.proofs.Missing.{dues_never_fall, late_is, nothing_late}
 use Rattle.rtt_times.proofs.numbers.late_of.Goals as goal

@@ -1,6 +1,6 @@
 use Rattle.std.proofs.Common.{List, ◌∙◌, subst, sym}
-use Rattle.gap_tracker.specs.declared.answers.Due.{Due}
-use Rattle.gap_tracker.specs.States.{State}
+use Rattle.reorder_buffer.specs.declared.answers.Due.{Due}
+use Rattle.reorder_buffer.specs.States.{State}
 use Rattle.rtt_times.specs.Heard.{Drains}
 use Rattle.rtt_times.proofs.Hearing.{Drained, drained_all, drained_more}
 use Rattle.rtt_times.proofs.stream_packets.drain.Goals as goal

@@ -1,5 +1,5 @@
 use Rattle.std.proofs.Common.{◌≡◌, length}
-use Rattle.gap_tracker.specs.States.{arrival_count, is_finished, packets_in}
+use Rattle.reorder_buffer.specs.States.{arrival_count, is_finished, packets_in}
 use Rattle.rtt_times.proofs.Hearing.{Drained}
 use Rattle.rtt_times.proofs.stream_packets.drain.Given as goal
 

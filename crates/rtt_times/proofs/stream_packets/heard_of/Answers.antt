@@ -1,7 +1,7 @@
 use Rattle.std.proofs.Common.{ℕ, map, refl, subst}
 use Rattle.wire_spec.specs.Dump.{sent_item}
-use Rattle.gap_tracker.specs.Stories.{begun}
-use Rattle.gap_tracker.specs.Tracks.{Tracks}
+use Rattle.reorder_buffer.specs.Stories.{begun}
+use Rattle.reorder_buffer.specs.Tracks.{Tracks}
 use Rattle.rtt_times.proofs.Hearing.{all_heard, nothing_heard}
 use Rattle.rtt_times.proofs.stream_packets.heard_of.Goals as goal
 

@@ -1,5 +1,5 @@
 use Rattle.std.proofs.Math.Logic.{∥∥₁_map}
-use Rattle.gap_tracker.specs.Stories.{ended}
+use Rattle.reorder_buffer.specs.Stories.{ended}
 use Rattle.rtt_times.proofs.Writing.{on_ok, becomes_giving, writes_end}
 use Rattle.rtt_times.proofs.texts.add_rest.Goals as goal
 

@@ -3,7 +3,7 @@ use Rattle.std.specs.Prelude.{OnOk, OnErr}
 use Rattle.std.specs.List.{concat}
 use Rattle.command_spec.specs.Outcomes.{AllStored}
 use Rattle.sent_log.specs.Files.{recordings_of}
-use Rattle.bridge_run.specs.Mixes.{outputs_of}
+use Rattle.rtt_mix.specs.Mixes.{outputs_of}
 use Rattle.rtt_top.specs.Outside.{outside_at}
 use Rattle.rtt_top.proofs.Bridging.{printed_outputs, saved, unwritten_outputs}
 use Rattle.rtt_top.proofs.mix.make_outputs.Goals as goal

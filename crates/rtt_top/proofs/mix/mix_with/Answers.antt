@@ -5,7 +5,7 @@ use Rattle.std.specs.List.{concat}
 use Rattle.file_spec.specs.Conferences.{meaning_of}
 use Rattle.command_spec.specs.declared.faults.Fault.{Fault}
 use Rattle.sent_log.specs.Files.{recordings_of}
-use Rattle.bridge_run.specs.Mixes.{outputs_of}
+use Rattle.rtt_mix.specs.Mixes.{outputs_of}
 use Rattle.rtt_top.specs.Conferences.{MakesOutputs, OutputsEnd, ending_name}
 use Rattle.rtt_top.specs.Outside.{outside_at}
 use Rattle.rtt_top.specs.Runs.{Ends}

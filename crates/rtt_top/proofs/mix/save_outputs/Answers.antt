@@ -3,7 +3,7 @@ use Rattle.file_spec.specs.declared.conference_lines.LegLine.{LegLine}
 use Rattle.sent_log.specs.States.{State}
 use Rattle.sent_log.specs.Files.{recording_at, recordings_of}
 use Rattle.command_spec.specs.Outcomes.{AllStored}
-use Rattle.bridge_run.specs.Mixes.{outputs_of}
+use Rattle.rtt_mix.specs.Mixes.{outputs_of}
 use Rattle.rtt_top.proofs.Saving.{recording_file, take_whole, unwritten, stored_next}
 use Rattle.rtt_top.proofs.mix.save_outputs.Goals as goal
 

@@ -1,7 +1,7 @@
 use Rattle.std.proofs.Common.{◌≡◌, ℕ, ◌≤◌, List, take}
 use Rattle.command_spec.specs.Outcomes.{AllStored}
 use Rattle.sent_log.specs.Files.{recordings_of}
-use Rattle.bridge_run.specs.Mixes.{outputs_of}
+use Rattle.rtt_mix.specs.Mixes.{outputs_of}
 use Rattle.rtt_top.proofs.mix.save_outputs.Given as goal
 
 abbrev pub invariant-loop-number : goal.invariant-loop-number

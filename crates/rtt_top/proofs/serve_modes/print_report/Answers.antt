@@ -1,6 +1,6 @@
 use Rattle.std.proofs.Common.{Err, Result, refl, ap, sym, subst}
-use Rattle.live_run.specs.declared.faults.LiveFault.{LiveFault}
-use Rattle.live_run.specs.declared.reports.LiveReport.{LiveReport}
+use Rattle.rtt_live.specs.declared.faults.LiveFault.{LiveFault}
+use Rattle.rtt_live.specs.declared.reports.LiveReport.{LiveReport}
 use Rattle.command_spec.specs.declared.faults.Fault.{Fault}
 use Rattle.command_spec.specs.Messages.{Ending}
 use Rattle.rtt_top.specs.Lives.{PrintsReport}

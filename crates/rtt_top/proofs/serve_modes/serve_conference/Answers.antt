@@ -1,7 +1,7 @@
 use Rattle.std.proofs.Common.{sym, subst}
 use Rattle.std.specs.Prelude.{IfOk}
 use Rattle.file_spec.specs.Conferences.{meaning_of}
-use Rattle.live_run.specs.Reports.{end_of}
+use Rattle.rtt_live.specs.Reports.{end_of}
 use Rattle.rtt_top.specs.declared.serve_modes.ServeMode.{ServeMode}
 use Rattle.rtt_top.specs.Lives.{IsGivenUp, ServedAs, served_by}
 use Rattle.rtt_top.specs.Outside.{left_by}

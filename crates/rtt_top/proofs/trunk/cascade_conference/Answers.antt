@@ -4,7 +4,7 @@ use Rattle.file_spec.specs.Conferences.{meaning_of}
 use Rattle.command_spec.specs.declared.faults.Fault.{Fault}
 use Rattle.command_spec.specs.Cascading.{odd_line}
 use Rattle.sent_log.specs.Files.{recordings_of}
-use Rattle.bridge_run.specs.Mixes.{outputs_of}
+use Rattle.rtt_mix.specs.Mixes.{outputs_of}
 use Rattle.rtt_top.specs.Conferences.{OutputsEnd, ending_behind}
 use Rattle.rtt_top.specs.Outside.{outside_at}
 use Rattle.rtt_top.specs.Runs.{Ends}

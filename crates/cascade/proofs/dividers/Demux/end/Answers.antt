@@ -1,5 +1,5 @@
 use Rattle.std.proofs.Common.{refl}
-use Rattle.gap_tracker.specs.Stories.{ended}
+use Rattle.reorder_buffer.specs.Stories.{ended}
 use Rattle.cascade.proofs.Gathering.{ends, hears_told, on_ok}
 use Rattle.cascade.proofs.dividers.Demux.end.Goals as goal
 

@@ -3,7 +3,7 @@ use Rattle.std.specs.Prelude.{All, ◌<◌}
 use Rattle.std.specs.Vec.{with_items}
 use Rattle.std.proofs.lemmas.List.{with_items_is}
 use Rattle.rtt_base.specs.declared.text_packets.TextPacket.{TextPacket}
-use Rattle.gap_tracker.specs.Stories.{Story, given_of}
+use Rattle.reorder_buffer.specs.Stories.{Story, given_of}
 use Rattle.receiver.specs.Hears.{ready_packets}
 use Rattle.receiver.proofs.Given.{next_rises}
 use Rattle.cascade.specs.declared.splitters.SourceRecording.{SourceRecording}

@@ -1,5 +1,5 @@
 use Rattle.std.proofs.Common.{length}
-use Rattle.gap_tracker.specs.States.{packets_in}
+use Rattle.reorder_buffer.specs.States.{packets_in}
 use Rattle.cascade.proofs.Gathering.{Gathering}
 use Rattle.cascade.proofs.dividers.Demux.gather.Given as goal
 

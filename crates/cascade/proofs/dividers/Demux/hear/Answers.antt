@@ -1,7 +1,7 @@
 use Rattle.std.proofs.Common.{refl}
 use Rattle.wire_spec.specs.Packets.{packet_of}
-use Rattle.gap_tracker.specs.Stories.{came}
-use Rattle.gap_tracker.proofs.Steps.{tracks_with}
+use Rattle.reorder_buffer.specs.Stories.{came}
+use Rattle.reorder_buffer.proofs.Steps.{tracks_with}
 use Rattle.cascade.proofs.Gathering.{hears_told, on_ok3, takes_packet, takes_nothing}
 use Rattle.cascade.proofs.dividers.Demux.hear.Goals as goal
 

@@ -1,7 +1,7 @@
 use Rattle.std.proofs.Common.{◌≡◌, ◌<◌, ◌∙◌, ◌+◌, List, ap, arith, length}
 use Rattle.std.proofs.lemmas.List.{length-map, length_push}
 use Rattle.file_spec.specs.Conferences.{meaning_of}
-use Rattle.mixer_turn.specs.Making.{source_counts}
+use Rattle.mixer.specs.Making.{source_counts}
 use Rattle.example_gateway.specs.declared.legs.Leg.{Leg}
 use Rattle.example_gateway.specs.Outputs.{counts_of}
 use Rattle.example_gateway.proofs.Outputs.{more_counts}

@@ -1,7 +1,7 @@
 use Rattle.std.proofs.Common.{◌≡◌, length, take}
 use Rattle.file_spec.specs.Conferences.{meaning_of}
-use Rattle.mixer_turn.specs.Making.{source_counts}
-use Rattle.mixer_turn.specs.States.{legs_of, sources_of}
+use Rattle.mixer.specs.Making.{source_counts}
+use Rattle.mixer.specs.States.{legs_of, sources_of}
 use Rattle.example_gateway.specs.Outputs.{counts_of}
 use Rattle.example_gateway.proofs.gateways.Gateway.new.Given as goal
 

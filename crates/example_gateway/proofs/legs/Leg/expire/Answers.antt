@@ -1,5 +1,5 @@
 use Rattle.std.proofs.Math.Logic.{∥∥₁_map}
-use Rattle.gap_tracker.specs.Stories.{went}
+use Rattle.reorder_buffer.specs.Stories.{went}
 use Rattle.example_gateway.proofs.Ears.{becomes_giving}
 use Rattle.example_gateway.proofs.legs.Leg.expire.Goals as goal
 

@@ -2,10 +2,10 @@ use Rattle.std.proofs.Common.{◌≡◌, ℕ, List, ap, ◌∙◌, subst, sym, a
 use Rattle.std.specs.Prelude.{OnErr, OnOk}
 use Rattle.mixer_spec.specs.Table.{after_calls}
 use Rattle.mix_loop.specs.Mixers.{Halts, Turns}
-use Rattle.mixer_turn.specs.declared.batches.Post.{Post}
-use Rattle.mixer_turn.specs.Posts.{ArePosts}
-use Rattle.mixer_turn.specs.States.{sources_of}
-use Rattle.mixer_turn.specs.Turns.{HasBatch}
+use Rattle.mixer.specs.declared.batches.Post.{Post}
+use Rattle.mixer.specs.Posts.{ArePosts}
+use Rattle.mixer.specs.States.{sources_of}
+use Rattle.mixer.specs.Turns.{HasBatch}
 use Rattle.mixer_posts.specs.States.{SendingState}
 use Rattle.mixer_posts.specs.Standing.{HaltsFor, SendsFor}
 use Rattle.mixer_posts.proofs.Calling.{on_err, on_ok, turn_halted, turn_sent}

@@ -1,5 +1,5 @@
 use Rattle.std.proofs.Common.{refl}
-use Rattle.gap_tracker.specs.Stories.{Story, went}
+use Rattle.reorder_buffer.specs.Stories.{Story, went}
 use Rattle.receiver.proofs.Giving.{moves}
 use Rattle.receiver.proofs.ears.Ear.expire.Goals as goal
 

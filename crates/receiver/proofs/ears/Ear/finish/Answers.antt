@@ -1,5 +1,5 @@
 use Rattle.std.proofs.Common.{refl}
-use Rattle.gap_tracker.specs.Stories.{ended}
+use Rattle.reorder_buffer.specs.Stories.{ended}
 use Rattle.receiver.proofs.Giving.{moves, end_chunks}
 use Rattle.receiver.proofs.ears.Ear.finish.Goals as goal
 

@@ -1,6 +1,6 @@
 use Rattle.std.proofs.Common.{◌≡◌, length, ◌∷◌, [], ◌++◌, ◌^◌, ◌≤◌, refl, sym, ◌∙◌, arith, subst}
 use Rattle.rtt_base.specs.declared.text_packets.TextPacket.{TextPacket}
-use Rattle.gap_tracker.specs.Stories.{Story, given_of}
+use Rattle.reorder_buffer.specs.Stories.{Story, given_of}
 use Rattle.receiver.specs.Stands.{Stands, used_packet}
 use Rattle.receiver.specs.Each.{AreHeard}
 use Rattle.receiver.specs.Hears.{arrival_count}

@@ -1,5 +1,5 @@
 use Rattle.std.proofs.Common.{length}
-use Rattle.gap_tracker.specs.States.{packets_in}
+use Rattle.reorder_buffer.specs.States.{packets_in}
 use Rattle.receiver.proofs.Each.{GatheringEach}
 use Rattle.receiver.proofs.ears.Ear.gather_each.Given as goal
 

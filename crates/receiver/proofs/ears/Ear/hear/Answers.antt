@@ -1,5 +1,5 @@
 use Rattle.wire_spec.specs.Packets.{packet_of}
-use Rattle.gap_tracker.proofs.Steps.{tracks_with}
+use Rattle.reorder_buffer.proofs.Steps.{tracks_with}
 use Rattle.receiver.proofs.Giving.{takes, refuses}
 use Rattle.receiver.proofs.ears.Ear.hear.Goals as goal
 

@@ -1,6 +1,6 @@
 use Rattle.std.proofs.Common.{Some}
 use Rattle.wire_spec.specs.Text.{text_of}
-use Rattle.gap_tracker.specs.States.{with_packet}
+use Rattle.reorder_buffer.specs.States.{with_packet}
 use Rattle.rtt_show.proofs.Following.{follows_text, follows_other, short_with, short_up}
 use Rattle.rtt_show.proofs.strays.Follower.follow.Goals as goal
 

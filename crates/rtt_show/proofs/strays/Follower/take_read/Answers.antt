@@ -1,6 +1,6 @@
 use Rattle.std.proofs.Common.{ℕ, ap, ◌∙◌, subst, arith}
 use Rattle.rtt_base.specs.declared.text_packets.TextPacket.{TextPacket}
-use Rattle.gap_tracker.specs.Told.{LeadsStory, came_current, is_current_in_time}
+use Rattle.reorder_buffer.specs.Told.{LeadsStory, came_current, is_current_in_time}
 use Rattle.rtt_show.specs.declared.strays.NumberedPacket.{NumberedPacket}
 use Rattle.rtt_show.specs.declared.strays.Follower.{Follower}
 use Rattle.rtt_show.specs.Spreads.{SpreadsBy}

@@ -1,7 +1,7 @@
 use Rattle.std.proofs.Common.{refl, subst}
 use Rattle.rtt_base.specs.declared.text_packets.TextPacket.{TextPacket}
 use Rattle.wire_spec.specs.Packets.{packet_of}
-use Rattle.gap_tracker.specs.States.{current_of}
+use Rattle.reorder_buffer.specs.States.{current_of}
 use Rattle.rtt_times.specs.Heard.{Counts}
 use Rattle.rtt_times.proofs.Hearing.{hears_current}
 use Rattle.rtt_times.proofs.Writing.{on_ok}

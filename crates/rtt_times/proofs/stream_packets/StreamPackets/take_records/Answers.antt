@@ -1,5 +1,5 @@
 use Rattle.std.proofs.Common.{ℕ, ◌∙◌, subst}
-use Rattle.gap_tracker.specs.States.{arrival_count}
+use Rattle.reorder_buffer.specs.States.{arrival_count}
 use Rattle.rtpdump_io.proofs.Fronts.{left_less, front_more, front_all}
 use Rattle.rtt_times.specs.Heard.{HearsOctets, Listening}
 use Rattle.rtt_times.proofs.stream_packets.StreamPackets.take_records.Goals as goal

@@ -1,6 +1,6 @@
 use Rattle.std.proofs.Common.{◌≡◌, ℕ, List, [], length}
 use Rattle.std.specs.Prelude.{Bool}
-use Rattle.gap_tracker.specs.States.{arrival_count, has_ready, is_finished}
+use Rattle.reorder_buffer.specs.States.{arrival_count, has_ready, is_finished}
 use Rattle.rtpdump_io.specs.InMemory.{AreRecords}
 use Rattle.rtpdump_io.proofs.Fronts.{Left, Front}
 use Rattle.rtt_times.specs.Heard.{IsSmall, Listening}

@@ -1,7 +1,0 @@
-use Rattle.std.proofs.Common.{◌≡◌, ◌++◌}
-use Rattle.file_spec.specs.Conferences.{meaning_of}
-use Rattle.live_run.proofs.Reading.{totals_below}
-use Rattle.live_run.proofs.lines.append_lines.Given as goal
-
-abbrev pub invariant-loop-leg : goal.invariant-loop-leg
-invariant-loop-leg l = (l.reader ≡ l.fn.reader) × (l.printed ≡ l.fn.printed ++ totals_below (meaning_of l.conference) l.fn.reader.seen l.leg)

@@ -1,6 +1,0 @@
-use Rattle.std.proofs.Common.{◌≡◌, length}
-use Rattle.live_run.specs.Listeners.{NoneHeard}
-use Rattle.live_run.proofs.listeners.listeners_of.Given as goal
-
-abbrev pub invariant-loop-own : goal.invariant-loop-own
-invariant-loop-own l = (length l.listeners.items ≡ l.own) × NoneHeard l.listeners.items

@@ -1,9 +1,0 @@
-use Rattle.file_spec.specs.Conferences.{meaning_of}
-use Rattle.terminal.proofs.Listening.{on_ok}
-use Rattle.live_run.proofs.Showing.{adds_view}
-use Rattle.live_run.proofs.views.add_view.Goals as goal
-
-pub returns : goal.returns
-returns c = on_ok c.append.result c.append.ensures
-    (adds_view (meaning_of c.args.conference.now) c.args.own c.args.listener c.clear.new.self c.append_view.new.view c.args.views.now c.append.new.self c.as_slice.result.now
-    c.clear.ensures c.in_ok-append_view.ensures c.as_slice.ensures)

@@ -1,5 +1,0 @@
-use Rattle.mixer_turn.proofs.Resting.{never_calm}
-use Rattle.mixer_turn.proofs.calm.turn_all.Goals as goal
-
-pub returns-then-not-is_empty-clause-calm : goal.returns-then-not-is_empty-clause-calm
-returns-then-not-is_empty-clause-calm c = never_calm c.args.seating.now c.turn_legs.new.schedulers

@@ -1,5 +1,0 @@
-use Rattle.mixer_turn.proofs.laws.asks_come_before.Goals as goal
-use Rattle.mixer_turn.proofs.Waiting.{asked_law}
-
-pub returns : goal.returns
-returns c = asked_law

@@ -1,5 +1,0 @@
-use Rattle.mixer_turn.proofs.laws.batches_are_sent.Goals as goal
-use Rattle.mixer_turn.proofs.Going.{put_out_law}
-
-pub returns : goal.returns
-returns c = put_out_law

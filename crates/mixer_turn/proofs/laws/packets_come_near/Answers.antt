@@ -1,8 +1,0 @@
-use Rattle.mixer_turn.proofs.laws.packets_come_near.Goals as goal
-use Rattle.mixer_turn.proofs.Rounding.{near_packets, short_waits}
-
-pub returns-clause-near : goal.returns-clause-near
-returns-clause-near c = near_packets
-
-pub returns-clause-waits : goal.returns-clause-waits
-returns-clause-waits c = short_waits

@@ -1,5 +1,0 @@
-use Rattle.mixer_turn.specs.Waking.{AreWokenBelow}
-use Rattle.mixer_turn.proofs.wakes.wake.Given as goal
-
-abbrev pub invariant-loop-terminal : goal.invariant-loop-terminal
-invariant-loop-terminal l = AreWokenBelow l.terminal l.fn.schedulers.items l.schedulers.items

@@ -1,0 +1,89 @@
+-- A turn that serves a leg.
+use Rattle.std.proofs.Common.{◌≡◌, ℕ, ◌+◌, ◌-◌, ◌<◌, Bool, true, false, cond, inl, inr, Some, List, ◌∷◌, length, set, refl, ap, subst, sym, ◌∙◌, arith}
+use Rattle.std.specs.Prelude.{◌==◌, slice_index}
+use Rattle.std.proofs.lemmas.Bool.{cases_eq, eq-eqb, ne_eqb}
+use Rattle.std.proofs.lemmas.List.{length-set}
+use Rattle.std.proofs.Math.Seq.{get_or-set_same, get_or-set_other}
+use Rattle.wire_spec.specs.Packets.{has_text}
+use Rattle.stream_spec.specs.Own.{Sent, sent_of}
+use Rattle.mixer_spec.specs.Chunks.{front}
+use Rattle.mixer_spec.specs.Setups.{Setup, stream}
+use Rattle.mixer_spec.specs.Table.{Terminal, Table, sents, last_media, serve_leg}
+use Rattle.packetizer.specs.Speakers.{IsNext}
+use Rattle.mixer_places.specs.Lanes.{Waiting}
+use Rattle.mixer_places.specs.Words.{take_front, fetched}
+use Rattle.mixer_places.specs.SlotStanding as slots
+use Rattle.mixer_places.proofs.Sources.{stands_same}
+use Rattle.terminal_scheduler.specs.Turns.{free_after, repeats_left, with_terminal}
+use Rattle.terminal_scheduler.proofs.Putting.{puts_one}
+use Rattle.terminal_scheduler.specs.AwareStates.{AwareState}
+use Rattle.terminal_scheduler.specs.AwareStanding.{AwareStandsFor}
+use Rattle.terminal_scheduler.specs.AwareTurns.{IsIn, IsTurned, kept_served, left_behind, sent_of_leg, text_of_leg}
+use Rattle.rtt_base.specs.declared.limits.TheConstants.{MOST_TEXT_OCTETS}
+
+-- ---- the entry
+same_waits : (b : Bool) (x y z : Terminal) (i : ℕ) → x.waits i ≡ y.waits i → (cond b x z).waits i ≡ (cond b y z).waits i
+same_waits true x y z i e = e
+same_waits false x y z i e = refl
+
+sent_same : (x : ℕ) (e : Sent) (past : List Sent) → e.source ≡ x → sent_of x (e ∷ past) ≡ e ∷ sent_of x past
+sent_same x e past q = ap (λ (b : Bool). cond b (e ∷ sent_of x past) (sent_of x past)) (eq-eqb e.source x q)
+
+sent_other : (x : ℕ) (e : Sent) (past : List Sent) → (e.source ≡ x → ⊥) → sent_of x (e ∷ past) ≡ sent_of x past
+sent_other x e past n = ap (λ (b : Bool). cond b (e ∷ sent_of x past) (sent_of x past)) (ne_eqb e.source x n)
+
+-- what is written at the number of the leg is read there, and each other number keeps what it had
+written : (xs : List ℕ) (leg x : ℕ) (P : ℕ → ℕ → Type 0) (legs : ℕ) → leg < length xs → P leg x → ((i : ℕ) → i < legs → (i ≡ leg → ⊥) → P i (slice_index xs i))
+    → (i : ℕ) → i < legs → P i (slice_index (set xs leg x) i)
+written xs leg x P legs l p f i b = elim (cases_eq i leg) [
+  | inl q ↦ subst (λ (k : ℕ). P k (slice_index (set xs leg x) k)) (sym q) (subst (λ (y : ℕ). P leg y) (sym (get_or-set_same xs leg x 0 l)) p)
+  | inr n ↦ subst (λ (y : ℕ). P i y) (sym (get_or-set_other xs leg i x 0 n)) (f i b n)
+]
+
+stands_then : (s : Setup) (o : AwareState) (d : Terminal) (place leg media now : ℕ) → AwareStandsFor s o.own o d → length o.left ≡ length o.free_at → leg < s.legs
+    → IsNext (stream s o.own) (sents d.past) (sent_of_leg s media d leg)
+    → AwareStandsFor s o.own (kept_served place leg media (text_of_leg d leg) o) (serve_leg s now media d place (Some leg))
+stands_then s o d place leg media now h c l n =
+    let text = text_of_leg d leg in
+    let e = sent_of_leg s media d leg in
+    let generations = s.generations o.own in
+    let own : sent_of (s.ssrc leg) (e ∷ sents d.past) ≡ e ∷ sent_of (s.ssrc leg) (sents d.past) = sent_same (s.ssrc leg) e (sents d.past) refl in
+    let other : (i : ℕ) → i < s.legs → (i ≡ leg → ⊥) → sent_of (s.ssrc i) (e ∷ sents d.past) ≡ sent_of (s.ssrc i) (sents d.past) =
+    λ i b m. sent_other (s.ssrc i) e (sents d.past) (λ q. m (sym (h.setup.differ leg i l b q))) in
+    record {
+      setup = h.setup;
+      places = h.places;
+      own = refl;
+      leg = h.leg;
+      spacing = h.spacing;
+      generations = h.generations;
+      sent = (n, h.sent);
+      legs = length-set o.free_at leg (media + o.spacing) ∙ h.legs;
+      left = written o.left leg (left_behind leg text o) (λ i x. x ≡ repeats_left generations (sent_of (s.ssrc i) (e ∷ sents d.past))) s.legs (omega (arith, l, c, h.legs))
+          ((λ r. cond (has_text text) (h.generations r) (h.left leg l r - 1)) ∙ ap (repeats_left generations) (sym own))
+          (λ i b m. h.left i b ∙ ap (repeats_left generations) (sym (other i b m)));
+      free = written o.free_at leg (media + o.spacing) (λ i x. x ≡ free_after s.spacing (last_media (sent_of (s.ssrc i) (e ∷ sents d.past)))) s.legs (omega (arith, l, h.legs))
+          (ap (λ (x : ℕ). media + x) h.spacing ∙ ap (λ (xs : List Sent). free_after s.spacing (last_media xs)) (sym own))
+          (λ i b m. h.free i b ∙ ap (λ (xs : List Sent). free_after s.spacing (last_media xs)) (sym (other i b m)));
+      next = omega arith;
+      none_mixed = sent_other s.mixer e (sents d.past) (h.setup.mixer_differs leg l) ∙ h.none_mixed;
+      calm = λ t l. absurd (omega (arith, l));
+    }
+
+slots_then : (s : Setup) (table : Table) (j leg place media now : ℕ) (after : List Waiting) → slots.SlotsStandFor s after (fetched j leg MOST_TEXT_OCTETS table)
+    → slots.SlotsStandFor s after (with_terminal j (serve_leg s now media (table.terminals j) place (Some leg)) table)
+slots_then s table j leg place media now after h =
+    stands_same s after (fetched j leg MOST_TEXT_OCTETS table) (with_terminal j (serve_leg s now media (table.terminals j) place (Some leg)) table) h (λ i. refl) (λ k. refl)
+    (λ k i. same_waits (k == j) (serve_leg s now media (table.terminals j) place (Some leg)) (take_front leg MOST_TEXT_OCTETS (table.terminals j)) (table.terminals k) i refl)
+
+pub leg_served : (s : Setup) (table : Table) (o : AwareState) (before after : List Waiting) (place leg media now : ℕ) (text : List ℕ) → IsIn s o before table → length o.left ≡ length o.free_at
+    → leg < s.legs → IsNext (stream s o.own) (sents (table.terminals o.own).past) (sent_of_leg s media (table.terminals o.own) leg)
+    → text ≡ text_of_leg (table.terminals o.own) leg → slots.SlotsStandFor s after (fetched o.own leg MOST_TEXT_OCTETS table)
+    → IsTurned s table o.own (serve_leg s now media (table.terminals o.own) place (Some leg)) media (kept_served place leg media text o) after (Some leg) text
+leg_served s table o before after place leg media now text h c l n t f =
+    let d = table.terminals o.own in
+    record {
+      scheduler = subst (λ (xs : List ℕ). AwareStandsFor s o.own (kept_served place leg media xs o) (serve_leg s now media d place (Some leg))) (sym t) (stands_then s o d place leg media now h.scheduler c l n);
+      slots_stand = slots_then s table o.own leg place media now after f;
+      puts = puts_one true media (record { at = now; place = place; leg = leg; chunks = front MOST_TEXT_OCTETS (d.waits leg); sent = sent_of_leg s media d leg }) d.past text t refl;
+    }
