@@ -218,13 +218,13 @@ fn a_call_without_links_has_files_without_records(rt: HostRuntime) -> Result<(),
 const LARGE: [u8; 4000] = [7; 4000];
 
 /// A recording of what came of Ann, who notes, and what waits.
-type Begun<R> = (Track<MemJournals>, Noter<R>, Arc<WaitingRecords, Global>);
+type BegunTrack<R> = (Track<MemJournals>, Noter<R>, Arc<WaitingRecords, Global>);
 
 fn begun<R: Wait + Copy + Drop>(
     rt: R,
     alloc: Global,
     journals: &mut MemJournals,
-) -> Result<Begun<R>, BeginFault> {
+) -> Result<BegunTrack<R>, BeginFault> {
     let (Ok(clock), Ok(waiting)) = (
         Arc::new(alloc, AtomicU64::new(0)),
         Arc::new(alloc, WaitingRecords::new()),
