@@ -43,6 +43,7 @@ examples: $(PROGRAM)
 	examples/captures/try $(PROGRAM)
 	examples/wrong/try $(PROGRAM)
 	examples/words
+	examples/columns --check
 	examples/definitions --check
 	examples/crates --check
 
