@@ -152,6 +152,27 @@ struct CallNotes {
     calls: Vec<MixerCall>,
 }
 
+// What is called last, where one talks until 2500.
+const LAST_CALLS: [MixerCall; 8] = [
+    MixerCall::Turn(900),
+    MixerCall::Turn(1200),
+    MixerCall::Turn(1500),
+    MixerCall::Turn(1800),
+    MixerCall::Turn(2100),
+    MixerCall::Turn(2400),
+    MixerCall::Offer(0, 2500),
+    MixerCall::Offer(0, 2500),
+];
+
+// Whether these were called first, and then those that are called last, and mixing is over.
+fn ends_as_ever(noted: &CallNotes, first: &[MixerCall]) -> bool {
+    let calls = noted.calls.as_slice();
+    noted.mixing == MixEnd::Over
+        && calls.len().saturating_sub(first.len()) == LAST_CALLS.len()
+        && calls.starts_with(first)
+        && calls.ends_with(&LAST_CALLS)
+}
+
 // Mixes these, at 300 ms a turn.
 fn mix_noting<R: Wait>(
     rt: &R,
@@ -191,7 +212,6 @@ fn legs_come_offer_and_go_at_their_moments(rt: HostRuntime) -> Result<(), Fail> 
     inlets.push_reserved(talks);
     inlets.push_reserved(visits);
     let noted = mix_noting(&rt, alloc, inlets, &lines)?;
-    assert!(rt; noted.mixing == MixEnd::Over);
     let calls = [
         MixerCall::Admit(0, true),
         MixerCall::Offer(0, 0),
@@ -203,16 +223,8 @@ fn legs_come_offer_and_go_at_their_moments(rt: HostRuntime) -> Result<(), Fail> 
         MixerCall::Turn(600),
         MixerCall::Hush(1),
         MixerCall::Leave(1),
-        MixerCall::Turn(900),
-        MixerCall::Turn(1200),
-        MixerCall::Turn(1500),
-        MixerCall::Turn(1800),
-        MixerCall::Turn(2100),
-        MixerCall::Turn(2400),
-        MixerCall::Offer(0, 2500),
-        MixerCall::Offer(0, 2500),
     ];
-    assert!(rt; noted.calls.as_slice() == calls.as_slice());
+    assert!(rt; ends_as_ever(&noted, &calls));
     Ok(())
 }
 
@@ -225,22 +237,13 @@ fn a_keep_alive_is_no_text(rt: HostRuntime) -> Result<(), Fail> {
     let mut inlets = Vec::with_capacity(alloc, 1)?;
     inlets.push_reserved(talks);
     let noted = mix_noting(&rt, alloc, inlets, &lines)?;
-    assert!(rt; noted.mixing == MixEnd::Over);
     let calls = [
         MixerCall::Admit(0, true),
         MixerCall::Offer(0, 0),
         MixerCall::Turn(0),
         MixerCall::Turn(300),
         MixerCall::Turn(600),
-        MixerCall::Turn(900),
-        MixerCall::Turn(1200),
-        MixerCall::Turn(1500),
-        MixerCall::Turn(1800),
-        MixerCall::Turn(2100),
-        MixerCall::Turn(2400),
-        MixerCall::Offer(0, 2500),
-        MixerCall::Offer(0, 2500),
     ];
-    assert!(rt; noted.calls.as_slice() == calls.as_slice());
+    assert!(rt; ends_as_ever(&noted, &calls));
     Ok(())
 }

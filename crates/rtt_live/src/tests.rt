@@ -12,7 +12,7 @@ use std::thread;
 use std::thread::Threads;
 
 /// A call of two, which ends when both links are closed.
-const CALL: &[u8] = b"leg Ann aware 1001 5004 127.0.0.1:6004\n\
+pub(crate) const CALL: &[u8] = b"leg Ann aware 1001 5004 127.0.0.1:6004\n\
     leg Bob aware 1002 5006 127.0.0.1:6006\n\
     mixer 9000 100 5000\n";
 
@@ -34,28 +34,28 @@ const LETTER: &[u8] = b"\x80\xE4\0\0\0\0\0\0\0\0\x03\xE9\xE2\xFF\xFC\0\xE2\xFF\x
 
 /// What comes at a port, at a moment (milliseconds).
 #[derive(Clone, Copy)]
-struct PortEvent {
+pub(crate) struct PortEvent {
     port: u16,
     at: u32,
     came: Came,
     octets: &'static [u8],
 }
 
-const LETTER_COMES: PortEvent = PortEvent {
+pub(crate) const LETTER_COMES: PortEvent = PortEvent {
     port: 5004,
     at: 10,
     came: Came::Datagram,
     octets: LETTER,
 };
 
-const ANN_CLOSES: PortEvent = PortEvent {
+pub(crate) const ANN_CLOSES: PortEvent = PortEvent {
     port: 5004,
     at: 20,
     came: Came::Closed,
     octets: b"",
 };
 
-const BOB_CLOSES: PortEvent = PortEvent {
+pub(crate) const BOB_CLOSES: PortEvent = PortEvent {
     port: 5006,
     at: 15,
     came: Came::Closed,
@@ -63,7 +63,7 @@ const BOB_CLOSES: PortEvent = PortEvent {
 };
 
 /// Links at which this comes.
-fn links(alloc: Global, comings: &[PortEvent]) -> Result<MemLinks, NoMemory> {
+pub(crate) fn links(alloc: Global, comings: &[PortEvent]) -> Result<MemLinks, NoMemory> {
     let mut world = MemLinks::new(alloc);
     for coming in comings {
         let mut octets = Bytes::new(alloc);
@@ -79,7 +79,7 @@ fn links(alloc: Global, comings: &[PortEvent]) -> Result<MemLinks, NoMemory> {
 }
 
 /// The octets of a text in parts.
-fn joined(alloc: Global, views: &Views) -> Result<Bytes, NoMemory> {
+pub(crate) fn joined(alloc: Global, views: &Views) -> Result<Bytes, NoMemory> {
     let mut octets = Bytes::new(alloc);
     for part in views.parts() {
         octets.append(part.as_slice())?;
@@ -250,68 +250,35 @@ fn began_anew() -> [PortEvent; 4] {
 #[test]
 fn a_terminal_that_begins_anew_is_shown_in_its_leg(rt: HostRuntime) -> Result<(), Fail> {
     let [a, b, c, d] = began_anew();
+    let twice = [a, b, c, d];
+    let too_early = [a, b, c, d, from_ann(5200, CAME_BACK)];
+    let thrice = [a, b, c, d, from_ann(6100, CAME_BACK)];
     let anew = "== Bob aware\nAnn: AB\u{FFFD}CD\n".as_bytes();
     let back = "== Bob aware\nAnn: AB\u{FFFD}CD\u{FFFD}E\n".as_bytes();
-    assert!(rt; bob_is_shown(&rt, rt.alloc(), FOLLOWED, &[a, b, c, d], anew)?);
-    assert!(rt;
-        bob_is_shown(
-            &rt,
-            rt.alloc(),
-            FOLLOWED,
-            &[a, b, c, d, from_ann(5200, CAME_BACK)],
-            anew
-        )?
-    );
-    assert!(rt;
-        bob_is_shown(
-            &rt,
-            rt.alloc(),
-            FOLLOWED,
-            &[a, b, c, d, from_ann(6100, CAME_BACK)],
-            back
-        )?
-    );
-    assert!(rt;
-        bob_is_shown(
-            &rt,
-            rt.alloc(),
-            CALL,
-            &[a, b, c, d],
-            b"== Bob aware\nAnn: \n"
-        )?
-    );
+    let nothing = b"== Bob aware\nAnn: \n";
+    assert!(rt; bob_is_shown(&rt, rt.alloc(), FOLLOWED, &twice, anew)?);
+    assert!(rt; bob_is_shown(&rt, rt.alloc(), FOLLOWED, &too_early, anew)?);
+    assert!(rt; bob_is_shown(&rt, rt.alloc(), FOLLOWED, &thrice, back)?);
+    assert!(rt; bob_is_shown(&rt, rt.alloc(), CALL, &twice, nothing)?);
     Ok(())
 }
 
 #[test]
 fn what_was_lost_of_one_before_is_waited_for_no_longer(rt: HostRuntime) -> Result<(), Fail> {
     let [a, _, c, d] = began_anew();
+    let late = [a, from_ann(4950, CAME_BACK), c, d];
     let shown = "== Bob aware\nAnn: A\u{FFFD}E\u{FFFD}CD\n".as_bytes();
-    assert!(rt;
-        bob_is_shown(
-            &rt,
-            rt.alloc(),
-            FOLLOWED,
-            &[a, from_ann(4950, CAME_BACK), c, d],
-            shown
-        )?
-    );
+    assert!(rt; bob_is_shown(&rt, rt.alloc(), FOLLOWED, &late, shown)?);
     Ok(())
 }
 
 #[test]
 fn who_is_not_named_is_shown_in_the_leg(rt: HostRuntime) -> Result<(), Fail> {
-    let unnamed = from_ann(10, b"\x80\xE2\0\0\0\0\0\0\0\0\0\x4DA");
-    assert!(rt;
-        bob_is_shown(
-            &rt,
-            rt.alloc(),
-            FOLLOWED,
-            &[unnamed],
-            b"== Bob aware\nAnn: A\n"
-        )?
-    );
-    assert!(rt; bob_is_shown(&rt, rt.alloc(), CALL, &[unnamed], b"== Bob aware\nAnn: \n")?);
+    let unnamed = [from_ann(10, b"\x80\xE2\0\0\0\0\0\0\0\0\0\x4DA")];
+    let letter = b"== Bob aware\nAnn: A\n";
+    let nothing = b"== Bob aware\nAnn: \n";
+    assert!(rt; bob_is_shown(&rt, rt.alloc(), FOLLOWED, &unnamed, letter)?);
+    assert!(rt; bob_is_shown(&rt, rt.alloc(), CALL, &unnamed, nothing)?);
     Ok(())
 }
 

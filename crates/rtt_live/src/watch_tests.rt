@@ -1,8 +1,8 @@
 //! A live call with a board, over links in memory.
-use crate::{LiveFault, Views, links_are_apart, serve_watched};
+use crate::tests::{ANN_CLOSES, BOB_CLOSES, CALL, LETTER_COMES, joined, links};
+use crate::{LiveFault, links_are_apart, serve_watched};
 use conf_text::{Form, read_conf};
-use link_io::{Came, MemLinks, PlannedTake};
-use rtt_base::{Bytes, NoMemory};
+use rtt_base::NoMemory;
 use rtt_io::StillGate;
 use std::alloc::Global;
 use std::sync::Wait;
@@ -10,58 +10,14 @@ use std::test::Fail;
 use std::thread::Threads;
 use std::time::Clock;
 
-/// A call of two, which ends when both links are closed.
-const CALL: &[u8] = b"leg Ann aware 1001 5004 127.0.0.1:6004\n\
-    leg Bob aware 1002 5006 127.0.0.1:6006\n\
-    mixer 9000 100 5000\n";
-
-/// The first packet of Ann's terminal, where she typed an A.
-const LETTER: &[u8] = b"\x80\xE4\0\0\0\0\0\0\0\0\x03\xE9\xE2\xFF\xFC\0\xE2\xFF\xFC\0\x62A";
-
-/// Links at which this comes at Ann's port, and both are closed.
-fn links(alloc: Global, letter: &[u8]) -> Result<MemLinks, NoMemory> {
-    let mut world = MemLinks::new(alloc);
-    let mut octets = Bytes::new(alloc);
-    octets.append(letter)?;
-    let comes = PlannedTake {
-        at: 10,
-        came: Came::Datagram,
-        octets,
-    };
-    world.plan(5004, comes)?;
-    let ends = PlannedTake {
-        at: 20,
-        came: Came::Closed,
-        octets: Bytes::new(alloc),
-    };
-    world.plan(5004, ends)?;
-    let closes = PlannedTake {
-        at: 15,
-        came: Came::Closed,
-        octets: Bytes::new(alloc),
-    };
-    world.plan(5006, closes)?;
-    Ok(world)
-}
-
-/// The octets of a text in parts.
-fn joined(alloc: Global, views: &Views) -> Result<Bytes, NoMemory> {
-    let mut octets = Bytes::new(alloc);
-    for part in views.parts() {
-        octets.append(part.as_slice())?;
-    }
-    Ok(octets)
-}
-
-/// Whether the call of this conference prints this, where this comes of Ann.
+/// Whether the call of this conference prints this, where Ann's letter comes, and then both links are closed.
 fn prints<R: Threads + Wait + Clock + Copy + Send + Sync + 'static>(
     rt: &R,
     alloc: Global,
     conference: &[u8],
-    letter: &[u8],
     printed: &[u8],
 ) -> Result<bool, NoMemory> {
-    let mut world = links(alloc, letter)?;
+    let mut world = links(alloc, &[LETTER_COMES, ANN_CLOSES, BOB_CLOSES])?;
     let Ok(conference) = read_conf(alloc, conference, Form::Links) else {
         return Ok(false);
     };
@@ -85,6 +41,6 @@ fn the_board_counts_what_was_typed(rt: HostRuntime) -> Result<(), Fail> {
         -- live closed\n\
         -- board Ann total 1\n\
         -- board Bob total 0\n";
-    assert!(rt; prints(&rt, rt.alloc(), CALL, LETTER, shown)?);
+    assert!(rt; prints(&rt, rt.alloc(), CALL, shown)?);
     Ok(())
 }

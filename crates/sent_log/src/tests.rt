@@ -4,7 +4,7 @@ ghost use Rattle.packetizer.specs.OutputSettings.{AreSettings};
 use crate::SentLog;
 use crate::text_lists::TextList;
 use packetizer::{Packetizer, PacketizerSettings};
-use rtt_base::{Packet, PayloadTypes};
+use rtt_base::{NoMemory, Packet, PayloadTypes};
 use std::alloc::Global;
 use std::process::Abort;
 use std::test::Fail;
@@ -28,6 +28,23 @@ struct SentText<'a> {
     media: u16,
     source: usize,
     text: &'a [u8],
+}
+
+/// A text of a source at its media time.
+fn said(media: u16, source: usize, text: &[u8]) -> SentText<'_> {
+    SentText {
+        media,
+        source,
+        text,
+    }
+}
+
+/// A log of two terminals with two sources each, to which nothing was sent.
+fn log_of_two(alloc: Global) -> Result<SentLog, NoMemory> {
+    let mut log = SentLog::new(alloc, 2)?;
+    log.add(alloc, settings(), vec![in alloc; 1001u32, 1002]?)?;
+    log.add(alloc, settings(), vec![in alloc; 1001u32, 1002]?)?;
+    Ok(log)
 }
 
 /// Sends a text to the terminal, a second after its media time.
@@ -81,24 +98,10 @@ fn expect(
 
 #[test]
 fn packets_are_made_again(rt: HostRuntime) -> Result<(), Fail> {
-    let mut log = SentLog::new(rt.alloc(), 2)?;
-    log.add(rt.alloc(), settings(), vec![in rt.alloc(); 1001u32, 1002]?)?;
-    log.add(rt.alloc(), settings(), vec![in rt.alloc(); 1001u32, 1002]?)?;
-    let first = SentText {
-        media: 0,
-        source: 0,
-        text: b"Hel",
-    };
-    let second = SentText {
-        media: 300,
-        source: 0,
-        text: b"lo",
-    };
-    let third = SentText {
-        media: 600,
-        source: 1,
-        text: b"x",
-    };
+    let mut log = log_of_two(rt.alloc())?;
+    let first = said(0, 0, b"Hel");
+    let second = said(300, 0, b"lo");
+    let third = said(600, 1, b"x");
     send(&rt, rt.alloc(), &mut log, 0, &first)?;
     send(&rt, rt.alloc(), &mut log, 0, &second)?;
     // The other terminal comes late.
@@ -135,34 +138,12 @@ fn expect_said(rt: &impl Abort, log: &SentLog, ssrc: u32, text: Option<&[u8]>) {
 
 #[test]
 fn what_was_sent_of_a_source_is_told_in_one_piece(rt: HostRuntime) -> Result<(), Fail> {
-    let mut log = SentLog::new(rt.alloc(), 2)?;
-    log.add(rt.alloc(), settings(), vec![in rt.alloc(); 1001u32, 1002]?)?;
-    log.add(rt.alloc(), settings(), vec![in rt.alloc(); 1001u32, 1002]?)?;
-    let first = SentText {
-        media: 0,
-        source: 0,
-        text: b"ab",
-    };
-    let other = SentText {
-        media: 300,
-        source: 1,
-        text: b"x",
-    };
-    let second = SentText {
-        media: 600,
-        source: 0,
-        text: b"c",
-    };
-    let late = SentText {
-        media: 900,
-        source: 0,
-        text: b"d",
-    };
-    let last = SentText {
-        media: 1200,
-        source: 0,
-        text: b"e",
-    };
+    let mut log = log_of_two(rt.alloc())?;
+    let first = said(0, 0, b"ab");
+    let other = said(300, 1, b"x");
+    let second = said(600, 0, b"c");
+    let late = said(900, 0, b"d");
+    let last = said(1200, 0, b"e");
     send(&rt, rt.alloc(), &mut log, 0, &first)?;
     send(&rt, rt.alloc(), &mut log, 0, &other)?;
     send(&rt, rt.alloc(), &mut log, 0, &second)?;

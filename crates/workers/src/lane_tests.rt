@@ -15,8 +15,8 @@ use std::thread::{Scope, Threads};
 
 // A number that goes through a queue.
 #[derive(Debug, Drop)]
-struct Number {
-    value: u64,
+pub(crate) struct Number {
+    pub(crate) value: u64,
 }
 
 impl Reusable for Number {
@@ -28,12 +28,25 @@ impl Reusable for Number {
 // The last number that is given.
 const LAST: u64 = 200;
 
-// Gives the numbers from 1 to 200, at every other step.
+// Gives the numbers from 1 to `last`, at every other step.
 #[derive(Drop)]
-struct CountProducer {
+pub(crate) struct CountProducer {
     given: u64,
+    last: u64,
     rests: bool,
     over: bool,
+}
+
+impl CountProducer {
+    // One that gave nothing yet.
+    pub(crate) fn up_to(last: u64) -> CountProducer {
+        CountProducer {
+            given: 0,
+            last,
+            rests: false,
+            over: false,
+        }
+    }
 }
 
 impl Producer<Number> for CountProducer {
@@ -54,7 +67,7 @@ impl Producer<Number> for CountProducer {
         }
         self.given = self.given.wrapping_add(1);
         item.value = self.given;
-        self.over = self.given == LAST;
+        self.over = self.given == self.last;
         true
     }
 }
@@ -168,14 +181,6 @@ fn run_kept<R: Threads + Wait, G: Gate + Copy>(
     Some(drained)
 }
 
-fn begins() -> CountProducer {
-    CountProducer {
-        given: 0,
-        rests: false,
-        over: false,
-    }
-}
-
 // Runs three that count, on threads of so many octets of stack, or without threads. The answer is how many ran on threads, how many numbers came in
 // order, and how many times the gate was told of a push and of a pop.
 fn count_thrice<R: Threads + Wait + Sync>(
@@ -183,7 +188,12 @@ fn count_thrice<R: Threads + Wait + Sync>(
     alloc: Global,
     stack: Option<usize>,
 ) -> Result<[u64; 4], NoMemory> {
-    let Ok(gives) = Vec::from_array(alloc, [begins(), begins(), begins()]) else {
+    let three = [
+        CountProducer::up_to(LAST),
+        CountProducer::up_to(LAST),
+        CountProducer::up_to(LAST),
+    ];
+    let Ok(gives) = Vec::from_array(alloc, three) else {
         return Err(NoMemory);
     };
     let passed = AtomicU64::new(0);

@@ -1,56 +1,13 @@
 ghost use Rattle.std.specs.Prelude.{◌≡◌};
 ghost use Rattle.workers.specs.Passes.{IsPopOf, IsPushOf};
 
-use crate::{Feed, ItemQueue, PopPass, Producer, PushPass, Reusable, run_feed};
+use crate::lane_tests::{CountProducer, Number};
+use crate::{Feed, ItemQueue, PopPass, PushPass, run_feed};
 use rtt_base::NoMemory;
 use std::alloc::Global;
 use std::sync::Wait;
 use std::sync::atomic::AtomicBool;
 use std::test::Fail;
-
-// A number that goes through a queue.
-#[derive(Debug, Drop)]
-struct Number {
-    value: u64,
-}
-
-impl Reusable for Number {
-    fn blank(_alloc: Global) -> Result<Number, NoMemory> {
-        Ok(Number { value: 0 })
-    }
-}
-
-// Gives the numbers from 1 to `last`, at every other step.
-#[derive(Drop)]
-struct CountProducer {
-    given: u64,
-    last: u64,
-    rests: bool,
-    over: bool,
-}
-
-impl Producer<Number> for CountProducer {
-    ghost stands = { λ first now items. Unit {0} };
-
-    ghost over = { λ c. c.over };
-
-    ghost nearer = { λ old new. Unit {0} };
-
-    fn is_over(&self) -> bool {
-        self.over
-    }
-
-    fn next<R: Wait>(&mut self, _rt: &R, _may_wait: bool, item: &mut Number) -> bool {
-        self.rests = !self.rests;
-        if self.rests {
-            return false;
-        }
-        self.given = self.given.wrapping_add(1);
-        item.value = self.given;
-        self.over = self.given == self.last;
-        true
-    }
-}
 
 // Whether a number is taken.
 fn takes<R: Wait>(
@@ -143,13 +100,7 @@ fn a_full_queue_takes_no_more(rt: HostRuntime) -> Result<(), Fail> {
 // and how many were.
 fn feed_twenty<R: Wait>(rt: &R, alloc: Global, alone: bool) -> Result<(bool, u64), NoMemory> {
     let (queue, push, mut pop) = ItemQueue::new(alloc)?;
-    let twenty = CountProducer {
-        given: 0,
-        last: 20,
-        rests: false,
-        over: false,
-    };
-    let feed = Feed::new(twenty, push);
+    let feed = Feed::new(CountProducer::up_to(20), push);
     let alone = AtomicBool::new(alone);
     let feed = run_feed(rt, feed, &queue, &alone);
     let is_done = feed.is_done();
