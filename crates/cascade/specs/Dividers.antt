@@ -15,7 +15,7 @@ use Rattle.cascade.specs.declared.dividers.Demux.{Demux}
 use Rattle.cascade.specs.Splitters.{Closes, Splits}
 use Rattle.cascade.specs.Dividing.{AreSplit}
 
--- Its tracker was told and gave what the story says, its receiver took that, and so did the recordings.
+-- Its buffer was told and gave what the story says, its receiver took that, and so did the recordings.
 pub record Hears (d : Demux) (t : Trunk) (sources : List ℕ) (story : Story) : Type 0 where
   pub ssrc : d.ssrc ≡ t.ssrc
   pub types : d.payload_types ≡ t.payload_types

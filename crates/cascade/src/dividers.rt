@@ -12,7 +12,7 @@ use rtp_text::read_text;
 use rtt_base::{NoMemory, Packet, PayloadTypes, Text};
 use std::alloc::Global;
 
-/// Hears the packets of one stream, and splits what is heard of each source into a recording of its own. One tracker and one
+/// Hears the packets of one stream, and splits what is heard of each source into a recording of its own. One reorder buffer and one
 /// receiver serve all sources, so that what is missing of one is known by the packets of the others.
 #[derive(Drop)]
 pub struct Demux {

@@ -1,4 +1,4 @@
-//! What is told of the legs of a conference, told to it.
+//! Names and leavings that inputs told, which are put into a conference.
 ghost use Rattle.std.specs.Prelude.{◌≡◌, ◌+◌, ◌==◌, ◌<◌, Some, true, [], ◌∷◌, ◌++◌, length, if◌then◌else◌};
 ghost use Rattle.std.specs.Str.{byte};
 ghost use Rattle.file_spec.specs.Conference.{change_leg, is_name_octet};

@@ -56,8 +56,8 @@ impl Listener {
         })
     }
 
-    /// Hears a packet that is given to the terminal's link, at once. Of 2^40 packets, which no call has, there is no room for
-    /// the last.
+    /// Hears a packet that is given to the terminal's link, at once. The packet 2^40, to which no call comes, is refused as where
+    /// memory ran out.
     pub fn hear(&mut self, packet: &[u8]) -> Result<(), NoMemory>
         ensures { OnOk result (HearsNext self.old packet.now self.new) }
     {

@@ -53,7 +53,7 @@ ComesMore old at packet c new =
     (past : List Arrival) → Follows old past
     → Follows new (arriving past at packet ∷ past) × IsCame c (numbered past) (number_it (numbered past) (arriving past at packet))
 
--- the packet that the tracker has came besides
+-- the packet that the buffer has came besides
 abbrev pub CurrentComes : Follower → ℕ → NumberedPacket → Follower → Type 0
 CurrentComes old at c new = ComesMore old at (packet_of (current_of old.buffer)) c new
 

@@ -43,7 +43,7 @@ fn is_used_as(taken: Taken) -> bool
     }
 }
 
-/// Lets the tracker give what is settled.
+/// Lets the buffer give what is settled.
 fn drain(buffer: &mut ReorderBuffer)
     ensures drains { Drains buffer.old buffer.new }
     ensures quiet { has_ready buffer.new ≡ false }
@@ -65,7 +65,7 @@ impl Follower {
         })
     }
 
-    /// Takes the packet that the tracker has now, and came at this moment.
+    /// Takes the packet that the buffer has now, and came at this moment.
     fn take_read(&mut self, at: u32) -> NumberedPacket
         requires { (n : ℕ) × (n < 2 ^ 32) × IsShort n self.old }
         ensures more { CurrentComes self.old at result self.new }

@@ -60,7 +60,7 @@ pub record Counts (source seq at : ℕ) (old new : StreamPackets) : Type 0 where
   pub top : new.top ≡ max old.top (number_from old.top seq)
   pub moment : new.moment ≡ max old.moment at
 
--- the tracker was told and gave what the story says, these sources were named, and all that is kept
+-- the buffer was told and gave what the story says, these sources were named, and all that is kept
 pub record Hearing (t : State) (h : StreamPackets) (story : Story) (names : Firsts) : Type 0 where
   pub wait : story.wait ≡ usual_wait
   pub tracks : Tracks t story

@@ -49,7 +49,7 @@ fn number_after(top: u64, seq: u16) -> u64
     base + (seq + 65536 - base % 65536) % 65536
 }
 
-/// Takes what the tracker gives.
+/// Takes what the buffer gives.
 fn drain(buffer: &mut ReorderBuffer, used: &mut Vec<Due>) -> Result<(), NoMemory>
     ensures drains { OnOk result (Drains buffer.old used.old.items buffer.new used.new.items) }
     ensures quiet { OnOk result (has_ready buffer.new ≡ Bool.false) }
@@ -94,7 +94,7 @@ impl StreamPackets {
         Ok(())
     }
 
-    /// Takes the packet of text that is current at the tracker, and came at this moment.
+    /// Takes the packet of text that is current at the buffer, and came at this moment.
     fn take(&mut self, buffer: &mut ReorderBuffer, at: u64) -> Result<(), NoMemory>
         requires at { at < END_OF_MOMENTS }
         requires quiet { has_ready buffer.old ≡ Bool.false }
