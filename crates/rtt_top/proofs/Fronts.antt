@@ -78,3 +78,15 @@ pub front_at : (old mid new : List ℕ) (pieces : List (List ℕ)) (n : ℕ) (pi
 front_at old mid new pieces n piece less is whole f =
     subst (λ octets. TakesFront old new octets) (sym (concat_at pieces n piece less is))
     (front_behind old mid new (concat (take n pieces)) (piece ++ concat (drop (suc n) pieces)) whole (front_before mid new piece (concat (drop (suc n) pieces)) f))
+
+-- ---- in a loop over pieces that writes these octets, those of the piece with this number
+-- they are written
+pub more_written : (old mid new : List ℕ) (pieces : List (List ℕ)) (n : ℕ) (piece octets : List ℕ) → n < length pieces → piece ≡ get_or pieces n piece → octets ≡ piece → mid ≡ old ++ concat (take n pieces)
+    → new ≡ mid ++ octets → new ≡ old ++ concat (take (n + 1) pieces)
+more_written old mid new pieces n piece octets less is same before more = more_at old mid new pieces n piece less is before (more ∙ ap (λ xs. mid ++ xs) same)
+
+-- or a front of them, where that fails
+pub front_written : {A B : Type 0} (result : Result A B) (old mid new : List ℕ) (pieces : List (List ℕ)) (n : ℕ) (piece octets : List ℕ) → n < length pieces → piece ≡ get_or pieces n piece → octets ≡ piece
+    → mid ≡ old ++ concat (take n pieces) → TakesFront mid new octets → OnErr result (TakesFront old new (concat pieces))
+front_written result old mid new pieces n piece octets less is same before front =
+    on_err (TakesFront old new (concat pieces)) result (front_at old mid new pieces n piece less is before (subst (λ xs. TakesFront mid new xs) same front))
