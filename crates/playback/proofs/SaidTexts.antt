@@ -4,7 +4,7 @@ use Rattle.std.specs.Prelude.{◌==◌, ◌≢◌, All, AllPairs, map, slice_ind
 use Rattle.std.specs.List.{concat}
 use Rattle.std.proofs.Math.Seq.{get_or-set_same, get_or-set_other}
 use Rattle.std.proofs.lemmas.Bool.{cases_eq, cases_order, eq-eqb, ne_eqb}
-use Rattle.std.proofs.lemmas.List.{get_or_append_left, get_or_push, length-set}
+use Rattle.std.proofs.lemmas.List.{get_or_append_left, get_or_push, length-map, length-set}
 use Rattle.rtt_base.specs.declared.text_packets.PayloadTypes.{PayloadTypes}
 use Rattle.wire_spec.specs.Packets.{Arrival}
 use Rattle.wire_spec.specs.Dump.{Item, arrivals_after, sent_item}
@@ -22,7 +22,7 @@ use Rattle.packetizer.specs.OutputSettings.{stream_of}
 use Rattle.packetizer.proofs.Speaking.{sendable}
 use Rattle.sent_log.specs.States.{IsStreamOf, Sending, records_of, sents}
 use Rattle.playback.specs.Written.{IsPlayable}
-use Rattle.playback.specs.Whole.{AreSaid, IsSaid, SaysMore, said}
+use Rattle.playback.specs.Whole.{AreSaid, IsHeardAsSent, IsSaid, SaysMore, said}
 use Rattle.playback.proofs.Whole.{AllCame, all_came, all_used_is, arrive, arrived_all, counted_if, fates, heard_is, markers_none, said_utf8}
 
 -- what a result tells, if it is a success, gives more
@@ -113,22 +113,20 @@ one_said sources past texts new place source n e all own k d l = elim (cases_eq 
 same_counts : (a a' b b' c c' d d' : ℕ) → a ≡ a' → b ≡ b' → c ≡ c' → d ≡ d' → (let n : Counts = record { packets = a; used = b; refused = c; foreign = d } in n) ≡ record { packets = a'; used = b'; refused = c'; foreign = d' }
 same_counts a a' b b' c c' d d' p q r s = rw (p, q, r, s) refl
 
-pub heard_whole : (x : Sending) (t : Terminal) (settings : TerminalSettings) (sources : List ℕ) (texts : List SourceText) (packets : ℕ) → IsPlayable x → IsStreamOf settings.ssrc settings.payload_types x → 0 < length sources → settings.ssrc < 2 ^ 32
-    → texts_of t ≡ texts → counts_of t ≡ all_used packets → IsWhole t → packets ≡ length x.sent → AreSaid sources (sents x.sent) texts → Heard t settings sources (map sent_item (records_of x.settings x.sent))
-heard_whole x t settings sources texts packets p is some b te ce whole n s = record {
-  some = some;
-  each = ap (λ (ts : List SourceText). length ts) te ∙ s.each;
-  texts = λ k d l. record {
-    text = (text k d l) ∙ sym (ap (λ (came_in : List Arrival). concat (heard settings.wait came_in (slice_index sources k))) here ∙ heard_is x.settings x.sent settings.wait (slice_index sources k) all);
-    markers = (at k d l).markers ∙ sym (ap (λ (came_in : List Arrival). marker_count settings.wait came_in (slice_index sources k)) here ∙ markers_none x.settings x.sent settings.wait (slice_index sources k) all);
-  };
-  utf8 = λ k d l. let below : k < length sources = omega (arith, l, te_each) in subst IsUtf8 (sym (text k d below)) (said_utf8 (stream_of x.settings) (slice_index sources k) zs may);
-  counts = ce ∙ same_counts packets _ packets _ 0 _ 0 _ (n ∙ sym (many_is is_packet)) (n ∙ sym (ap (λ (came_in : List Arrival). length (used settings.wait (numbered came_in))) here ∙ all_used_is x.settings x.sent settings.wait all)) (sym (many_is is_refused)) (sym (many_is is_foreign));
-  whole = whole;
+pub heard_as_sent : (x : Sending) (settings : TerminalSettings) → IsPlayable x → IsStreamOf settings.ssrc settings.payload_types x → settings.ssrc < 2 ^ 32
+    → IsHeardAsSent (reception settings) (sents x.sent) (map sent_item (records_of x.settings x.sent))
+heard_as_sent x settings p is b = record {
+  texts = λ s. ap (λ (came_in : List Arrival). concat (heard settings.wait came_in s)) here ∙ heard_is x.settings x.sent settings.wait s all;
+  utf8 = λ s. said_utf8 (stream_of x.settings) s zs may;
+  markers = λ s. ap (λ (came_in : List Arrival). marker_count settings.wait came_in s) here ∙ markers_none x.settings x.sent settings.wait s all;
+  counts = same_counts _ (length zs) _ (length zs) _ 0 _ 0 (many_is is_packet ∙ count) (ap (λ (came_in : List Arrival). length (used settings.wait (numbered came_in))) here ∙ (all_used_is x.settings x.sent settings.wait all ∙ count)) (many_is is_refused) (many_is is_foreign);
 }
   where
     zs : List Sent
     zs = sents x.sent
+
+    count : length x.sent ≡ length zs
+    count = sym (length-map x.sent (λ (e : ℕ × Sent). e.1))
 
     may : Sendable (stream_of x.settings) zs
     may = sendable (stream_of x.settings) zs is.settings.generations p.lawful
@@ -147,16 +145,33 @@ heard_whole x t settings sources texts packets p is some b te ce whole n s = rec
         ap (λ (m : ℕ). arrivals_after m settings.payload_types [] came) (sym is.ssrc_is)
         ∙ (ap (λ (q : PayloadTypes). arrivals_after x.settings.ssrc q [] came) (sym is.payload_types_are) ∙ arrive x.settings x.sent is.settings ssrc is.words may)
 
-    te_each : length (texts_of t) ≡ length sources
-    te_each = ap (λ (ts : List SourceText). length ts) te ∙ s.each
-
-    at : (k : ℕ) (d : SourceText) → k < length sources → IsSaid (slice_index sources k) zs (slice_index_or (texts_of t) k d)
-    at k d l = subst (λ (ts : List SourceText). IsSaid (slice_index sources k) zs (slice_index_or ts k d)) (sym te) (s.are k d l)
-
-    text : (k : ℕ) (d : SourceText) → k < length sources → (slice_index_or (texts_of t) k d).text ≡ said (slice_index sources k) zs
-    text k d l = (at k d l).text
-
     many_is : (q : Fate → Bool) → many q (fate_at (reception settings)) came ≡ counted_if (q Text) (length x.sent)
     many_is q =
         ap (λ (m : ℕ). many q (fate_at (record { ssrc = m; payload_types = settings.payload_types; wait = settings.wait })) came) (sym is.ssrc_is)
         ∙ (ap (λ (ps : PayloadTypes). many q (fate_at (record { ssrc = x.settings.ssrc; payload_types = ps; wait = settings.wait })) came) (sym is.payload_types_are) ∙ fates q settings.wait x.settings x.sent is.settings ssrc is.words may)
+
+pub heard_whole : (x : Sending) (t : Terminal) (settings : TerminalSettings) (sources : List ℕ) (texts : List SourceText) (packets : ℕ) → IsPlayable x → IsStreamOf settings.ssrc settings.payload_types x → 0 < length sources → settings.ssrc < 2 ^ 32
+    → texts_of t ≡ texts → counts_of t ≡ all_used packets → IsWhole t → packets ≡ length x.sent → AreSaid sources (sents x.sent) texts → Heard t settings sources (map sent_item (records_of x.settings x.sent))
+heard_whole x t settings sources texts packets p is some b te ce whole n s = record {
+  some = some;
+  each = te_each;
+  texts = λ k d l. record {
+    text = text k d l ∙ sym (h.texts (slice_index sources k));
+    markers = (at k d l).markers ∙ sym (h.markers (slice_index sources k));
+  };
+  utf8 = λ k d l. let below : k < length sources = omega (arith, l, te_each) in subst IsUtf8 (sym (text k d below)) (h.utf8 (slice_index sources k));
+  counts = ce ∙ (ap (λ (k : ℕ). all_used k) (n ∙ sym (length-map x.sent (λ (e : ℕ × Sent). e.1))) ∙ sym h.counts);
+  whole = whole;
+}
+  where
+    h : IsHeardAsSent (reception settings) (sents x.sent) (map sent_item (records_of x.settings x.sent))
+    h = heard_as_sent x settings p is b
+
+    te_each : length (texts_of t) ≡ length sources
+    te_each = ap (λ (ts : List SourceText). length ts) te ∙ s.each
+
+    at : (k : ℕ) (d : SourceText) → k < length sources → IsSaid (slice_index sources k) (sents x.sent) (slice_index_or (texts_of t) k d)
+    at k d l = subst (λ (ts : List SourceText). IsSaid (slice_index sources k) (sents x.sent) (slice_index_or ts k d)) (sym te) (s.are k d l)
+
+    text : (k : ℕ) (d : SourceText) → k < length sources → (slice_index_or (texts_of t) k d).text ≡ said (slice_index sources k) (sents x.sent)
+    text k d l = (at k d l).text

@@ -7,11 +7,13 @@ use Rattle.playback.specs.declared.copies.Arrival.{Arrival}
 use Rattle.playback.specs.Arriving.{copy_of, copies_of}
 use Rattle.terminal.specs.declared.settings.TerminalSettings.{TerminalSettings}
 use Rattle.terminal.specs.declared.terminals.Terminal.{Terminal}
-use Rattle.terminal.specs.Terminals.{Listens, Heard}
+use Rattle.terminal.specs.Terminals.{Listens, Heard, reception}
 use Rattle.sent_log.specs.States.{IsStreamOf, OfTerminal, Sending, State, records_of}
 use Rattle.playback.specs.declared.indexes.RecordIndex.{RecordIndex}
 use Rattle.playback.specs.Written.{AreRecords, IsWrittenOf}
 use Rattle.playback.specs.Finds.{Finds}
+use Rattle.playback.specs.Whole.{IsHeardAsSent}
+use Rattle.stream_spec.specs.Own.{Sent}
 
 -- where nothing came before, this came
 abbrev pub Hears : Terminal → List Item → Terminal → Type 0
@@ -45,3 +47,8 @@ HeardByPlan settings sources recording plan number terminal = (records : List (�
 pub record HearsAll (settings : TerminalSettings) (log : State) (terminal : ℕ) (plan : List PlanLine) : Type 0 where
   pub stream : OfTerminal log terminal (IsStreamOf settings.ssrc settings.payload_types)
   pub same : OfTerminal log terminal (λ x. came plan terminal (records_of x.settings x.sent) ≡ map sent_item (records_of x.settings x.sent))
+
+-- what comes by the plan of the records of this recording is heard as this was sent
+abbrev pub HearsAsSent : TerminalSettings → List ℕ → List PlanLine → ℕ → List Sent → Type 0
+HearsAsSent settings recording plan number past =
+    (records : List (ℕ × List ℕ)) → IsWrittenOf recording records → IsHeardAsSent (reception settings) past (came plan number records)

@@ -10,7 +10,7 @@ mod receptions;
 mod sent_texts;
 
 pub use copies::{Arrival, arrivals};
-pub use receptions::played;
+pub use receptions::{hears_as_sent, played};
 
 #[cfg(test)]
 mod tests;

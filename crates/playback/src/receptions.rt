@@ -3,15 +3,15 @@ ghost use Rattle.std.specs.Prelude.{true, ◌≡◌, ◌≢◌, ◌+◌, ◌≤�
 ghost use Rattle.std.specs.List.{list_any};
 ghost use Rattle.playback.specs.Arriving.{IsOfFirst};
 ghost use Rattle.terminal.specs.Terminals.{counts_of, IsOpen};
-ghost use Rattle.sent_log.specs.States.{OfTerminal, recording_of};
+ghost use Rattle.sent_log.specs.States.{OfTerminal, recording_of, sents};
 ghost use Rattle.playback.specs.Written.{HasRecords, IsPlayable};
 ghost use Rattle.playback.specs.Finds.{AreFound, LieWithin};
-ghost use Rattle.playback.specs.Told.{HearsAll, HearsByPlan, HearsCopies, HearsCopy, HearsSent, HeardByPlan};
+ghost use Rattle.playback.specs.Told.{HearsAll, HearsAsSent, HearsByPlan, HearsCopies, HearsCopy, HearsSent, HeardByPlan};
 ghost use Rattle.file_spec.specs.declared.limits.TheConstants.{MOST_LEGS};
 ghost use Rattle.rtt_base.specs.declared.limits.TheConstants.{LONGEST_WAIT, MOST_ARRIVALS, MOST_SOURCES};
 
 use crate::indexes::{RecordIndex, find_records};
-use crate::sent_texts::heard_all;
+use crate::sent_texts::{has_32_bits, heard_all};
 use crate::{Arrival, arrivals};
 use file_spec::PlanLine;
 use rtpdump_io::{next_record, records_of};
@@ -150,6 +150,25 @@ fn hears_all(settings: TerminalSettings, log: &SentLog, terminal: usize, plan: &
     !speaks_of(plan, terminal as u8)
         && log.never_falls(terminal)
         && log.is_stream(terminal, settings.ssrc, settings.payload_types)
+}
+
+/// Whether all that was sent to the terminal with this number, counted from 0 and below 64, is heard there as it was sent: texts
+/// each of which could be sent after those before it, in packets of at most 65527 octets. Then each packet is used, and of each
+/// source what is heard is `SentLog::said`.
+pub fn hears_as_sent(
+    settings: TerminalSettings,
+    log: &SentLog,
+    terminal: usize,
+    plan: &[PlanLine],
+) -> bool
+    requires terminal { terminal < length log.now }
+    requires leg { terminal < MOST_LEGS }
+    requires sent { OfTerminal log.now terminal IsPlayable }
+    ensures { result ≡ true → OfTerminal log.now terminal (λ x.
+        HearsAsSent settings (recording_of x) plan.now terminal (sents x.sent)) }
+{
+    has_32_bits(settings.ssrc);
+    hears_all(settings, log, terminal, plan)
 }
 
 /// The terminal with this number, counted from 0 and below 64, that heard to its end what comes to it, by the plan of a

@@ -60,7 +60,7 @@ fn add_text(
 }
 
 /// An SSRC has 32 bits. Nothing is done.
-fn has_32_bits(ssrc: u32)
+pub(crate) fn has_32_bits(ssrc: u32)
     ensures { ssrc < 2 ^ 32 }
 {}
 
