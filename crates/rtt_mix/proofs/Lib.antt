@@ -7,3 +7,4 @@ pub mod Joining
 pub mod Answering
 pub mod Recorded
 pub mod Handing
+pub mod SentViews

@@ -7,3 +7,4 @@ pub mod Shown
 pub mod Viewed
 pub mod Answered
 pub mod Loggers
+pub mod SentViews

@@ -99,6 +99,13 @@ pub record AddsCounts (t : Terminal) (old new : Views) : Type 0 where
   pub used : new.used ≡ old.used + (counts_of t).used
   pub markers : new.markers ≡ old.markers + markers_of t
 
+-- The view of a terminal was added, in these pieces, and so many packets, each of which was used, and no marker.
+pub record AddsUsed (pieces : List (List ℕ)) (count : ℕ) (old new : Views) : Type 0 where
+  pub views : joined new ≡ joined old ++ concat pieces
+  pub packets : new.packets ≡ old.packets + count
+  pub used : new.used ≡ old.used + count
+  pub markers : new.markers ≡ old.markers
+
 -- Few packets came to it, and it has few sources. No number of it is greater.
 pub record HasFew (t : Terminal) : Type 0 where
   pub packets : (counts_of t).packets < MOST_ARRIVALS

@@ -17,28 +17,28 @@ const WORTH_KEEPING: usize = 3;
 
 /// What is printed of a source at a terminal that keeps its sources apart.
 #[derive(Drop)]
-pub(crate) struct KnownLines {
+pub(crate) struct KnownLines<'a> {
     name: Bytes,
     /// What was heard of it.
-    text: Bytes,
+    text: &'a [u8],
     lines: Piece,
-    ghost are: { lines ≡ lines_of name text },
+    ghost are: { lines ≡ lines_of name text.now },
 }
 
 /// Whether these are the lines of a source of this name and text.
-fn are_of(known: &KnownLines, name: &[u8], text: &[u8]) -> bool
+fn are_of(known: &KnownLines<'_>, name: &[u8], text: &[u8]) -> bool
     ensures name { result ≡ true → known.now.name ≡ name.now }
-    ensures text { result ≡ true → known.now.text ≡ text.now }
+    ensures text { result ≡ true → known.now.text.now ≡ text.now }
 {
-    known.name.as_slice() == name && known.text.as_slice() == text
+    known.name.as_slice() == name && known.text == text
 }
 
 /// The lines of a source of this name and text, if they are among these.
-pub(crate) fn known_lines<'a>(
-    known: &'a [KnownLines],
+pub(crate) fn known_lines<'k>(
+    known: &'k [KnownLines<'_>],
     name: &[u8],
     text: &[u8],
-) -> Option<&'a Piece>
+) -> Option<&'k Piece>
     ensures { IfSome result (λ lines. lines.now ≡ lines_of name.now text.now) }
 {
     for one in known {
@@ -70,13 +70,12 @@ pub(crate) fn make_lines(alloc: Global, name: &[u8], text: &[u8]) -> Result<Byte
 }
 
 /// The same, to be kept.
-fn keep_lines(alloc: Global, name: &[u8], text: &[u8]) -> Result<KnownLines, NoMemory>
+fn keep_lines<'a>(alloc: Global, name: &[u8], text: &'a [u8]) -> Result<KnownLines<'a>, NoMemory>
     requires { IsUtf8 text.now }
 {
     let octets = make_lines(alloc, name, text)?;
     let lines = Piece::new(alloc, octets)?;
     let name = copy_of(alloc, name)?;
-    let text = copy_of(alloc, text)?;
     Ok(KnownLines { name, text, lines })
 }
 
@@ -96,12 +95,12 @@ fn said_of<'a>(conference: &Conference, log: &'a SentLog, leg: usize) -> Option<
 }
 
 /// The lines of the leg with this number, counted from 0, if the log has what was sent of it in one piece.
-fn lines_of_leg(
+fn lines_of_leg<'a>(
     alloc: Global,
     conference: &Conference,
-    log: &SentLog,
+    log: &'a SentLog,
     leg: usize,
-) -> Result<Option<KnownLines>, NoMemory>
+) -> Result<Option<KnownLines<'a>>, NoMemory>
     requires { leg < length conference.now.legs }
 {
     let Some(text) = said_of(conference, log, leg) else {
@@ -116,12 +115,12 @@ fn lines_of_leg(
 }
 
 /// The lines of all legs of which the log has what was sent in one piece, where there are terminals that share them.
-pub(crate) fn lines_on_threads<R: Threads + Sync>(
+pub(crate) fn lines_on_threads<'a, R: Threads + Sync>(
     rt: &R,
     alloc: Global,
     conference: &Conference,
-    log: &SentLog,
-) -> Result<Vec<KnownLines>, NoMemory> {
+    log: &'a SentLog,
+) -> Result<Vec<KnownLines<'a>>, NoMemory> {
     let mut known = Vec::new(alloc);
     if log.terminals() < WORTH_KEEPING {
         return Ok(known);

@@ -12,6 +12,7 @@ mod parts;
 mod pieces;
 mod readers;
 mod results;
+mod sent_views;
 mod showing;
 mod threads;
 mod views;

@@ -8,7 +8,7 @@ ghost use Rattle.rtt_mix.specs.declared.parts.TheConstants.{MOST_PARTS};
 ghost use Rattle.file_spec.specs.declared.limits.TheConstants.{MOST_LEGS};
 
 use crate::known_lines::{KnownLines, lines_on_threads};
-use crate::pieces::Piece;
+use crate::pieces::add_pieces;
 use crate::views::{Views, nothing_seen, views_between, views_of};
 use file_spec::Conference;
 use rtt_base::NoMemory;
@@ -56,7 +56,7 @@ fn part_of(
     alloc: Global,
     conference: &Conference,
     log: &SentLog,
-    known: &[KnownLines],
+    known: &[KnownLines<'_>],
     size: usize,
     number: usize,
 ) -> Result<Views, NoMemory>
@@ -77,7 +77,7 @@ fn parts_of<R: Threads + Sync>(
     alloc: Global,
     conference: &Conference,
     log: &SentLog,
-    known: &[KnownLines],
+    known: &[KnownLines<'_>],
     size: usize,
 ) -> Result<Vec<Result<Views, NoMemory>>, NoMemory>
     requires each { length log.now ≡ length conference.now.legs }
@@ -96,16 +96,6 @@ fn parts_of<R: Threads + Sync>(
         Ok(parts) => Ok(parts),
         Err(_) => Err(NoMemory),
     }
-}
-
-/// Puts these pieces behind others.
-fn add_pieces(pieces: Vec<Piece>, all: &mut Vec<Piece>) -> Result<(), NoMemory>
-    ensures { OnOk result (all.new.items ≡ all.old.items ++ pieces.items) }
-{
-    for piece in pieces {
-        all.push(piece)?;
-    }
-    Ok(())
 }
 
 /// Adds what is seen at more terminals.

@@ -71,3 +71,13 @@ pub(crate) fn add_again(piece: &Piece, pieces: &mut Vec<Piece>) -> Result<(), No
     pieces.push(again)?;
     Ok(())
 }
+
+/// Puts these pieces behind others.
+pub(crate) fn add_pieces(pieces: Vec<Piece>, all: &mut Vec<Piece>) -> Result<(), NoMemory>
+    ensures { OnOk result (all.new.items ≡ all.old.items ++ pieces.items) }
+{
+    for piece in pieces {
+        all.push(piece)?;
+    }
+    Ok(())
+}

@@ -4,7 +4,7 @@ ghost use Rattle.std.specs.List.{concat};
 ghost use Rattle.view_spec.specs.Views.{aware_title, aware_view, counts_line, source_view};
 ghost use Rattle.terminal.specs.Terminals.{texts_of, AreUtf8, IsWhole, IsFinished};
 ghost use Rattle.terminal.specs.Views.{named, source_shown, Fits};
-ghost use Rattle.rtt_mix.specs.Shown.{AddsView};
+ghost use Rattle.rtt_mix.specs.Shown.{AddsView, lines_of};
 
 use crate::known_lines::{KnownLines, known_lines, make_lines};
 use crate::pieces::{Piece, add_again, add_octets};
@@ -16,7 +16,7 @@ use t140_text::views::{append_aware_title, append_counts};
 use terminal::{Terminal, View};
 
 /// Adds the title of an aware terminal.
-fn add_title(alloc: Global, name: &Name, pieces: &mut Vec<Piece>) -> Result<(), NoMemory>
+pub(crate) fn add_title(alloc: Global, name: &Name, pieces: &mut Vec<Piece>) -> Result<(), NoMemory>
     ensures { OnOk result (concat pieces.new.items ≡ concat pieces.old.items ++ aware_title name.now) }
 {
     let mut octets = Bytes::new(alloc);
@@ -25,7 +25,11 @@ fn add_title(alloc: Global, name: &Name, pieces: &mut Vec<Piece>) -> Result<(), 
 }
 
 /// Adds a line of counts.
-fn add_counts(alloc: Global, counts: Counts, pieces: &mut Vec<Piece>) -> Result<(), NoMemory>
+pub(crate) fn add_counts(
+    alloc: Global,
+    counts: Counts,
+    pieces: &mut Vec<Piece>,
+) -> Result<(), NoMemory>
     ensures { OnOk result (concat pieces.new.items ≡ concat pieces.old.items ++ counts_line counts) }
 {
     let mut octets = Bytes::new(alloc);
@@ -33,20 +37,17 @@ fn add_counts(alloc: Global, counts: Counts, pieces: &mut Vec<Piece>) -> Result<
     add_octets(alloc, octets, pieces)
 }
 
-/// Adds what one source shows.
-fn add_source(
+/// Adds what the source of this name shows, of which this text was heard.
+pub(crate) fn add_lines(
     alloc: Global,
-    name: &Name,
-    source: &SourceText,
-    known: &[KnownLines],
+    name: &[u8],
+    text: &[u8],
+    known: &[KnownLines<'_>],
     pieces: &mut Vec<Piece>,
 ) -> Result<(), NoMemory>
-    requires { IsUtf8 source.now.text }
-    ensures { OnOk result (concat pieces.new.items
-        ≡ concat pieces.old.items ++ source_view (source_shown name.now source.now)) }
+    requires { IsUtf8 text.now }
+    ensures { OnOk result (concat pieces.new.items ≡ concat pieces.old.items ++ lines_of name.now text.now) }
 {
-    let name = name.as_slice();
-    let text = source.text.as_slice();
     if let Some(lines) = known_lines(known, name, text) {
         return add_again(lines, pieces);
     }
@@ -54,12 +55,33 @@ fn add_source(
     add_octets(alloc, lines, pieces)
 }
 
+/// Adds what one source shows.
+fn add_source(
+    alloc: Global,
+    name: &Name,
+    source: &SourceText,
+    known: &[KnownLines<'_>],
+    pieces: &mut Vec<Piece>,
+) -> Result<(), NoMemory>
+    requires { IsUtf8 source.now.text }
+    ensures { OnOk result (concat pieces.new.items
+        ≡ concat pieces.old.items ++ source_view (source_shown name.now source.now)) }
+{
+    add_lines(
+        alloc,
+        name.as_slice(),
+        source.text.as_slice(),
+        known,
+        pieces,
+    )
+}
+
 /// Adds what each source shows.
 fn add_sources(
     alloc: Global,
     names: &[Name],
     texts: &[SourceText],
-    known: &[KnownLines],
+    known: &[KnownLines<'_>],
     pieces: &mut Vec<Piece>,
 ) -> Result<(), NoMemory>
     requires each { length names.now ≡ length texts.now }
@@ -81,7 +103,7 @@ fn add_aware(
     names: &[Name],
     texts: &[SourceText],
     counts: Counts,
-    known: &[KnownLines],
+    known: &[KnownLines<'_>],
     pieces: &mut Vec<Piece>,
 ) -> Result<(), NoMemory>
     requires each { length names.now ≡ length texts.now }
@@ -115,7 +137,7 @@ pub(crate) fn add_shown(
     alloc: Global,
     terminal: &Terminal,
     view: View<'_>,
-    known: &[KnownLines],
+    known: &[KnownLines<'_>],
     pieces: &mut Vec<Piece>,
 ) -> Result<(), NoMemory>
     requires finished { IsFinished terminal.now }

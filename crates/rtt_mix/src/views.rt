@@ -4,13 +4,14 @@ ghost use Rattle.file_spec.specs.Conferences.{meaning_of};
 ghost use Rattle.sent_log.specs.States.{OfTerminal};
 ghost use Rattle.playback.specs.Written.{IsPlayable};
 ghost use Rattle.sent_log.specs.Files.{recording_at, recordings_of};
-ghost use Rattle.rtt_mix.specs.Viewed.{AddsCounts, AddsSeenAs, AddsSent, AreOf, AreSeenBetween, AreSumsOf, AreViewsOf, HasFew, joined, markers_of, summed, terminal_settings};
+ghost use Rattle.rtt_mix.specs.Viewed.{AddsCounts, AddsSeenAs, AddsSent, AddsUsed, AreOf, AreSeenBetween, AreSumsOf, AreViewsOf, HasFew, joined, markers_of, summed, terminal_settings};
 ghost use Rattle.terminal.specs.Views.{Fits};
 ghost use Rattle.file_spec.specs.declared.limits.TheConstants.{MOST_LEGS};
-ghost use Rattle.rtt_base.specs.declared.limits.TheConstants.{MOST_SOURCES};
+ghost use Rattle.rtt_base.specs.declared.limits.TheConstants.{MOST_ARRIVALS, MOST_SOURCES};
 
 use crate::known_lines::KnownLines;
-use crate::pieces::Piece;
+use crate::pieces::{Piece, add_pieces};
+use crate::sent_views::sent_view;
 use crate::showing::add_shown;
 use file_spec::{Conference, LegLine, others};
 use playback::played;
@@ -32,7 +33,7 @@ pub struct Views {
 }
 
 /// What the terminal of a leg hears.
-fn settings_at(conference: &Conference, leg: &LegLine) -> TerminalSettings
+pub(crate) fn settings_at(conference: &Conference, leg: &LegLine) -> TerminalSettings
     ensures { result ≡ terminal_settings (meaning_of conference.now) leg.now }
 {
     TerminalSettings {
@@ -75,7 +76,7 @@ fn add_seen(
     sources: &[u32],
     view: View<'_>,
     log: &SentLog,
-    known: &[KnownLines],
+    known: &[KnownLines<'_>],
     seen: &mut Views,
 ) -> Result<(), NoMemory>
     requires own { own < length conference.now.legs }
@@ -104,13 +105,26 @@ fn add_seen(
     Ok(())
 }
 
+/// Adds the view, in these pieces, of a terminal to which so many packets came, each of which was used, without a marker.
+fn add_sent_view(pieces: Vec<Piece>, packets: u64, seen: &mut Views) -> Result<(), NoMemory>
+    requires few { packets < MOST_ARRIVALS }
+    requires before { (n : ℕ) × (n < MOST_LEGS) × AreOf n seen.old }
+    ensures adds { OnOk result (AddsUsed pieces.items packets seen.old seen.new) }
+    ensures with_it { OnOk result ((n : ℕ) → AreOf n seen.old → AreOf (n + 1) seen.new) }
+{
+    add_pieces(pieces, &mut seen.views)?;
+    seen.packets += packets;
+    seen.used += packets;
+    Ok(())
+}
+
 /// Adds what is seen at the terminal of a leg, of what the log has for it.
 fn add_view(
     alloc: Global,
     conference: &Conference,
     own: usize,
     log: &SentLog,
-    known: &[KnownLines],
+    known: &[KnownLines<'_>],
     seen: &mut Views,
 ) -> Result<(), NoMemory>
     requires own { own < length conference.now.legs }
@@ -126,6 +140,10 @@ fn add_view(
         let speakers = others(alloc, legs, own)?;
         let sources = speakers.sources.as_slice();
         let names = speakers.names.as_slice();
+        if let Some(pieces) = sent_view(alloc, conference, own, sources, names, log, known)? {
+            let packets = log.count(own) as u64;
+            return add_sent_view(pieces, packets, seen);
+        }
         let view = View::Aware {
             name: &leg.name,
             names,
@@ -165,7 +183,7 @@ pub(crate) fn views_between(
     alloc: Global,
     conference: &Conference,
     log: &SentLog,
-    known: &[KnownLines],
+    known: &[KnownLines<'_>],
     from: usize,
     to: usize,
 ) -> Result<Views, NoMemory>

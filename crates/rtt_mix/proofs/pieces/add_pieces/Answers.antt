@@ -1,7 +1,7 @@
 use Rattle.std.proofs.Common.{List, [], ◌∷◌, ◌++◌, length, refl, ap, sym, ◌∙◌, append_assoc, arith, ℕ}
 use Rattle.std.specs.Vec.Iter.{into_iter_items}
 use Rattle.std.proofs.lemmas.List.{append-nil}
-use Rattle.rtt_mix.proofs.parts.add_pieces.Goals as goal
+use Rattle.rtt_mix.proofs.pieces.add_pieces.Goals as goal
 
 pub loop-piece-init : goal.loop-piece-init
 loop-piece-init c =
