@@ -7,4 +7,5 @@ pub mod Written
 pub mod Penning
 pub mod Recorded
 pub mod Passing
+pub mod Overwriting
 mod Trials

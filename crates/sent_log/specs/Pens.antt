@@ -1,5 +1,6 @@
 -- What a pen knows of what was sent before a packet.
-use Rattle.std.specs.Prelude.{◌≡◌, ◌+◌, ◌%◌, ℕ, Some, List, ◌∷◌, length, map, reverse, slice_get, slice_index, slice_index_or, if◌then◌else◌, []}
+use Rattle.std.specs.Prelude.{◌≡◌, ◌+◌, ◌%◌, ℕ, Some, List, ◌∷◌, ◌++◌, length, map, reverse, slice_get, slice_index, slice_index_or, if◌then◌else◌, []}
+use Rattle.wire_spec.specs.Dump.{record_written}
 use Rattle.stream_spec.specs.Own.{Sent, sent_of}
 use Rattle.packetizer.specs.Sending.{octets_of}
 use Rattle.packetizer.specs.declared.slots.KeptBlock.{KeptBlock}
@@ -7,7 +8,7 @@ use Rattle.packetizer.specs.WindowStanding as window
 use Rattle.sent_log.specs.declared.repeats.PacketKey.{PacketKey}
 use Rattle.sent_log.specs.declared.pens.Pen.{Pen}
 use Rattle.sent_log.specs.Repeats.{AreBelow}
-use Rattle.sent_log.specs.States.{IsLawful, Sending, first_sent, sents}
+use Rattle.sent_log.specs.States.{IsLawful, OfTerminal, Sending, State, first_sent, sents}
 
 -- the text that was sent with this number, counted from the oldest, where what was sent stands newest first
 abbrev pub text_sent : List (ℕ × Sent) → ℕ → List ℕ
@@ -41,3 +42,16 @@ abbrev pub IsPacket : Sending → ℕ → List ℕ → ℕ → Type 0
 IsPacket x number octets at = IsLawful x
     → (e : ℕ × Sent) × (first_sent (number + 1) x.sent ≡ e ∷ first_sent number x.sent) × (at ≡ e.0)
     × (octets ≡ octets_of x.settings (sents (first_sent number x.sent)) e.1)
+
+-- The packet with this number, that was sent to the terminal at this moment, stands behind what was there before.
+pub record AppendsPacket (log : State) (terminal number : ℕ) (before after : List ℕ) (at : ℕ) : Type 0 where
+  pub octets : List ℕ
+  pub behind : after ≡ before ++ octets
+  pub is : OfTerminal log terminal (λ x. IsPacket x number octets at)
+
+-- its record does
+pub record AppendsRecord (log : State) (terminal number : ℕ) (before after : List ℕ) : Type 0 where
+  pub octets : List ℕ
+  pub at : ℕ
+  pub behind : after ≡ before ++ record_written (at, octets)
+  pub is : OfTerminal log terminal (λ x. IsPacket x number octets at)

@@ -1,8 +1,9 @@
 -- How a packet is written of what stands in a log.
-use Rattle.std.specs.Prelude.{◌+◌, ◌*◌, ◌<◌, ◌≤◌, ◌==◌, ℕ, Bool, All, List, [], ◌∷◌, length, map, not, slice_index, slice_index_or, if◌then◌else◌}
+use Rattle.std.specs.Prelude.{◌+◌, ◌*◌, ◌<◌, ◌≤◌, ◌==◌, ℕ, Bool, Option, MatchOption, All, List, [], ◌∷◌, length, map, not, slice_index, slice_index_or, if◌then◌else◌}
 use Rattle.std.specs.List.{flat_map, list_any}
 use Rattle.std.specs.Int.{bytes_high_first}
 use Rattle.rtt_base.specs.declared.blocks.TextBlock.{TextBlock}
+use Rattle.rtt_base.specs.declared.limits.TheConstants.{MOST_PACKET_OCTETS}
 use Rattle.wire_spec.specs.Red.{red_header}
 use Rattle.rtp_text.specs.declared.block_writers.TextHead.{TextHead}
 use Rattle.wire_spec.specs.SentPackets.{packet_written}
@@ -71,3 +72,9 @@ head_in t marker_bit seq timestamp source = record { marker_bit = marker_bit; se
 -- the octets of the packet of an entry that repeats these
 abbrev pub packet_in : List (List ℕ) → TerminalLog → List PacketKey → LoggedPacket → TextHead → List ℕ
 packet_in texts t older e head = packet_written t.settings.payload_types (packet_with head (blocks_in texts t head.timestamp older) (text_in texts t e))
+
+-- ---- where it is written
+
+-- there is a greatest length, and any packet fits behind these octets
+abbrev pub HasRoom : Option ℕ → List ℕ → Type 0
+HasRoom greatest before = MatchOption greatest ⊥ (λ most. length before + MOST_PACKET_OCTETS ≤ most)

@@ -3,17 +3,19 @@ ghost use Rattle.std.specs.Prelude.{◌≡◌, ◌+◌, ◌%◌, ◌^◌, ◌<�
 ghost use Rattle.packetizer.specs.OutputSettings.{AreSettings};
 ghost use Rattle.packetizer.specs.Speakers.{AreDistinct, text_of};
 ghost use Rattle.sent_log.specs.States.{HasSource, IsStreamOf, NeverFalls, OfTerminal, State, TellsText, said, sent_to, sents};
-ghost use Rattle.sent_log.specs.Pens.{IsPacket, IsPenOf, IsPenTo};
+ghost use Rattle.sent_log.specs.Pens.{AppendsPacket, IsPacket, IsPenOf, IsPenTo};
 ghost use Rattle.sent_log.specs.Insides.{IsLog, state_of};
+ghost use Rattle.sent_log.specs.Writing.{HasRoom};
+ghost use Rattle.rtt_base.specs.declared.limits.TheConstants.{MOST_PACKET_OCTETS};
 
 use crate::pens::Pen;
 use crate::runs::empty_runs;
 use crate::terminals::{TerminalLog, make_lists, never_fall};
 use crate::text_lists::TextList;
 use crate::turns::{Turn, note_turn};
-use crate::writers::make_packet;
+use crate::writers::append_packet;
 use packetizer::PacketizerSettings;
-use rtt_base::{NoMemory, Packet, PayloadTypes};
+use rtt_base::{NoMemory, OctetBuffer, Packet, PayloadTypes};
 use std::alloc::Global;
 use std::marker::Model;
 
@@ -193,7 +195,6 @@ impl SentLog {
 
     /// Makes the packet with this number, counted from 0, that was sent to the terminal, by a pen that has written those
     /// before it, in place of what `packet` had; and answers its moment, in milliseconds.
-    #[inline(always)]
     pub fn packet(&self, terminal: usize, number: usize, pen: &mut Pen, packet: &mut Packet) -> u32
         requires terminal { terminal < length self.now }
         requires number { OfTerminal self.now terminal (λ x. number < length x.sent) }
@@ -203,20 +204,43 @@ impl SentLog {
         ensures some { 0 < length packet.new }
         ensures fits { length packet.new ≤ 4224 }
     {
+        packet.clear();
+        self.append_packet(terminal, number, pen, packet)
+    }
+
+    /// Appends the packet with this number, counted from 0, that was sent to the terminal, by a pen that has written those
+    /// before it, to a buffer with room for any packet; and answers its moment, in milliseconds.
+    #[inline(always)]
+    pub fn append_packet<O: OctetBuffer>(
+        &self,
+        terminal: usize,
+        number: usize,
+        pen: &mut Pen,
+        out: &mut O,
+    ) -> u32
+        requires terminal { terminal < length self.now }
+        requires number { OfTerminal self.now terminal (λ x. number < length x.sent) }
+        requires pen { OfTerminal self.now terminal (λ x. IsPenOf x number pen.old) }
+        requires room { HasRoom O.greatest (O.written out.old) }
+        ensures made { AppendsPacket self.now terminal number (O.written out.old) (O.written out.new) result }
+        ensures pen { OfTerminal self.now terminal (λ x. IsPenOf x (number + 1) pen.new) }
+        ensures some { length (O.written out.old) < length (O.written out.new) }
+        ensures fits { length (O.written out.new) ≤ length (O.written out.old) + MOST_PACKET_OCTETS }
+    {
         let sent_to = &self.terminals[terminal];
         let entry = &sent_to.entries[number];
         let turn = self.turns[entry.turn as usize];
         let source = entry.source as usize;
         let timestamp = timestamp_at(sent_to.settings.timestamp, turn.media);
         let repeats = &pen.sources[source];
-        make_packet(
+        append_packet(
             sent_to,
             &self.texts,
             repeats,
             entry,
             pen.seq,
             timestamp,
-            packet,
+            out,
         );
         pen.keep(source, timestamp, number);
         turn.now

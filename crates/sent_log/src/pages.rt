@@ -1,5 +1,5 @@
 //! A page of octets.
-ghost use Rattle.std.specs.Prelude.{◌≡◌, ◌≤◌, [], length, take, IfOk};
+ghost use Rattle.std.specs.Prelude.{◌≡◌, ◌+◌, ◌≤◌, ◌++◌, [], drop, length, take, IfOk};
 
 use rtt_base::{Full, NoMemory, OctetBuffer};
 use std::alloc::Global;
@@ -46,6 +46,18 @@ impl Page {
         ensures { result.now ≡ self.now }
     {
         &self.octets[..self.len]
+    }
+
+    /// Writes these octets in place of those that stand from `place` on.
+    #[inline(always)]
+    pub fn overwrite(&mut self, place: usize, octets: &[u8])
+        requires { place + length octets.now ≤ length self.old }
+        ensures { self.new ≡ take place self.old ++ (octets.now ++ drop (place + length octets.now) self.old) }
+    {
+        // so that the proof sees how many there are
+        let _len = self.len;
+        let end = place + octets.len();
+        self.octets[place..end].copy_from_slice(octets);
     }
 
     pub fn clear(&mut self)

@@ -12,7 +12,7 @@ ghost use Rattle.rtt_base.specs.declared.limits.TheConstants.{MOST_PACKET_OCTETS
 ghost use Rattle.sent_log.specs.Repeats.{AreBelow, last_kept};
 ghost use Rattle.sent_log.specs.Lists.{list_at};
 ghost use Rattle.sent_log.specs.Runs.{IsRun, empty_run};
-ghost use Rattle.sent_log.specs.Writing.{HasText, HasTexts, blocks_in, have_text, head_in, header_of_sizes, kept_header, kept_text, kept_texts, packet_in, text_in};
+ghost use Rattle.sent_log.specs.Writing.{HasRoom, HasText, HasTexts, blocks_in, have_text, head_in, header_of_sizes, kept_header, kept_text, kept_texts, packet_in, text_in};
 
 use crate::repeats::{PacketKey, Repeats};
 use crate::runs::Run;
@@ -21,7 +21,7 @@ use crate::text_lists::TextList;
 use byteorder::{BigEndian, ByteOrder};
 use rtp_text::{RtpHead, TextHead, write_header};
 use rtt_base::limits::MOST_PACKET_OCTETS;
-use rtt_base::{OctetBuffer, Packet, PayloadTypes};
+use rtt_base::{OctetBuffer, PayloadTypes};
 
 /// F, the bit of a header's first octet that tells a redundant header from the last.
 const F: u8 = 128;
@@ -319,6 +319,7 @@ fn write_head<O: OctetBuffer>(rtp: &RtpHead, out: &mut O) -> Result<(), O::Refus
 }
 
 /// Appends the packet of an entry that repeats these, at most three. A buffer with room for 4224 octets more does not refuse it.
+#[inline(always)]
 fn write_packet<O: OctetBuffer>(
     terminal: &TerminalLog,
     texts: &[TextList],
@@ -335,6 +336,7 @@ fn write_packet<O: OctetBuffer>(
     requires below { AreBelow (length terminal.now.entries.items) older.now }
     ensures packet { Appends O.greatest (O.written out.old) (O.written out.new) (packet_in texts.now terminal.now older.now entry.now head.now) result }
     ensures fits { IfSome O.greatest (λ most. length (O.written out.old) + MOST_PACKET_OCTETS ≤ most → IsOk result) }
+    ensures most { OnOk result (length (O.written out.new) ≤ length (O.written out.old) + MOST_PACKET_OCTETS) }
 {
     let before = out.len();
     let rtp = rtp_head(head, older, terminal.settings.payload_types);
@@ -349,26 +351,27 @@ fn write_packet<O: OctetBuffer>(
     written
 }
 
-/// Makes the packet of an entry, of a source of which these are the last packets, with this sequence number and timestamp.
+/// Appends the packet of an entry, of a source of which these are the last packets, with this sequence number and timestamp.
 #[inline(always)]
-pub fn make_packet(
+pub fn append_packet<O: OctetBuffer>(
     terminal: &TerminalLog,
     texts: &[TextList],
     repeats: &Repeats,
     entry: &LoggedPacket,
     seq: u16,
     timestamp: u32,
-    packet: &mut Packet,
+    out: &mut O,
 )
     requires settings { AreSettings terminal.now.settings }
     requires short { All (λ e. e.len < 1024) terminal.now.entries.items }
     requires texts { HasTexts texts.now terminal.now }
     requires text { HasText texts.now terminal.now entry.now }
     requires below { AreBelow (length terminal.now.entries.items) repeats.now }
-    ensures packet { packet.new ≡ packet_in texts.now terminal.now (last_kept terminal.now.settings.generations repeats.now) entry.now
+    requires room { HasRoom O.greatest (O.written out.old) }
+    ensures packet { O.written out.new ≡ O.written out.old ++ packet_in texts.now terminal.now (last_kept terminal.now.settings.generations repeats.now) entry.now
         (head_in terminal.now (not (have_text texts.now terminal.now (last_kept (max 1 terminal.now.settings.generations) repeats.now))) seq timestamp entry.now.source) }
-    ensures some { 0 < length packet.new }
-    ensures fits { length packet.new ≤ MOST_PACKET_OCTETS }
+    ensures some { length (O.written out.old) < length (O.written out.new) }
+    ensures fits { length (O.written out.new) ≤ length (O.written out.old) + MOST_PACKET_OCTETS }
 {
     let generations = usize::from(terminal.settings.generations);
     let spoke = any_text(terminal, repeats.last(generations.max(1)));
@@ -379,11 +382,8 @@ pub fn make_packet(
         ssrc: terminal.settings.ssrc,
         source: terminal.sources[entry.source as usize],
     };
-    packet.clear();
     let older = repeats.last(generations);
-    let Ok(()) = write_packet(terminal, texts, older, entry, &head, packet) else {
+    let Ok(()) = write_packet(terminal, texts, older, entry, &head, out) else {
         unreachable!()
     };
-    let fits = packet.len() <= MOST_PACKET_OCTETS;
-    prove!(fits);
 }

@@ -22,7 +22,7 @@ loop-number-init g c =
     }
 
 pub returns-then-is_err-clause-pen : goal.returns-then-is_err-clause-pen
-returns-then-is_err-clause-pen g c = λ x at. record { each = (c.packet-at.ensures.pen x at).each }
+returns-then-is_err-clause-pen g c = λ x at. record { each = (c.loop-number.invariant.pen x at).each }
 
 pub returns-then-is_err-clause-prefix : goal.returns-then-is_err-clause-prefix
 returns-then-is_err-clause-prefix g c = λ told x at.
@@ -53,17 +53,18 @@ loop-number-preserved g c =
     let went = sym c.is_err.ensures.value ∙ c.if-is_err.false in
     let middle = took c.loop-number.sink in
     let now = took c.turn_page-turned.new.sink in
+    let put = c.put_record.ensures.record in
     record {
-      pen = c.packet-at.ensures.pen;
+      pen = c.put_record.ensures.pen;
       calm = ok_gives (g.K.Sink.faults c.turn_page-turned.new.sink ≡ g.K.Sink.faults c.loop-number.sink) turned went c.turn_page-turned.ensures.calm ∙ c.loop-number.invariant.calm;
       named = c.turn_page-turned.ensures.same_name ∙ c.loop-number.invariant.named;
       held = λ told x at.
-          let m = c.packet-at.ensures.made x at (c.requires.lawful x at) in
-          next_held x.settings n x.sent m.0 c.packet-at.result c.packet-at.new.packet m.1 m.2 m.3
+          let m = put.is x at (c.requires.lawful x at) in
+          next_held x.settings n x.sent m.0 put.at put.octets m.1 m.2 m.3
           (took c.args.sink.now) middle now c.loop-number.page c.turn_page-turned.new.page c.put_record.new.page dump_opening
           (c.loop-number.invariant.held told x at)
           (ok_gives (HoldsRest middle now c.turn_page-turned.new.page c.loop-number.page) turned went (c.turn_page-turned.ensures.held told))
-          c.put_record.ensures;
+          put.behind;
     }
 
 pub returns-clause-pen : goal.returns-clause-pen

@@ -6,7 +6,9 @@ use Rattle.wire_spec.specs.SentPackets.{payload_sent}
 use Rattle.rtp_text.specs.Headers.{spelled}
 use Rattle.rtp_text.proofs.Parts.{headed}
 use Rattle.packetizer.proofs.Speaking.{has_room}
+use Rattle.rtt_base.specs.declared.limits.TheConstants.{MOST_PACKET_OCTETS}
 use Rattle.sent_log.specs.Writing.{blocks_in, packet_in, text_in}
+use Rattle.sent_log.proofs.Overwriting.{appended_short}
 use Rattle.sent_log.proofs.Written.{packet_short}
 use Rattle.sent_log.proofs.writers.write_packet.Goals as goal
 use Rattle.sent_log.proofs.writers.write_packet.Goals.{then-is_err-2, else-is_err-2}
@@ -60,3 +62,21 @@ returns-clause-fits g c =
     has_room g.O.OctetBuffer.greatest (written c.args.out.now) (written c.if-is_err-2.out) (packet_in texts t c.args.older.now c.args.entry.now c.args.head.now) c.write_payload-written.result
     (packet_short texts t c.args.older.now c.args.entry.now c.args.head.now c.requires.texts c.requires.text c.requires.few c.requires.below)
     (returns-clause-packet g c)
+
+pub returns-then-is_err-clause-most : goal.returns-then-is_err-clause-most
+returns-then-is_err-clause-most g c =
+    let written = g.O.OctetBuffer.written in
+    let texts = c.args.texts.now in
+    let t = c.args.terminal.now in
+    appended_short c.write_head-headed.result (written c.args.out.now) (written c.write_head-headed.new.out) (packet_in texts t c.args.older.now c.args.entry.now c.args.head.now) MOST_PACKET_OCTETS
+    (packet_short texts t c.args.older.now c.args.entry.now c.args.head.now c.requires.texts c.requires.text c.requires.few c.requires.below)
+    (returns-then-is_err-clause-packet g c).ok
+
+pub returns-clause-most : goal.returns-clause-most
+returns-clause-most g c =
+    let written = g.O.OctetBuffer.written in
+    let texts = c.args.texts.now in
+    let t = c.args.terminal.now in
+    appended_short c.write_payload-written.result (written c.args.out.now) (written c.if-is_err-2.out) (packet_in texts t c.args.older.now c.args.entry.now c.args.head.now) MOST_PACKET_OCTETS
+    (packet_short texts t c.args.older.now c.args.entry.now c.args.head.now c.requires.texts c.requires.text c.requires.few c.requires.below)
+    (returns-clause-packet g c).ok

@@ -15,7 +15,7 @@ use Rattle.sent_log.specs.Writing.{HasText, HasTexts, have_text, head_in, packet
 use Rattle.sent_log.specs.States.{OfTerminal, Sending, State}
 use Rattle.sent_log.proofs.Penning.{all_short, below_count, has_text, has_texts, packet_made, pen_more}
 use Rattle.sent_log.proofs.Rendering.{Reads, number_within, of_terminal, reads, tells}
-use Rattle.sent_log.proofs.logs.SentLog.packet.Goals as goal
+use Rattle.sent_log.proofs.logs.SentLog.append_packet.Goals as goal
 
 -- what the pen knows of the terminal that was read
 pen_of : (i : Inside) (log : State) (terminal : ℕ) (t : TerminalLog) (number : ℕ) (e : LoggedPacket) (p : Pen) → state_of i ≡ log → Reads i terminal t number e → OfTerminal log terminal (λ x. IsPenOf x number p)
@@ -30,20 +30,20 @@ source_read : (i : Inside) (terminal : ℕ) (t : TerminalLog) (number : ℕ) (e 
 source_read i terminal t number e p s r k q = slice_get_read p.sources.items (length p.sources.items) e.source s refl (source_within i terminal t number e p r k) q
 
 pub index-entry-requires : goal.index-entry-requires
-index-entry-requires c =
+index-entry-requires g c =
     let i = c.self.inside in
     let t = c.index-sent_to.result.now in
     let n = number_within i _ c.args.terminal t c.args.number c.self.view_is c.index-sent_to.ensures c.requires.terminal c.requires.number in
     omega (arith, n, t.entries.ok.0)
 
 pub index-turn-requires : goal.index-turn-requires
-index-turn-requires c =
+index-turn-requires g c =
     let i = c.self.inside in
     let r = reads i _ c.args.terminal c.index-sent_to.result.now c.args.number c.index-entry.result.now c.self.view_is c.self.invariant c.index-sent_to.ensures c.index-entry.ensures c.requires.terminal c.requires.number in
     omega (arith, r.entry.turn, i.turns.ok.0)
 
 pub index-repeats-requires : goal.index-repeats-requires
-index-repeats-requires c =
+index-repeats-requires g c =
     let i = c.self.inside in
     let t = c.index-sent_to.result.now in
     let e = c.index-entry.result.now in
@@ -52,34 +52,34 @@ index-repeats-requires c =
     let l = source_within i c.args.terminal t c.args.number e p r (pen_of i _ c.args.terminal t c.args.number e p c.self.view_is r c.requires.pen) in
     omega (arith, l, p.sources.ok.0)
 
-pub make_packet-requires-clause-settings : goal.make_packet-requires-clause-settings
-make_packet-requires-clause-settings c =
+pub append_packet-requires-clause-settings : goal.append_packet-requires-clause-settings
+append_packet-requires-clause-settings g c =
     (reads c.self.inside _ c.args.terminal c.index-sent_to.result.now c.args.number c.index-entry.result.now c.self.view_is c.self.invariant c.index-sent_to.ensures c.index-entry.ensures c.requires.terminal c.requires.number).stands.settings
 
-pub make_packet-requires-clause-short : goal.make_packet-requires-clause-short
-make_packet-requires-clause-short c =
+pub append_packet-requires-clause-short : goal.append_packet-requires-clause-short
+append_packet-requires-clause-short g c =
     let i = c.self.inside in
     let t = c.index-sent_to.result.now in
     let r = reads i _ c.args.terminal t c.args.number c.index-entry.result.now c.self.view_is c.self.invariant c.index-sent_to.ensures c.index-entry.ensures c.requires.terminal c.requires.number in
     all_short i.turns.items i.texts.items t r.stands
 
-pub make_packet-requires-clause-texts : goal.make_packet-requires-clause-texts
-make_packet-requires-clause-texts c =
+pub append_packet-requires-clause-texts : goal.append_packet-requires-clause-texts
+append_packet-requires-clause-texts g c =
     let i = c.self.inside in
     let t = c.index-sent_to.result.now in
     let r = reads i _ c.args.terminal t c.args.number c.index-entry.result.now c.self.view_is c.self.invariant c.index-sent_to.ensures c.index-entry.ensures c.requires.terminal c.requires.number in
     subst (λ (xs : List (List ℕ)). HasTexts xs t) (sym c.deref.ensures.value) (has_texts i.turns.items i.texts.items t r.stands)
 
-pub make_packet-requires-clause-text : goal.make_packet-requires-clause-text
-make_packet-requires-clause-text c =
+pub append_packet-requires-clause-text : goal.append_packet-requires-clause-text
+append_packet-requires-clause-text g c =
     let i = c.self.inside in
     let t = c.index-sent_to.result.now in
     let e = c.index-entry.result.now in
     let r = reads i _ c.args.terminal t c.args.number e c.self.view_is c.self.invariant c.index-sent_to.ensures c.index-entry.ensures c.requires.terminal c.requires.number in
     subst (λ (xs : List (List ℕ)). HasText xs t e) (sym c.deref.ensures.value) (has_text i.turns.items i.texts.items t e r.entry)
 
-pub make_packet-requires-clause-below : goal.make_packet-requires-clause-below
-make_packet-requires-clause-below c =
+pub append_packet-requires-clause-below : goal.append_packet-requires-clause-below
+append_packet-requires-clause-below g c =
     let i = c.self.inside in
     let t = c.index-sent_to.result.now in
     let e = c.index-entry.result.now in
@@ -90,7 +90,7 @@ make_packet-requires-clause-below c =
     below_count i.turns.items i.texts.items t c.args.number e.source s (k.last e.source s (source_read i c.args.terminal t c.args.number e p s r k c.index-repeats.ensures))
 
 pub keep-requires : goal.keep-requires
-keep-requires c =
+keep-requires g c =
     let i = c.self.inside in
     let t = c.index-sent_to.result.now in
     let e = c.index-entry.result.now in
@@ -99,7 +99,7 @@ keep-requires c =
     source_within i c.args.terminal t c.args.number e p r (pen_of i _ c.args.terminal t c.args.number e p c.self.view_is r c.requires.pen)
 
 pub returns-clause-made : goal.returns-clause-made
-returns-clause-made c =
+returns-clause-made g c =
     let i = c.self.inside in
     let t = c.index-sent_to.result.now in
     let e = c.index-entry.result.now in
@@ -108,14 +108,20 @@ returns-clause-made c =
     let r = reads i _ c.args.terminal t c.args.number e c.self.view_is c.self.invariant c.index-sent_to.ensures c.index-entry.ensures c.requires.terminal c.requires.number in
     let k = pen_of i _ c.args.terminal t c.args.number e p c.self.view_is r c.requires.pen in
     let turn = get_or_read i.turns.items e.turn c.index-turn.result.now r.entry.turn c.index-turn.ensures (record { now = 0; media = 0 }) in
-    of_terminal i.turns.items i.texts.items i.terminals.items c.args.self.now c.args.terminal t (λ (x : Sending). IsPacket x c.args.number c.make_packet.new.packet c.index-turn.result.now.now) c.self.view_is r.there
-    (packet_made i.turns.items i.texts.items t c.args.number e p s c.make_packet.new.packet c.index-turn.result.now.now p.seq c.timestamp_at-timestamp.result r.stands r.read k (source_read i c.args.terminal t c.args.number e p s r k c.index-repeats.ensures) refl
-    (c.timestamp_at-timestamp.ensures ∙ ap (λ (u : Turn). (t.settings.timestamp + u.media) % 2 ^ 32) turn) (ap (λ (u : Turn). u.now) turn)
-    (c.make_packet.ensures.packet
-    ∙ ap (λ (xs : List (List ℕ)). packet_in xs t (last_kept t.settings.generations s) e (head_in t (not (have_text xs t (last_kept (max 1 t.settings.generations) s))) p.seq c.timestamp_at-timestamp.result e.source)) c.deref.ensures.value))
+    let octets_in = λ (xs : List (List ℕ)). packet_in xs t (last_kept t.settings.generations s) e (head_in t (not (have_text xs t (last_kept (max 1 t.settings.generations) s))) p.seq c.timestamp_at-timestamp.result e.source) in
+    let octets = octets_in c.deref.result.now in
+    record {
+      octets = octets;
+      behind = c.append_packet.ensures.packet;
+      is =
+          of_terminal i.turns.items i.texts.items i.terminals.items c.args.self.now c.args.terminal t (λ (x : Sending). IsPacket x c.args.number octets c.index-turn.result.now.now) c.self.view_is r.there
+          (packet_made i.turns.items i.texts.items t c.args.number e p s octets c.index-turn.result.now.now p.seq c.timestamp_at-timestamp.result r.stands r.read k (source_read i c.args.terminal t c.args.number e p s r k c.index-repeats.ensures) refl
+          (c.timestamp_at-timestamp.ensures ∙ ap (λ (u : Turn). (t.settings.timestamp + u.media) % 2 ^ 32) turn) (ap (λ (u : Turn). u.now) turn)
+          (ap octets_in c.deref.ensures.value));
+    }
 
 pub returns-clause-pen : goal.returns-clause-pen
-returns-clause-pen c =
+returns-clause-pen g c =
     let i = c.self.inside in
     let t = c.index-sent_to.result.now in
     let e = c.index-entry.result.now in
