@@ -1,16 +1,15 @@
 -- A leg of whose link nothing was asked.
-use Rattle.std.proofs.Common.{◌≡◌, ℕ, true≢false, None, Some, [], refl, sym, ap, subst, arith}
+use Rattle.std.proofs.Common.{◌≡◌, ℕ, true≢false, None, Some, [], refl, sym, ap, subst}
 use Rattle.std.specs.Prelude.{Bool, true, false, if◌then◌else◌}
 use Rattle.reorder_buffer.specs.Stories.{begun as begun_story}
 use Rattle.receiver.specs.declared.settings.EarSettings.{EarSettings}
 use Rattle.receiver.specs.Hears.{Gave, settings_of}
-use Rattle.rtt_io.specs.Counts.{Rose}
-use Rattle.link_io.specs.declared.ends.LinkIn as links
+use Rattle.live_leg.specs.declared.arrivals.Arrivals as arrivals
 use Rattle.live_spec.specs.Told.{all_by, untold}
 use Rattle.live_spec.specs.Tally.{untallied}
 use Rattle.live_leg.specs.declared.states.State.{State}
 use Rattle.live_leg.specs.declared.states.State.TheVariants.{Idle}
-use Rattle.live_leg.specs.declared.legs.LinkLeg.{LinkLeg}
+use Rattle.live_leg.specs.declared.legs.Leg.{Leg}
 use Rattle.live_leg.specs.Senders.{KnowsFirst}
 use Rattle.live_leg.specs.Tallies.{IsTally}
 use Rattle.live_leg.specs.Stories.{IsOf, hearing_of}
@@ -21,16 +20,16 @@ first_is : (b : Bool) (ssrc : ℕ) → IsOf (if b then None else Some ssrc) ssrc
 first_is true ssrc = refl
 first_is false ssrc = refl
 
-pub begun : {L : Type 0} (g : links.Ghosts L) (leg : LinkLeg L) → Gave leg.ear leg.settings.ear leg.settings.ear.ssrc (begun_story leg.settings.ear.wait) [] → KnowsFirst (hearing_of leg.settings) leg.senders → IsTally leg.tally untallied
-    → leg.state ≡ Idle → LegStands g leg leg []
-begun {L} g leg gave knows tally idle =
+pub begun : {A F : Type 0} (g : arrivals.Ghosts A F) (leg : Leg A) → Gave leg.ear leg.settings.ear leg.settings.ear.ssrc (begun_story leg.settings.ear.wait) [] → KnowsFirst (hearing_of leg.settings) leg.senders → IsTally leg.tally untallied
+    → leg.state ≡ Idle → g.came leg.arrivals leg.arrivals [] → LegStands g leg leg []
+begun {A} {F} g leg gave knows tally idle came =
     let h = hearing_of leg.settings in
     let own : settings_of leg.ear ≡ leg.settings.ear = gave.hears.asked in
     record {
       so = record {
         takes = [];
         settings = refl;
-        ear = subst (λ (st : State). EarStands leg.ear st leg.senders.moment leg.packet.value h [] []) (sym idle) (record {
+        ear = subst (λ (st : State). EarStands {F = F} leg.ear st leg.senders.moment leg.packet.value h [] []) (sym idle) (record {
           part = untold h;
           story = begun_story leg.settings.ear.wait;
           heard = [];
@@ -48,12 +47,8 @@ begun {L} g leg gave knows tally idle =
         });
         knows = knows;
         tally = tally;
-        taken = λ t. refl;
-        closed = λ e. absurd (true≢false (sym e));
-        never_falls = omega arith;
-        counts = refl;
-        port = refl;
-        phase = subst (λ (st : State). PhaseAt st (Rose (g.faults leg.link) (g.faults leg.link)) h [] []) (sym idle) (record { open_still = refl; are = refl });
+        went = came;
+        phase = subst (λ (st : State). PhaseAt {F = F} st h [] []) (sym idle) (record { open_still = refl; are = refl });
       };
       front = (all_by h [], refl);
     }

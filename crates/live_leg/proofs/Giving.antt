@@ -1,5 +1,5 @@
 -- A leg gives what is ready by its link's takes.
-use Rattle.std.proofs.Common.{◌≡◌, ◌≤◌, ℕ, Bool, true, false, true≢false, cond, inl, Option, None, Some, List, [], ◌∷◌, ◌++◌, refl, ap, sym, ◌∙◌, subst, append_assoc, ◌||◌}
+use Rattle.std.proofs.Common.{◌≡◌, ℕ, Bool, true, false, true≢false, cond, inl, Option, None, Some, List, [], ◌∷◌, ◌++◌, refl, ap, sym, ◌∙◌, subst, append_assoc, ◌||◌}
 use Rattle.std.specs.Prelude.{filter, map, max, if◌then◌else◌, is_some, unwrap_or}
 use Rattle.std.proofs.lemmas.List.{append-nil, map-append}
 use Rattle.std.proofs.lemmas.List.Elements.{filter-append}
@@ -11,9 +11,8 @@ use Rattle.reorder_buffer.specs.Stories.{Story}
 use Rattle.receiver.specs.declared.settings.EarSettings.{EarSettings}
 use Rattle.receiver.specs.declared.ears.Ear.{Ear}
 use Rattle.receiver.specs.Hears.{Gave, GaveFront, GaveReady, GaveSome, GivesChunk, GivesNone, settings_of, ready_chunks, story_chunks}
-use Rattle.rtt_io.specs.Counts.{Rose}
 use Rattle.workers.specs.Giving.{GivesMore, items_by}
-use Rattle.link_io.specs.declared.ends.LinkIn as links
+use Rattle.live_leg.specs.declared.arrivals.Arrivals as arrivals
 use Rattle.stream_spec.specs.Links.{Takes, is_closed}
 use Rattle.live_spec.specs.Told.{Hearing, Told, all_by, all_former, all_told, last_chunks, ready_by, ready_until, taken_over, told_by}
 use Rattle.live_spec.specs.Tally.{tally_by}
@@ -25,18 +24,18 @@ use Rattle.live_leg.specs.declared.kinds.ItemKind.{ItemKind}
 use Rattle.live_leg.specs.declared.kinds.ItemKind.TheVariants as kind
 use Rattle.live_leg.specs.declared.states.State.{State}
 use Rattle.live_leg.specs.declared.states.State.TheVariants.{Idle, Giving, Blank, Parting, Ending, Over}
-use Rattle.live_leg.specs.declared.legs.LinkLeg.{LinkLeg}
+use Rattle.live_leg.specs.declared.legs.Leg.{Leg}
 use Rattle.live_leg.specs.declared.tallies.LegTally.{LegTally}
 use Rattle.live_leg.specs.Senders.{Knows}
 use Rattle.live_leg.specs.Tallies.{IsTally}
 use Rattle.live_leg.specs.Stories.{BeginsWith, IsEarOf, hearing_of}
-use Rattle.live_leg.specs.Items.{AreItems, Item, Text, Seen, Silent, End, has_fault, is_text, item_with, items_of, items_with, text_in, texts_in}
+use Rattle.live_leg.specs.Items.{AreItems, Item, Text, Seen, Silent, End, fault_in, is_text, item_with, items_of, items_with, text_in, texts_in}
 use Rattle.live_leg.specs.States.{is_ending, is_giving, is_going, is_heard}
-use Rattle.live_leg.specs.Stands.{Counts, EarStands, GivesOf, GivesThen, IsGivingSome, IsPart, LegGave, LegStands, Nearly, PhaseAt, given_as, is_last}
+use Rattle.live_leg.specs.Stands.{EarStands, GivesOf, GivesThen, IsGivingSome, IsPart, LegGave, LegStands, Nearly, PhaseAt, Went, given_as, is_last}
 use Rattle.live_leg.specs.Stepping.{seen_as, unless_blank}
 use Rattle.live_leg.proofs.Parting.{front_at, over_former, part_chunks, part_front}
 use Rattle.live_leg.proofs.Telling.{first_heard}
-use Rattle.live_leg.proofs.Texts.{all_texts, counts_same, fault_append, items_append, texts_append, texts_same}
+use Rattle.live_leg.proofs.Texts.{all_texts, fault_before, items_append, texts_append, texts_same}
 
 -- ---- what is ready
 filter_swap : {X : Type 0} (p q : X → Bool) (xs : List X) → filter p (filter q xs) ≡ filter q (filter p xs)
@@ -115,7 +114,7 @@ turns_over Ending e = record { given = λ m cs. refl; part = λ h takes octets p
 turns_over Over e = absurd (true≢false (sym e))
 
 -- an ear gave these chunks more
-ear_gave : (h : Hearing) (takes : Takes) (a b : State) (l m : Ear) (moment : ℕ) (octets : List ℕ) (items xs : List Item) (cs : List Chunk) → Turns a b → settings_of m ≡ settings_of l
+ear_gave : {F : Type 0} (h : Hearing) (takes : Takes) (a b : State) (l m : Ear) (moment : ℕ) (octets : List ℕ) (items xs : List (Item F)) (cs : List Chunk) → Turns a b → settings_of m ≡ settings_of l
     → (s : EarStands l a moment octets h takes items) → GaveSome m (settings_of l) (settings_of l).ssrc s.story (s.heard ++ cs) → texts_in 0 xs ≡ given_as a moment (filter is_lively_chunk cs)
     → EarStands m b moment octets h takes (items ++ xs)
 ear_gave h takes a b l m moment octets items xs cs turns settings s gives are =
@@ -139,14 +138,14 @@ ear_gave h takes a b l m moment octets items xs cs turns settings s gives are =
     }
 
 -- what it gave so far stands before all
-ear_front : (lc : LegSettings) (takes : Takes) (st : State) (e : Ear) (moment : ℕ) (octets : List ℕ) (items : List Item) → GaveFront e → moment ≡ (told_by (hearing_of lc) takes).moment
+ear_front : {F : Type 0} (lc : LegSettings) (takes : Takes) (st : State) (e : Ear) (moment : ℕ) (octets : List ℕ) (items : List (Item F)) → GaveFront e → moment ≡ (told_by (hearing_of lc) takes).moment
     → EarStands e st moment octets (hearing_of lc) takes items → IsFront (texts_in 0 items) (all_by (hearing_of lc) takes)
 ear_front lc takes st e moment octets items f m s =
     subst (λ cs. IsFront cs (all_by (hearing_of lc) takes)) (sym s.texts)
     (front_at st (hearing_of lc) takes octets moment s.part (filter is_lively_chunk s.heard) s.part_is m (part_front lc s.part e s.story s.heard f s.hears s.past s.gave))
 
 -- ---- one item more
-with_text : (closing : Bool) (signal : Item) (h : Hearing) (takes : Takes) (items : List Item) (x : Item) → is_text x ≡ true → IsGivingSome closing signal h takes items → IsGivingSome closing signal h takes (items ++ x ∷ [])
+with_text : {F : Type 0} (closing : Bool) (signal : Item F) (h : Hearing) (takes : Takes) (items : List (Item F)) (x : Item F) → is_text x ≡ true → IsGivingSome closing signal h takes items → IsGivingSome closing signal h takes (items ++ x ∷ [])
 with_text closing signal h takes items x e w = record {
   last = w.last;
   past = w.past;
@@ -163,7 +162,7 @@ with_text closing signal h takes items x e w = record {
 }
 
 -- the answer's signal behind its texts, which are all that is ready
-with_signal : (closing : Bool) (lc : LegSettings) (takes : Takes) (items : List Item) (x : Item) → texts_in 0 (items ++ x ∷ []) ≡ ready_by (hearing_of lc) takes
+with_signal : {F : Type 0} (closing : Bool) (lc : LegSettings) (takes : Takes) (items : List (Item F)) (x : Item F) → texts_in 0 (items ++ x ∷ []) ≡ ready_by (hearing_of lc) takes
     → IsGivingSome closing x (hearing_of lc) takes items → AreItems (hearing_of lc) takes (items ++ x ∷ [])
 with_signal closing lc takes items x all w =
     let h = hearing_of lc in
@@ -176,42 +175,34 @@ with_signal closing lc takes items x all w =
       all ∙ ap (λ (ps : Takes). ready_by h ps) w.takes_are,
     )
 
-closing_by : (h : Hearing) (takes : Takes) (items : List Item) → IsGivingSome true End h takes items → is_closed takes ≡ true
+closing_by : {F : Type 0} (h : Hearing) (takes : Takes) (items : List (Item F)) → IsGivingSome true End h takes items → is_closed takes ≡ true
 closing_by h takes items w = ap is_closed w.takes_are ∙ ap (λ b. b || is_closed w.past) w.closes
 
-text_phase : (st : State) (F G : Type 0) (h : Hearing) (takes : Takes) (items : List Item) (x : Item) → is_text x ≡ true → is_giving st ≡ true
-    → PhaseAt st F h takes items → PhaseAt st G h takes (items ++ x ∷ [])
-text_phase Idle F G h takes items x t e p = absurd (true≢false (sym e))
-text_phase Giving F G h takes items x t e p = with_text false Seen h takes items x t p
-text_phase Blank F G h takes items x t e p = with_text false Silent h takes items x t p
-text_phase Parting F G h takes items x t e p = with_text false Seen h takes items x t p
-text_phase Ending F G h takes items x t e p = with_text true End h takes items x t p
-text_phase Over F G h takes items x t e p = absurd (true≢false (sym e))
+text_phase : {F : Type 0} (st : State) (h : Hearing) (takes : Takes) (items : List (Item F)) (x : Item F) → is_text x ≡ true → is_giving st ≡ true
+    → PhaseAt st h takes items → PhaseAt st h takes (items ++ x ∷ [])
+text_phase Idle h takes items x t e p = absurd (true≢false (sym e))
+text_phase Giving h takes items x t e p = with_text false Seen h takes items x t p
+text_phase Blank h takes items x t e p = with_text false Silent h takes items x t p
+text_phase Parting h takes items x t e p = with_text false Seen h takes items x t p
+text_phase Ending h takes items x t e p = with_text true End h takes items x t p
+text_phase Over h takes items x t e p = absurd (true≢false (sym e))
 
-same_phase : (st : State) (F G : Type 0) (h : Hearing) (takes : Takes) (items : List Item) → is_giving st ≡ true → PhaseAt st F h takes items → PhaseAt st G h takes items
-same_phase Idle F G h takes items e p = absurd (true≢false (sym e))
-same_phase Giving F G h takes items e p = p
-same_phase Blank F G h takes items e p = p
-same_phase Parting F G h takes items e p = p
-same_phase Ending F G h takes items e p = p
-same_phase Over F G h takes items e p = absurd (true≢false (sym e))
-
-giving_is : (st : State) (F : Type 0) (h : Hearing) (takes : Takes) (items : List Item) (c : Chunk) → is_heard st ≡ true → is_ending st ≡ false → PhaseAt st F h takes items
+giving_is : {F : Type 0} (st : State) (h : Hearing) (takes : Takes) (items : List (Item F)) (c : Chunk) → is_heard st ≡ true → is_ending st ≡ false → PhaseAt st h takes items
     → IsGivingSome false (item_with (seen_as st) c) h takes items
-giving_is Idle F h takes items c e d p = absurd (true≢false (sym e))
-giving_is Giving F h takes items c e d p = p
-giving_is Blank F h takes items c e d p = p
-giving_is Parting F h takes items c e d p = absurd (true≢false (sym e))
-giving_is Ending F h takes items c e d p = absurd (true≢false d)
-giving_is Over F h takes items c e d p = absurd (true≢false (sym e))
+giving_is Idle h takes items c e d p = absurd (true≢false (sym e))
+giving_is Giving h takes items c e d p = p
+giving_is Blank h takes items c e d p = p
+giving_is Parting h takes items c e d p = absurd (true≢false (sym e))
+giving_is Ending h takes items c e d p = absurd (true≢false d)
+giving_is Over h takes items c e d p = absurd (true≢false (sym e))
 
-ending_is : (st : State) (F : Type 0) (h : Hearing) (takes : Takes) (items : List Item) → is_ending st ≡ true → PhaseAt st F h takes items → IsGivingSome true End h takes items
-ending_is Idle F h takes items e p = absurd (true≢false (sym e))
-ending_is Giving F h takes items e p = absurd (true≢false (sym e))
-ending_is Blank F h takes items e p = absurd (true≢false (sym e))
-ending_is Parting F h takes items e p = absurd (true≢false (sym e))
-ending_is Ending F h takes items e p = p
-ending_is Over F h takes items e p = absurd (true≢false (sym e))
+ending_is : {F : Type 0} (st : State) (h : Hearing) (takes : Takes) (items : List (Item F)) → is_ending st ≡ true → PhaseAt st h takes items → IsGivingSome true End h takes items
+ending_is Idle h takes items e p = absurd (true≢false (sym e))
+ending_is Giving h takes items e p = absurd (true≢false (sym e))
+ending_is Blank h takes items e p = absurd (true≢false (sym e))
+ending_is Parting h takes items e p = absurd (true≢false (sym e))
+ending_is Ending h takes items e p = p
+ending_is Over h takes items e p = absurd (true≢false (sym e))
 
 ending_last : (st : State) → is_ending st ≡ true → is_last st ≡ true
 ending_last Idle e = absurd (true≢false (sym e))
@@ -254,15 +245,15 @@ going_if Parting e d = absurd (true≢false (sym e))
 going_if Ending e d = absurd (true≢false d)
 going_if Over e d = absurd (true≢false (sym e))
 
-no_text : (st : State) (c : Chunk) (leg : ℕ) → text_in leg (item_with (seen_as st) c) ≡ []
-no_text Idle c leg = refl
-no_text Giving c leg = refl
-no_text Blank c leg = refl
-no_text Parting c leg = refl
-no_text Ending c leg = refl
-no_text Over c leg = refl
+no_text : (F : Type 0) (st : State) (c : Chunk) (leg : ℕ) → text_in {F = F} leg (item_with (seen_as st) c) ≡ []
+no_text F Idle c leg = refl
+no_text F Giving c leg = refl
+no_text F Blank c leg = refl
+no_text F Parting c leg = refl
+no_text F Ending c leg = refl
+no_text F Over c leg = refl
 
-no_fault : (st : State) (c : Chunk) → has_fault (item_with (seen_as st) c ∷ []) ≡ false
+no_fault : {F : Type 0} (st : State) (c : Chunk) → fault_in {F = F} (item_with (seen_as st) c ∷ []) ≡ None
 no_fault Idle c = refl
 no_fault Giving c = refl
 no_fault Blank c = refl
@@ -322,23 +313,22 @@ given_heard Over m c e = refl
 pub given_parting : (st : State) (m t : ℕ) (c x : Chunk) → st ≡ Parting → t ≡ m → x ≡ ready_until t c → x ≡ given_chunk st m c
 given_parting st m t c x p e is = is ∙ (ap (λ (n : ℕ). ready_until n c) e ∙ sym (ap (λ (s : State). given_chunk s m c) p))
 
-module _ {L : Type 0} (g : links.Ghosts L) where
+module _ {A F : Type 0} (g : arrivals.Ghosts A F) where
   -- what a leg did that gives: all but its ear and how far it is stays
-  abbrev Same : LinkLeg L → LinkLeg L → Type 0
-  Same l m = (m.link ≡ l.link) × (m.settings ≡ l.settings) × (m.senders ≡ l.senders) × (m.packet.value ≡ l.packet.value) × (m.tally ≡ l.tally)
+  abbrev Same : Leg A → Leg A → Type 0
+  Same l m = (m.arrivals ≡ l.arrivals) × (m.settings ≡ l.settings) × (m.senders ≡ l.senders) × (m.packet.value ≡ l.packet.value) × (m.tally ≡ l.tally)
 
-  moment_is : (l : LinkLeg L) (h : Hearing) (takes : Takes) → Knows l.senders h (told_by h takes) → l.senders.moment ≡ (told_by h takes).moment
+  moment_is : (l : Leg A) (h : Hearing) (takes : Takes) → Knows l.senders h (told_by h takes) → l.senders.moment ≡ (told_by h takes).moment
   moment_is l h takes k = k.moment
 
   -- these items more
-  stands_more : (first l m : LinkLeg L) (items xs : List Item) → has_fault xs ≡ false → Same l m → (n : Nearly g first l items)
+  stands_more : (first l m : Leg A) (items xs : List (Item F)) → fault_in xs ≡ None → Same l m → (n : Nearly g first l items)
       → EarStands m.ear m.state l.senders.moment l.packet.value (hearing_of first.settings) n.takes (items ++ xs)
       → IsFront (texts_in 0 (items ++ xs)) (all_by (hearing_of first.settings) n.takes)
-      → PhaseAt m.state (Rose (g.faults first.link) (g.faults m.link)) (hearing_of first.settings) n.takes (items ++ xs)
+      → PhaseAt m.state (hearing_of first.settings) n.takes (items ++ xs)
       → LegStands g first m (items ++ xs)
   stands_more first l m items xs well same n ear front phase =
       let h = hearing_of first.settings in
-      let link = same.0 in
       record {
         so = record {
           takes = n.takes;
@@ -347,23 +337,19 @@ module _ {L : Type 0} (g : links.Ghosts L) where
               (subst (λ (os : List ℕ). EarStands m.ear m.state l.senders.moment os h n.takes (items ++ xs)) (sym same.3) ear);
           knows = subst (λ (k : Senders). Knows k h (told_by h n.takes)) (sym same.2) n.knows;
           tally = subst (λ (k : LegTally). IsTally k (tally_by h n.takes)) (sym same.4) n.tally;
-          taken = λ t. ap g.taken link ∙ n.taken t;
-          closed = λ e. ap g.closed link ∙ n.closed e;
-          never_falls = subst (λ (k : L). g.faults first.link ≤ g.faults k) (sym link) n.never_falls;
-          counts = subst (λ b. Counts b (g.faults first.link) (g.faults m.link)) (sym (fault_append items xs ∙ ap (λ b. has_fault items || b) well))
-              (counts_same (has_fault items) (g.faults first.link) (g.faults m.link) (subst (λ (k : L). Counts (has_fault items) (g.faults first.link) (g.faults k)) (sym link) n.counts));
-          port = ap g.port link ∙ n.port;
+          went = subst (λ (o : Option F). Went g o first.arrivals m.arrivals n.takes) (sym (fault_before items xs well))
+              (subst (λ (k : A). Went g (fault_in items) first.arrivals k n.takes) (sym same.0) n.went);
           phase = phase;
         };
         front = front;
       }
 
   -- what the ear gave more, and with which items
-  gave_more : (l m : LinkLeg L) (cs : List Chunk) (xs : List Item) → has_fault xs ≡ false → Same l m → Turns l.state m.state → settings_of m.ear ≡ settings_of l.ear → GaveFront m.ear
-      → (first : LinkLeg L) (items : List Item) (n : Nearly g first l items)
+  gave_more : (l m : Leg A) (cs : List Chunk) (xs : List (Item F)) → fault_in xs ≡ None → Same l m → Turns l.state m.state → settings_of m.ear ≡ settings_of l.ear → GaveFront m.ear
+      → (first : Leg A) (items : List (Item F)) (n : Nearly g first l items)
       → GaveSome m.ear (settings_of l.ear) (settings_of l.ear).ssrc n.ear.story (n.ear.heard ++ cs)
       → texts_in 0 xs ≡ given_as l.state l.senders.moment (filter is_lively_chunk cs)
-      → PhaseAt m.state (Rose (g.faults first.link) (g.faults m.link)) (hearing_of first.settings) n.takes (items ++ xs)
+      → PhaseAt m.state (hearing_of first.settings) n.takes (items ++ xs)
       → LegStands g first m (items ++ xs)
   gave_more l m cs xs well same turns settings_is front first items n gives are phase =
       let h = hearing_of first.settings in
@@ -371,9 +357,9 @@ module _ {L : Type 0} (g : links.Ghosts L) where
       stands_more first l m items xs well same n ear (ear_front first.settings n.takes m.state m.ear l.senders.moment l.packet.value (items ++ xs) front n.knows.moment ear) phase
 
   -- a text was given, or a keep-alive was passed over
-  pub gives_next : (l m : LinkLeg L) (c x : Chunk) → is_giving l.state ≡ true → m.state ≡ l.state → Same l m → settings_of m.ear ≡ settings_of l.ear
-      → GivesChunk l.ear m.ear c → GaveFront m.ear → c.source ≡ 0 → x ≡ given_chunk l.state l.senders.moment c → (given : Option ItemKind) → given ≡ unless_blank x → GivesOf g l m (items_with given x)
-  gives_next l m c x giving state same settings_is gives front own shown given is first items n = subst (λ (k : Option ItemKind). LegStands g first m (items ++ items_with k x)) (sym is) (go (is_lively_chunk x) refl)
+  pub gives_next : (l m : Leg A) (c x : Chunk) → is_giving l.state ≡ true → m.state ≡ l.state → Same l m → settings_of m.ear ≡ settings_of l.ear
+      → GivesChunk l.ear m.ear c → GaveFront m.ear → c.source ≡ 0 → x ≡ given_chunk l.state l.senders.moment c → (given : Option (ItemKind F)) → given ≡ unless_blank x → GivesOf g l m (items_with given x)
+  gives_next l m c x giving state same settings_is gives front own shown given is first items n = subst (λ (k : Option (ItemKind F)). LegStands g first m (items ++ items_with k x)) (sym is) (go (is_lively_chunk x) refl)
     where
       h : Hearing
       h = hearing_of first.settings
@@ -388,17 +374,17 @@ module _ {L : Type 0} (g : links.Ghosts L) where
       go true e = gave_more l m (c ∷ []) (Text x.ready x.text ∷ []) refl same (stays l.state m.state state) settings_is front first items n (gives (settings_of l.ear) (settings_of l.ear).ssrc n.ear.story n.ear.heard n.ear.gave)
           (ap (λ k. chunk k x.ready x.text ∷ []) (sym source)
           ∙ (ap (λ (k : Chunk). k ∷ []) shown ∙ (sym (given_one l.state l.senders.moment c) ∙ ap (given_as l.state l.senders.moment) (sym (one_lively c (sym live ∙ e))))))
-          (subst (λ (st : State). PhaseAt st (Rose (g.faults first.link) (g.faults m.link)) h n.takes (items ++ Text x.ready x.text ∷ [])) (sym state)
-          (text_phase l.state _ _ h n.takes items (Text x.ready x.text) refl giving n.phase))
+          (subst (λ (st : State). PhaseAt st h n.takes (items ++ Text x.ready x.text ∷ [])) (sym state)
+          (text_phase l.state h n.takes items (Text x.ready x.text) refl giving n.phase))
       go false e = gave_more l m (c ∷ []) [] refl same (stays l.state m.state state) settings_is front first items n (gives (settings_of l.ear) (settings_of l.ear).ssrc n.ear.story n.ear.heard n.ear.gave)
           (sym (given_none l.state l.senders.moment) ∙ ap (given_as l.state l.senders.moment) (sym (none_lively c (sym live ∙ e))))
-          (subst (λ (its : List Item). PhaseAt m.state (Rose (g.faults first.link) (g.faults m.link)) h n.takes its) (sym (append-nil items))
-          (subst (λ (st : State). PhaseAt st (Rose (g.faults first.link) (g.faults m.link)) h n.takes items) (sym state) (same_phase l.state _ _ h n.takes items giving n.phase)))
+          (subst (λ (its : List (Item F)). PhaseAt m.state h n.takes its) (sym (append-nil items))
+          (subst (λ (st : State). PhaseAt st h n.takes items) (sym state) n.phase))
 
   -- nothing more was given: all that is ready was
-  marked : (l m : LinkLeg L) (x : Item) → ((leg : ℕ) → text_in leg x ≡ []) → has_fault (x ∷ []) ≡ false → Same l m → Turns l.state m.state → settings_of m.ear ≡ settings_of l.ear → GivesNone l.ear m.ear → GaveFront m.ear
-      → (first : LinkLeg L) (items : List Item) (n : Nearly g first l items)
-      → PhaseAt m.state (Rose (g.faults first.link) (g.faults m.link)) (hearing_of first.settings) n.takes (items ++ x ∷ [])
+  marked : (l m : Leg A) (x : Item F) → ((leg : ℕ) → text_in leg x ≡ []) → fault_in (x ∷ []) ≡ None → Same l m → Turns l.state m.state → settings_of m.ear ≡ settings_of l.ear → GivesNone l.ear m.ear → GaveFront m.ear
+      → (first : Leg A) (items : List (Item F)) (n : Nearly g first l items)
+      → PhaseAt m.state (hearing_of first.settings) n.takes (items ++ x ∷ [])
       → LegStands g first m (items ++ x ∷ [])
   marked l m x none well same turns settings_is gives front first items n phase =
       let settings = settings_of l.ear in
@@ -407,40 +393,38 @@ module _ {L : Type 0} (g : links.Ghosts L) where
       (append-nil (text_in 0 x) ∙ (none 0 ∙ sym (given_none l.state l.senders.moment))) phase
 
   -- that all was given, as it is said there
-  gives_seen : (l m : LinkLeg L) (c : Chunk) → is_heard l.state ≡ true → is_ending l.state ≡ false → m.state ≡ Idle → Same l m → settings_of m.ear ≡ settings_of l.ear
+  gives_seen : (l m : Leg A) (c : Chunk) → is_heard l.state ≡ true → is_ending l.state ≡ false → m.state ≡ Idle → Same l m → settings_of m.ear ≡ settings_of l.ear
       → GivesNone l.ear m.ear → GaveReady l.ear → GaveFront m.ear → GivesOf g l m (item_with (seen_as l.state) c ∷ [])
   gives_seen l m c giving not_ending state same settings_is gives ready front first items n =
       let lc = first.settings in
       let h = hearing_of lc in
       let e = n.ear in
       let settings = settings_of l.ear in
-      let x = item_with (seen_as l.state) c in
-      let F = Rose (g.faults first.link) (g.faults m.link) in
-      let w = giving_is l.state _ h n.takes items c giving not_ending n.phase in
+      let x : Item F = item_with (seen_as l.state) c in
+      let w = giving_is l.state h n.takes items c giving not_ending n.phase in
       let part = part_now l.state h n.takes l.packet.value e.part giving e.part_is in
-      let all : texts_in 0 (items ++ x ∷ []) ≡ ready_by h n.takes = texts_same 0 items x (no_text l.state c 0)
+      let all : texts_in 0 (items ++ x ∷ []) ≡ ready_by h n.takes = texts_same 0 items x (no_text F l.state c 0)
       ∙ (e.texts ∙ (ap (λ cs. all_former h e.part.before ++ cs) (as_now l.state l.senders.moment (filter is_lively_chunk e.heard) giving)
       ∙ (ap (λ cs. all_former h e.part.before ++ filter is_lively_chunk cs) (ready settings settings.ssrc e.story e.heard e.gave)
       ∙ (ap (λ (d : Told). all_former h d.before ++ filter is_lively_chunk (ready_chunks settings settings.ssrc e.story)) part
       ∙ ready_open lc n.takes settings e.story w.closed (subst (λ (d : Told). IsEarOf h d settings) part e.hears) (e.past ∙ ap (λ (d : Told). d.past) part)
       (e.at_moment (going_if l.state giving not_ending) ∙ ap (λ (d : Told). d.moment) part))))) in
-      marked l m x (no_text l.state c) (no_fault l.state c) same (subst (λ (st : State). Turns l.state st) (sym state) (turns_idle l.state giving not_ending)) settings_is gives front first items n
-      (subst (λ (st : State). PhaseAt st F h n.takes (items ++ x ∷ [])) (sym state) (record { open_still = w.closed; are = with_signal false lc n.takes items x all w }))
+      marked l m x (no_text F l.state c) (no_fault l.state c) same (subst (λ (st : State). Turns l.state st) (sym state) (turns_idle l.state giving not_ending)) settings_is gives front first items n
+      (subst (λ (st : State). PhaseAt st h n.takes (items ++ x ∷ [])) (sym state) (record { open_still = w.closed; are = with_signal false lc n.takes items x all w }))
 
-  pub gives_said : (l m : LinkLeg L) (c : Chunk) (said : ItemKind) → said ≡ seen_as l.state → is_heard l.state ≡ true → is_ending l.state ≡ false → m.state ≡ Idle → Same l m → settings_of m.ear ≡ settings_of l.ear
+  pub gives_said : (l m : Leg A) (c : Chunk) (said : ItemKind F) → said ≡ seen_as l.state → is_heard l.state ≡ true → is_ending l.state ≡ false → m.state ≡ Idle → Same l m → settings_of m.ear ≡ settings_of l.ear
       → GivesNone l.ear m.ear → GaveReady l.ear → GaveFront m.ear → GivesOf g l m (items_with (Some said) c)
   gives_said l m c said is giving open_still state same settings_is gives ready front first items n =
-      subst (λ (k : ItemKind). LegStands g first m (items ++ item_with k c ∷ [])) (sym is) (gives_seen l m c giving open_still state same settings_is gives ready front first items n)
+      subst (λ (k : ItemKind F). LegStands g first m (items ++ item_with k c ∷ [])) (sym is) (gives_seen l m c giving open_still state same settings_is gives ready front first items n)
 
-  pub gives_end : (l m : LinkLeg L) → is_ending l.state ≡ true → m.state ≡ Over → Same l m → settings_of m.ear ≡ settings_of l.ear
+  pub gives_end : (l m : Leg A) → is_ending l.state ≡ true → m.state ≡ Over → Same l m → settings_of m.ear ≡ settings_of l.ear
       → GivesNone l.ear m.ear → GaveReady l.ear → GaveFront m.ear → GivesOf g l m (End ∷ [])
   gives_end l m ending state same settings_is gives ready front first items n =
       let lc = first.settings in
       let h = hearing_of lc in
       let e = n.ear in
       let settings = settings_of l.ear in
-      let F = Rose (g.faults first.link) (g.faults m.link) in
-      let w = ending_is l.state _ h n.takes items ending n.phase in
+      let w = ending_is l.state h n.takes items ending n.phase in
       let heard = heard_if l.state ending in
       let part = part_now l.state h n.takes l.packet.value e.part heard e.part_is in
       let all : texts_in 0 (items ++ End ∷ []) ≡ ready_by h n.takes = texts_same 0 items End refl
@@ -449,11 +433,11 @@ module _ {L : Type 0} (g : links.Ghosts L) where
       ∙ (ap (λ (d : Told). all_former h d.before ++ filter is_lively_chunk (story_chunks settings settings.ssrc e.story)) part
       ∙ ready_closed lc n.takes settings e.story w.closed (subst (λ (d : Told). IsEarOf h d settings) part e.hears) (e.past ∙ ap (λ (d : Told). d.past) part))))) in
       marked l m End (λ leg. refl) refl same (subst (λ (st : State). Turns l.state st) (sym state) (turns_over l.state ending)) settings_is gives front first items n
-      (subst (λ (st : State). PhaseAt st F h n.takes (items ++ End ∷ [])) (sym state)
+      (subst (λ (st : State). PhaseAt st h n.takes (items ++ End ∷ [])) (sym state)
       (inl (record { closed = closing_by h n.takes items w; some = record { last = w.last; past = w.past; takes_are = w.takes_are; closes = w.closes; open_before = w.open_before }; are = with_signal true lc n.takes items End all w })))
 
   -- all of a sender was given from whom another took over: a marker, and the other is heard
-  gives_turn : (l m : LinkLeg L) (mid : Ear) (c : Chunk) → l.state ≡ Parting → m.state ≡ Giving → Same l m → settings_of mid ≡ settings_of l.ear → GivesNone l.ear mid → GaveReady l.ear
+  gives_turn : (l m : Leg A) (mid : Ear) (c : Chunk) → l.state ≡ Parting → m.state ≡ Giving → Same l m → settings_of mid ≡ settings_of l.ear → GivesNone l.ear mid → GaveReady l.ear
       → BeginsWith mid m.ear (unwrap_or l.senders.sender 0) l.senders.moment l.packet.value → c ≡ chunk 0 l.senders.moment marker → GivesOf g l m (Text c.ready c.text ∷ [])
   gives_turn l m mid c parting state same settings_is gives ready begins is first items n =
       let lc = first.settings in
@@ -462,7 +446,7 @@ module _ {L : Type 0} (g : links.Ghosts L) where
       let settings = settings_of l.ear in
       let moment = l.senders.moment in
       let v = e.part_is in
-      let x = Text c.ready c.text in
+      let x : Item F = Text c.ready c.text in
       let at : moment ≡ max e.part.moment v.at = n.knows.moment ∙ ap (λ (d : Told). d.moment) v.over in
       let there : l.senders.sender ≡ Some v.packet.ssrc = n.knows.sender ∙ ap (λ (d : Told). d.sender) v.over in
       let gone = gives settings settings.ssrc e.story e.heard e.gave in
@@ -483,21 +467,21 @@ module _ {L : Type 0} (g : links.Ghosts L) where
       (subst (λ cs. IsFront cs (all_by h n.takes)) (sym texts)
       (subst (λ (d : Told). IsFront (all_former h (taken_over e.part v.at v.packet).before) (all_told h d)) (sym v.over)
       (last_chunks h (taken_over e.part v.at v.packet).sender (taken_over e.part v.at v.packet).past, refl)))
-      (subst (λ (st : State). PhaseAt st (Rose (g.faults first.link) (g.faults m.link)) h n.takes (items ++ x ∷ [])) (sym state)
-      (with_text false Seen h n.takes items x refl (subst (λ (st : State). PhaseAt st (Rose (g.faults first.link) (g.faults l.link)) h n.takes items) parting n.phase)))
+      (subst (λ (st : State). PhaseAt st h n.takes (items ++ x ∷ [])) (sym state)
+      (with_text false Seen h n.takes items x refl (subst (λ (st : State). PhaseAt st h n.takes items) parting n.phase)))
 
-  pub gives_marker : (l m : LinkLeg L) (mid : Ear) (c : Chunk) → l.state ≡ Parting → m.state ≡ Giving → Same l m → settings_of mid ≡ settings_of l.ear → GivesNone l.ear mid → GaveReady l.ear
+  pub gives_marker : (l m : Leg A) (mid : Ear) (c : Chunk) → l.state ≡ Parting → m.state ≡ Giving → Same l m → settings_of mid ≡ settings_of l.ear → GivesNone l.ear mid → GaveReady l.ear
       → BeginsWith mid m.ear (unwrap_or l.senders.sender 0) l.senders.moment l.packet.value → c ≡ chunk 0 l.senders.moment marker → GivesOf g l m (items_with (Some kind.Text) c)
   gives_marker l m mid c parting state same settings_is gives ready begins is = gives_turn l m mid c parting state same settings_is gives ready begins is
 
   -- ---- as items that are used again
-  pub gave_with : (l m : LinkLeg L) (given : Option ItemKind) (some : Bool) (x : LegItem) → some ≡ is_some given → x.kind ≡ unwrap_or given kind.Seen
+  pub gave_with : (l m : Leg A) (given : Option (ItemKind F)) (some : Bool) (x : LegItem F) → some ≡ is_some given → x.kind ≡ unwrap_or given kind.Seen
       → GivesThen g l m (items_with given (chunk_of x.chunk.value)) → GivesMore (LegGave g) l m (items_by some x)
   gave_with l m given some x is e h = subst (λ (b : Bool). GivesMore (LegGave g) l m (items_by b x)) (sym is) (go given e h)
     where
-      go : (given : Option ItemKind) → x.kind ≡ unwrap_or given kind.Seen → GivesThen g l m (items_with given (chunk_of x.chunk.value)) → GivesMore (LegGave g) l m (items_by (is_some given) x)
+      go : (given : Option (ItemKind F)) → x.kind ≡ unwrap_or given kind.Seen → GivesThen g l m (items_with given (chunk_of x.chunk.value)) → GivesMore (LegGave g) l m (items_by (is_some given) x)
       go None e h = λ first gave s.
-          subst (λ (xs : List LegItem). LegGave g first m xs) (sym (append-nil gave)) (subst (λ (items : List Item). LegStands g first m items) (append-nil (items_of gave)) (h first (items_of gave) s))
+          subst (λ (xs : List (LegItem F)). LegGave g first m xs) (sym (append-nil gave)) (subst (λ (items : List (Item F)). LegStands g first m items) (append-nil (items_of gave)) (h first (items_of gave) s))
       go (Some k) e h = λ first gave s.
-          subst (λ (items : List Item). LegStands g first m items)
-          (sym (items_append gave (x ∷ []) ∙ ap (λ (k : ItemKind). items_of gave ++ item_with k (chunk_of x.chunk.value) ∷ []) e)) (h first (items_of gave) s)
+          subst (λ (items : List (Item F)). LegStands g first m items)
+          (sym (items_append gave (x ∷ []) ∙ ap (λ (k : ItemKind F). items_of gave ++ item_with k (chunk_of x.chunk.value) ∷ []) e)) (h first (items_of gave) s)

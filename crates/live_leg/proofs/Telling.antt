@@ -42,7 +42,7 @@ read_here octets payload_types p settings e s r =
     ap (λ (x : ℕ). text_of octets (Some x) settings.payload_types) s ∙ (ap (λ (x : PayloadTypes). text_of octets (Some p.ssrc) x) e ∙ own_asked octets payload_types p r)
 
 -- an ear that hears the first packet of its sender, and nothing before
-pub first_heard : (lc : LegSettings) (old new : Ear) (state : State) (moment : ℕ) (packet octets : List ℕ) (takes : Takes) (items : List Item) (d : Told) (t : ℕ) (p : Packet) (ssrc : ℕ)
+pub first_heard : {F : Type 0} (lc : LegSettings) (old new : Ear) (state : State) (moment : ℕ) (packet octets : List ℕ) (takes : Takes) (items : List (Item F)) (d : Told) (t : ℕ) (p : Packet) (ssrc : ℕ)
     (story : Story) (heard : List Chunk) → Gave old (settings_of old) (settings_of old).ssrc story heard → (settings_of old).payload_types ≡ lc.ear.payload_types → (settings_of old).wait ≡ lc.ear.wait
     → BeginsWith old new ssrc moment octets → ssrc ≡ p.ssrc → moment ≡ max d.moment t → text_of octets None lc.ear.payload_types ≡ Ok p → told_by (hearing_of lc) takes ≡ taken_over d t p → state ≡ Giving
     → texts_in 0 items ≡ all_former (hearing_of lc) (taken_over d t p).before
@@ -73,7 +73,7 @@ first_heard lc old new state moment packet octets takes items d t p ssrc story h
     })
 
 -- a leg that is giving, whose link had nothing
-pub as_blank : (e : Ear) (moment : ℕ) (octets : List ℕ) (h : Hearing) (takes : Takes) (items : List Item) → EarStands e Giving moment octets h takes items → EarStands e Blank moment octets h takes items
+pub as_blank : {F : Type 0} (e : Ear) (moment : ℕ) (octets : List ℕ) (h : Hearing) (takes : Takes) (items : List (Item F)) → EarStands e Giving moment octets h takes items → EarStands e Blank moment octets h takes items
 as_blank e moment octets h takes items s = record {
   part = s.part;
   story = s.story;
@@ -88,7 +88,7 @@ as_blank e moment octets h takes items s = record {
 }
 
 -- ---- behind all that is ready was given
-module _ (lc : LegSettings) (takes : Takes) (items : List Item) (l m : Ear) (before octets : List ℕ) (old : ℕ) (s : EarStands l Idle old before (hearing_of lc) takes items)
+module _ {F : Type 0} (lc : LegSettings) (takes : Takes) (items : List (Item F)) (l m : Ear) (before octets : List ℕ) (old : ℕ) (s : EarStands l Idle old before (hearing_of lc) takes items)
     (open_still : (told_by (hearing_of lc) takes).closed ≡ false) (ready : texts_in 0 items ≡ ready_by (hearing_of lc) takes) (moment ssrc t : ℕ) where
   abbrev h : Hearing
   h = hearing_of lc
@@ -235,7 +235,7 @@ module _ (lc : LegSettings) (takes : Takes) (items : List Item) (l m : Ear) (bef
       goes_on next (told_moment d t) (went s.story t) refl (w.becomes.gave (settings_of l) (settings_of l).ssrc s.story s.heard s.gave) w.settings hears_now.sender past_now (ap (λ n. max n t) moment_now) is
 
 -- ---- whatever came
-pub told_more : (lc : LegSettings) (takes : Takes) (items : List Item) (l m : Ear) (octets first : List ℕ) (old : ℕ) (before after : Senders) (t : ℕ) (c : Came) (st : State)
+pub told_more : {F : Type 0} (lc : LegSettings) (takes : Takes) (items : List (Item F)) (l m : Ear) (octets first : List ℕ) (old : ℕ) (before after : Senders) (t : ℕ) (c : Came) (st : State)
     → EarStands l Idle old first (hearing_of lc) takes items → (told_by (hearing_of lc) takes).closed ≡ false → texts_in 0 items ≡ ready_by (hearing_of lc) takes
     → Follows l m before after t c octets st (hearing_of lc) (told_by (hearing_of lc) takes)
     → EarStands m st after.moment octets (hearing_of lc) (record { at = t; came = came_of c octets } ∷ takes) items

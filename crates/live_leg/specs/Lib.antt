@@ -5,5 +5,8 @@ pub mod Tallies
 pub mod Taking
 pub mod Texts
 pub mod Items
+pub mod Arriving
 pub mod Stands
+pub mod Linking
+pub mod LinkLegs
 pub mod Stepping

@@ -1,5 +1,5 @@
--- What a leg over a link gave, by what the takes of its link gave.
-use Rattle.std.specs.Prelude.{◌≡◌, ◌≤◌, ◌⊎◌, ℕ, Bool, true, false, None, Some, Ok, List, [], ◌∷◌, ◌++◌, filter, map}
+-- What a leg gave, by what came.
+use Rattle.std.specs.Prelude.{◌≡◌, ◌≤◌, ◌⊎◌, ℕ, Bool, true, false, Option, None, Some, Ok, List, [], ◌∷◌, ◌++◌, filter, map}
 use Rattle.rtt_base.specs.declared.limits.TheConstants.{MOST_ARRIVALS}
 use Rattle.stream_spec.specs.Fronts.{IsFront}
 use Rattle.stream_spec.specs.Ready.{Chunk}
@@ -9,47 +9,40 @@ use Rattle.wire_spec.specs.Packets.{Packet}
 use Rattle.wire_spec.specs.Text.{text_of}
 use Rattle.receiver.specs.declared.ears.Ear.{Ear}
 use Rattle.receiver.specs.Hears.{Gave, arrival_count, settings_of, ready_chunks, story_chunks}
-use Rattle.rtt_io.specs.Counts.{Rose}
-use Rattle.link_io.specs.declared.ends.LinkIn as links
 use Rattle.stream_spec.specs.Links.{Taken, Takes, Datagram, is_closed, is_closing}
 use Rattle.live_spec.specs.Told.{Hearing, Told, all_by, all_former, ready_until, taken_over, told_by}
 use Rattle.live_spec.specs.Tally.{tally_by}
 use Rattle.live_leg.specs.declared.items.LegItem.{LegItem}
 use Rattle.live_leg.specs.declared.states.State.{State}
 use Rattle.live_leg.specs.declared.states.State.TheVariants.{Idle, Giving, Blank, Parting, Ending, Over}
-use Rattle.live_leg.specs.declared.legs.LinkLeg.{LinkLeg}
+use Rattle.live_leg.specs.declared.arrivals.Arrivals as arrivals
+use Rattle.live_leg.specs.declared.legs.Leg.{Leg}
 use Rattle.live_leg.specs.Senders.{Knows}
 use Rattle.live_leg.specs.Tallies.{IsTally}
 use Rattle.live_leg.specs.Stories.{IsEarOf, hearing_of}
 use Rattle.live_leg.specs.States.{is_giving, is_going}
-use Rattle.live_leg.specs.Items.{AreItems, AreTexts, Item, Text, Seen, Silent, End, Quit, Fault, has_fault, items_of, signal_of, texts_in}
+use Rattle.live_leg.specs.Items.{AreItems, AreTexts, Item, Text, Seen, Silent, End, Fault, fault_in, items_of, signal_of, texts_in}
 
--- This is the last item of a leg that was told to stop, or whose link failed.
-abbrev pub IsStop : Item → (Faulted : Type 0) → Type 0
-IsStop (Text ready octets) Faulted = ⊥
-IsStop Seen Faulted = ⊥
-IsStop Silent Faulted = ⊥
-IsStop End Faulted = ⊥
-IsStop Quit Faulted = Unit {0}
-IsStop Fault Faulted = Faulted
-
--- a count of faults rose where one was given, and else is as it was
-abbrev pub Counts : Bool → ℕ → ℕ → Type 0
-Counts true old new = Rose old new
-Counts false old new = new ≡ old
+-- This is the last item of a leg of which nothing more comes, though it is not closed.
+abbrev pub IsStop : {F : Type 0} → Item F → Type 0
+IsStop (Text ready octets) = ⊥
+IsStop Seen = ⊥
+IsStop Silent = ⊥
+IsStop End = ⊥
+IsStop (Fault f) = Unit {0}
 
 -- ---- items so far
 -- All that was ready by the takes was given, and that was said.
-pub record IsIdle (h : Hearing) (takes : Takes) (items : List Item) : Type 0 where
+pub record IsIdle {F : Type 0} (h : Hearing) (takes : Takes) (items : List (Item F)) : Type 0 where
   pub open_still : (told_by h takes).closed ≡ false
   pub are : AreItems h takes items
 
 -- Some of what is ready by the takes was given; the last of them closed the link, or not, and has this signal.
-pub record IsGivingSome (closing : Bool) (signal : Item) (h : Hearing) (takes : Takes) (items : List Item) : Type 0 where
+pub record IsGivingSome {F : Type 0} (closing : Bool) (signal : Item F) (h : Hearing) (takes : Takes) (items : List (Item F)) : Type 0 where
   pub last : Taken
   pub past : Takes
-  pub before : List Item
-  pub news : List Item
+  pub before : List (Item F)
+  pub news : List (Item F)
   pub takes_are : takes ≡ last ∷ past
   pub items_are : items ≡ before ++ news
   pub are : AreItems h past before
@@ -68,27 +61,27 @@ pub record IsGivenBefore (h : Hearing) (takes : Takes) : Type 0 where
   pub open_before : (told_by h past).closed ≡ false
 
 -- All was given behind which the link is closed.
-pub record IsEnded (h : Hearing) (takes : Takes) (items : List Item) : Type 0 where
+pub record IsEnded {F : Type 0} (h : Hearing) (takes : Takes) (items : List (Item F)) : Type 0 where
   pub closed : is_closed takes ≡ true
   pub some : IsGivenBefore h takes
   pub are : AreItems h takes items
 
--- It stopped, or its link failed.
-pub record IsStopped (Faulted : Type 0) (h : Hearing) (takes : Takes) (items : List Item) : Type 0 where
-  pub before : List Item
-  pub last : Item
+-- Nothing more comes, though it is not closed.
+pub record IsStopped {F : Type 0} (h : Hearing) (takes : Takes) (items : List (Item F)) : Type 0 where
+  pub before : List (Item F)
+  pub last : Item F
   pub items_are : items ≡ before ++ last ∷ []
   pub open_still : (told_by h takes).closed ≡ false
   pub are : AreItems h takes before
-  pub stops : IsStop last Faulted
+  pub stops : IsStop last
 
-abbrev pub PhaseAt : State → (Faulted : Type 0) → Hearing → Takes → List Item → Type 0
-PhaseAt Idle Faulted h takes items = IsIdle h takes items
-PhaseAt Giving Faulted h takes items = IsGivingSome false Seen h takes items
-PhaseAt Blank Faulted h takes items = IsGivingSome false Silent h takes items
-PhaseAt Parting Faulted h takes items = IsGivingSome false Seen h takes items
-PhaseAt Ending Faulted h takes items = IsGivingSome true End h takes items
-PhaseAt Over Faulted h takes items = IsEnded h takes items ⊎ IsStopped Faulted h takes items
+abbrev pub PhaseAt : {F : Type 0} → State → Hearing → Takes → List (Item F) → Type 0
+PhaseAt Idle h takes items = IsIdle h takes items
+PhaseAt Giving h takes items = IsGivingSome false Seen h takes items
+PhaseAt Blank h takes items = IsGivingSome false Silent h takes items
+PhaseAt Parting h takes items = IsGivingSome false Seen h takes items
+PhaseAt Ending h takes items = IsGivingSome true End h takes items
+PhaseAt Over h takes items = IsEnded h takes items ⊎ IsStopped h takes items
 
 -- ---- whom the ear hears
 -- The last take gave these octets: a packet of one who took over from the sender of the part.
@@ -125,10 +118,10 @@ given_as Over t cs = cs
 abbrev pub is_last : State → Bool
 is_last state = elim state [ Parting ↦ true | Ending ↦ true | _ ↦ false ]
 
--- What is known of the ear of a leg that is heard so and so far, of whose link these takes came, the last with these octets where
+-- What is known of the ear of a leg that is heard so and so far, of which these takes came, the last with these octets where
 -- it gave a datagram: what it was told and gave. The texts of the leg's items are those of the senders before, and what the ear gave,
 -- but for keep-alives.
-pub record EarStands (e : Ear) (state : State) (moment : ℕ) (octets : List ℕ) (h : Hearing) (takes : Takes) (items : List Item) : Type 0 where
+pub record EarStands {F : Type 0} (e : Ear) (state : State) (moment : ℕ) (octets : List ℕ) (h : Hearing) (takes : Takes) (items : List (Item F)) : Type 0 where
   pub part : Told
   pub story : Story
   pub heard : List Chunk
@@ -140,44 +133,44 @@ pub record EarStands (e : Ear) (state : State) (moment : ℕ) (octets : List ℕ
   pub part_is : IsPart state h takes octets part
   pub texts : texts_in 0 items ≡ all_former h part.before ++ given_as state moment (filter is_lively_chunk heard)
 
-module _ {L : Type 0} (g : links.Ghosts L) where
-  -- From `first` on, of which nothing was asked, the takes of its link gave this, newest first, and it gave these items, oldest
-  -- first.
-  pub record Nearly (first now : LinkLeg L) (items : List Item) : Type 0 where
+module _ {A F : Type 0} (g : arrivals.Ghosts A F) where
+  -- these takes came, newest first, and where it failed, it failed so behind them
+  abbrev pub Went : Option F → A → A → Takes → Type 0
+  Went None first now takes = g.came first now takes
+  Went (Some f) first now takes = g.failed first now takes f
+
+  -- From `first` on, of which nothing was asked, these takes came, newest first, and it gave these items, oldest first.
+  pub record Nearly (first now : Leg A) (items : List (Item F)) : Type 0 where
     pub takes : Takes
     pub settings : now.settings ≡ first.settings
     pub ear : EarStands now.ear now.state now.senders.moment now.packet.value (hearing_of first.settings) takes items
     pub knows : Knows now.senders (hearing_of first.settings) (told_by (hearing_of first.settings) takes)
     pub tally : IsTally now.tally (tally_by (hearing_of first.settings) takes)
-    pub taken : g.tells → g.taken now.link ≡ takes ++ g.taken first.link
-    pub closed : is_closed takes ≡ true → g.closed now.link ≡ true
-    pub never_falls : g.faults first.link ≤ g.faults now.link
-    pub counts : Counts (has_fault items) (g.faults first.link) (g.faults now.link)
-    pub port : g.port now.link ≡ g.port first.link
-    pub phase : PhaseAt now.state (Rose (g.faults first.link) (g.faults now.link)) (hearing_of first.settings) takes items
+    pub went : Went (fault_in items) first.arrivals now.arrivals takes
+    pub phase : PhaseAt now.state (hearing_of first.settings) takes items
 
   -- and its texts are the first of all that are heard by these takes
-  pub record LegStands (first now : LinkLeg L) (items : List Item) : Type 0 where
+  pub record LegStands (first now : Leg A) (items : List (Item F)) : Type 0 where
     pub so : Nearly first now items
     pub front : IsFront (texts_in 0 items) (all_by (hearing_of first.settings) so.takes)
 
-  abbrev pub LegGave : LinkLeg L → LinkLeg L → List LegItem → Type 0
+  abbrev pub LegGave : Leg A → Leg A → List (LegItem F) → Type 0
   LegGave first now gave = LegStands first now (items_of gave)
 
   -- ---- what calls make of it
-  -- the link gave more
-  abbrev pub Listens : LinkLeg L → LinkLeg L → Type 0
-  Listens old new = (first : LinkLeg L) (items : List Item) → LegStands first old items → Nearly first new items
+  -- more came
+  abbrev pub Listens : Leg A → Leg A → Type 0
+  Listens old new = (first : Leg A) (items : List (Item F)) → LegStands first old items → Nearly first new items
 
   -- these items were given
-  abbrev pub GivesThen : LinkLeg L → LinkLeg L → List Item → Type 0
-  GivesThen old new xs = (first : LinkLeg L) (items : List Item) → LegStands first old items → LegStands first new (items ++ xs)
+  abbrev pub GivesThen : Leg A → Leg A → List (Item F) → Type 0
+  GivesThen old new xs = (first : Leg A) (items : List (Item F)) → LegStands first old items → LegStands first new (items ++ xs)
 
   -- these items were given, of what was taken just now
-  abbrev pub GivesOf : LinkLeg L → LinkLeg L → List Item → Type 0
-  GivesOf old new xs = (first : LinkLeg L) (items : List Item) → Nearly first old items → LegStands first new (items ++ xs)
+  abbrev pub GivesOf : Leg A → Leg A → List (Item F) → Type 0
+  GivesOf old new xs = (first : Leg A) (items : List (Item F)) → Nearly first old items → LegStands first new (items ++ xs)
 
-module _ {L : Type 0} where
+module _ {A : Type 0} where
   -- where nothing was given: it has more to give, or it heard all that an ear hears
-  abbrev pub GetsOn : LinkLeg L → LinkLeg L → Type 0
+  abbrev pub GetsOn : Leg A → Leg A → Type 0
   GetsOn old new = (is_giving new.state ≡ true) ⊎ (MOST_ARRIVALS ≤ arrival_count old.ear)

@@ -7,5 +7,5 @@ use Rattle.live_leg.specs.declared.kinds.ItemKind.{ItemKind}
 use Rattle.live_leg.specs.declared.kinds.ItemKind.TheVariants as kind
 
 -- where it is a text, it is not empty and is UTF-8
-abbrev pub HasText : ItemKind → Chunk → Type 0
+abbrev pub HasText : {F : Type 0} → ItemKind F → Chunk → Type 0
 HasText k c = k ≡ kind.Text → (has_text c.text ≡ true) × (is_utf8 c.text ≡ true)

@@ -1,16 +1,16 @@
-//! A leg over a link as what gives items.
+//! A leg as what gives items.
+use crate::arrivals::Arrivals;
 use crate::items::LegItem;
 use crate::kinds::ItemKind;
-use crate::legs::LinkLeg;
-use link_io::LinkIn;
+use crate::legs::Leg;
 use std::sync::Wait;
 use workers::Producer;
 
-impl<L: LinkIn> Producer<LegItem> for LinkLeg<L> {
+impl<A: Arrivals> Producer<LegItem<A::Fault>> for Leg<A> {
     ghost use Rattle.live_leg.specs.Stands.{GetsOn, LegGave};
     ghost use Rattle.live_leg.specs.States.{is_over};
 
-    ghost stands = { LegGave L.LinkIn };
+    ghost stands = { LegGave A.Arrivals };
 
     ghost over = { λ leg. is_over leg.state };
 
@@ -21,10 +21,10 @@ impl<L: LinkIn> Producer<LegItem> for LinkLeg<L> {
     }
 
     /// It waits until the next turn at most, whoever steps it: who makes the turns does so when that moment has come.
-    fn next<R: Wait>(&mut self, _rt: &R, _may_wait: bool, item: &mut LegItem) -> bool {
+    fn next<R: Wait>(&mut self, _rt: &R, _may_wait: bool, item: &mut LegItem<A::Fault>) -> bool {
         let given = self.step(&mut item.chunk);
         item.kind = given.unwrap_or(ItemKind::Seen);
-        item.at = self.pace.at();
+        item.at = self.at;
         given.is_some()
     }
 }

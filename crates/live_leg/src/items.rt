@@ -1,4 +1,4 @@
-//! What a leg over a link gives.
+//! What a leg gives.
 ghost use Rattle.stream_spec.specs.Ready.{chunk_of};
 ghost use Rattle.live_leg.specs.Texts.{HasText};
 
@@ -10,16 +10,16 @@ use workers::Reusable;
 /// What a leg gave, and beside it the text, where it is one. A text lies in a box, which is used again: so it is written once and
 /// read once, and what is moved from place to place is small.
 #[derive(Drop)]
-pub struct LegItem {
-    pub kind: ItemKind,
+pub struct LegItem<F> {
+    pub kind: ItemKind<F>,
     pub chunk: Box<Chunk>,
     /// The moment of the take behind which it was given.
     pub at: u64,
     ghost text: { HasText kind (chunk_of chunk.value) },
 }
 
-impl Reusable for LegItem {
-    fn blank(alloc: Global) -> Result<LegItem, NoMemory> {
+impl<F: Copy + Drop> Reusable for LegItem<F> {
+    fn blank(alloc: Global) -> Result<LegItem<F>, NoMemory> {
         let Ok(chunk) = Box::new(alloc, Chunk::default()) else {
             return Err(NoMemory);
         };

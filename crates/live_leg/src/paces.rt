@@ -1,33 +1,22 @@
-//! Until when a leg waits for a datagram.
+//! Until when a link may wait for a datagram.
 ghost use Rattle.std.specs.Prelude.{◌≡◌, ◌<◌};
 
 use link_io::{Came, LinkTake};
 
-/// At which moment a leg's link was asked last, and until which one it may wait: turns are at the multiples of `tick` of its clock.
-/// All are in milliseconds.
+/// Until which moment of its clock a link may wait: turns are at the multiples of `tick`. Both are in milliseconds.
 #[derive(Clone, Copy, Debug)]
 pub(crate) struct Pace {
-    at: u64,
     until: u64,
     tick: u64,
     ghost some: { 0 < tick },
 }
 
 impl Pace {
-    /// That of a leg whose link was not asked yet: it answers at once.
+    /// That of a link that was not asked yet: it answers at once.
     pub(crate) fn new(tick: u64) -> Pace
         requires { 0 < tick }
     {
-        Pace {
-            at: 0,
-            until: 0,
-            tick,
-        }
-    }
-
-    /// The moment of the last take.
-    pub(crate) fn at(&self) -> u64 {
-        self.at
+        Pace { until: 0, tick }
     }
 
     /// The moment until which the next take may wait.
@@ -42,7 +31,6 @@ impl Pace {
             _ => self.until,
         };
         Pace {
-            at: taken.at,
             until,
             tick: self.tick,
         }

@@ -1,4 +1,4 @@
-//! What a leg over a link is asked for.
+//! What a leg is asked for.
 use receiver::EarSettings;
 
 /// Which packets are heard of a leg: those that the ear is asked for, or, where the leg is followed, those of whoever sends.

@@ -7,13 +7,13 @@ ghost use Rattle.live_leg.specs.States.{is_ending, is_over, is_parting};
 pub(crate) enum State {
     /// All that is ready was given, and that was said.
     Idle,
-    /// The link gave something, and what is ready by then is being given.
+    /// Something came, and what is ready by then is being given.
     Giving,
-    /// The link had nothing, and what is ready by then is being given.
+    /// Nothing came when it was asked, and what is ready by then is being given.
     Blank,
     /// One took over from the sender, and what is left of that one is being given. The datagram is not heard yet.
     Parting,
-    /// The link is closed, and what is left is being given.
+    /// It is closed, and what is left is being given.
     Ending,
     /// The last item was given.
     Over,

@@ -1,5 +1,5 @@
-//! What a leg over a link gives next.
-ghost use Rattle.std.specs.Prelude.{◌≡◌, ◌≤◌, ◌<◌, true, false, None, [], ◌∷◌, IfOk, IfErr, IfSome, OnOk, OnErr};
+//! What a leg gives next.
+ghost use Rattle.std.specs.Prelude.{◌≡◌, ◌≤◌, ◌<◌, true, false, None, [], ◌∷◌, IfOk, IfErr, IfSome, OnOk};
 ghost use Rattle.rtt_base.specs.declared.limits.TheConstants.{LONGEST_WAIT, MOST_ARRIVALS};
 ghost use Rattle.stream_spec.specs.Hearing.{marker};
 ghost use Rattle.stream_spec.specs.Ready.{chunk as heard_chunk, chunk_of};
@@ -11,24 +11,21 @@ ghost use Rattle.live_leg.specs.Stands.{GetsOn, GivesOf, GivesThen, LegStands, L
 ghost use Rattle.live_leg.specs.States.{is_giving, is_heard, is_over, is_parting};
 ghost use Rattle.live_leg.specs.Texts.{HasText};
 
+use crate::arrivals::Arrivals;
 use crate::kinds::ItemKind;
-use crate::legs::LinkLeg;
-use crate::paces::Pace;
+use crate::legs::Leg;
 use crate::senders::Senders;
 use crate::settings::LegSettings;
 use crate::states::State;
 use crate::takes::{begin_with, hear_taken};
 use crate::tallies::LegTally;
-use link_io::LinkIn;
 use receiver::{Ear, is_blank};
 use rtt_base::limits::MOST_ARRIVALS;
-use rtt_base::{Chunk, Failed, Packet};
+use rtt_base::{Chunk, Packet};
 use std::alloc::Global;
-use std::sync::Arc;
-use std::sync::atomic::{AtomicBool, Ordering};
 
 /// What a text that is heard comes to: a keep-alive (U+FEFF alone) is none, and is passed over.
-fn unless_blank(chunk: &Chunk) -> Option<ItemKind>
+fn unless_blank<F>(chunk: &Chunk) -> Option<ItemKind<F>>
     ensures { result ≡ unless_blank (chunk_of chunk.now) }
 {
     if is_blank(chunk.text.as_slice()) {
@@ -57,8 +54,8 @@ fn hasten(chunk: &mut Chunk, moment: u64)
     chunk.ready = chunk.ready.min(moment);
 }
 
-/// How it is said that all was given which is ready by what the link gave, where a leg is so far.
-fn seen_as(state: State) -> ItemKind
+/// How it is said that all was given which is ready by what came, where a leg is so far.
+fn seen_as<F>(state: State) -> ItemKind<F>
     ensures { result ≡ seen_as state }
 {
     match state {
@@ -67,82 +64,71 @@ fn seen_as(state: State) -> ItemKind
     }
 }
 
-impl<L: LinkIn> LinkLeg<L> {
-    /// A leg over a link, of which nothing was heard. Where its link has nothing it waits for a turn; they are at the multiples of
-    /// `tick` (milliseconds) of its clock. It stops where the word is set. It takes all memory that it needs; where there is not
-    /// enough, the link comes back.
-    pub fn new(
-        alloc: Global,
-        link: L,
-        settings: LegSettings,
-        tick: u64,
-        stop: Arc<AtomicBool, Global>,
-    ) -> Result<LinkLeg<L>, L>
+impl<A: Arrivals> Leg<A> {
+    /// A leg of which nothing was heard. It takes all memory that it needs; where there is not enough, the arrivals come back.
+    pub fn new(alloc: Global, arrivals: A, settings: LegSettings) -> Result<Leg<A>, A>
         requires wait { settings.ear.wait ≤ LONGEST_WAIT }
-        requires tick { 0 < tick }
+        requires begins { A.Arrivals.came arrivals arrivals [] }
         ensures settings { IfOk result (λ leg. leg.settings ≡ settings) }
-        ensures link { IfOk result (λ leg. leg.link ≡ link) }
+        ensures arrivals { IfOk result (λ leg. leg.arrivals ≡ arrivals) }
         ensures open { IfOk result (λ leg. is_over leg.state ≡ false) }
-        ensures stands { IfOk result (λ leg. LegStands L.LinkIn leg leg []) }
-        ensures lost { IfErr result (λ back. back ≡ link) }
+        ensures stands { IfOk result (λ leg. LegStands A.Arrivals leg leg []) }
+        ensures lost { IfErr result (λ back. back ≡ arrivals) }
     {
         let Ok(ear) = Ear::new(alloc, settings.ear, &[settings.ear.ssrc]) else {
-            return Err(link);
+            return Err(arrivals);
         };
         let Ok(senders) = Senders::new(alloc, settings) else {
-            return Err(link);
+            return Err(arrivals);
         };
         let Ok(packet) = Box::new(alloc, Packet::new()) else {
-            return Err(link);
+            return Err(arrivals);
         };
-        Ok(LinkLeg {
+        Ok(Leg {
             settings,
             ear,
             senders,
             tally: LegTally::new(),
-            link,
+            arrivals,
             packet,
-            stop,
             state: State::Idle,
-            pace: Pace::new(tick),
+            at: 0,
         })
     }
 
-    /// What came of the link so far, counted.
+    /// What came so far, counted.
     pub fn tally(&self) -> LegTally
         ensures { result ≡ self.now.tally }
     {
         self.tally
     }
 
-    /// The link, as far as it was taken from.
-    pub fn into_link(self) -> L
-        ensures { result ≡ self.link }
+    /// Where its packets come from, as far as it was taken from.
+    pub fn into_arrivals(self) -> A
+        ensures { result ≡ self.arrivals }
     {
-        let LinkLeg {
+        let Leg {
             settings: _,
             ear: _,
             senders: _,
             tally: _,
-            link,
+            arrivals,
             packet: _,
-            stop: _,
             state: _,
-            pace: _,
+            at: _,
         } = self;
-        link
+        arrivals
     }
 
-    /// Takes from the link, where it has nothing at the next turn at the latest, and tells the ear what came. Where the link failed
-    /// the leg is over.
-    fn listen(&mut self) -> Result<(), Failed>
+    /// Takes what comes, and tells the ear. Where nothing more comes, and it is not closed, the leg is over.
+    fn listen(&mut self) -> Result<(), A::Fault>
         requires idle { self.old.state ≡ State.Idle }
         requires few { arrival_count self.old.ear < MOST_ARRIVALS }
-        ensures ok { OnOk result (Listens L.LinkIn self.old self.new) }
+        ensures ok { OnOk result (Listens A.Arrivals self.old self.new) }
         ensures giving { OnOk result (is_giving self.new.state ≡ true) }
-        ensures err { OnErr result (GivesThen L.LinkIn self.old self.new (Item.Fault ∷ [])) }
+        ensures err { IfErr result (λ fault. GivesThen A.Arrivals self.old self.new (Item.Fault fault ∷ [])) }
     {
-        match self.link.take(&mut self.packet, self.pace.until()) {
+        match self.arrivals.take(&mut self.packet) {
             Ok(taken) => {
                 let octets = self.packet.as_slice();
                 self.state = hear_taken(
@@ -152,21 +138,21 @@ impl<L: LinkIn> LinkLeg<L> {
                     taken,
                     octets,
                 );
-                self.pace = self.pace.after(taken);
+                self.at = taken.at;
                 Ok(())
             }
-            Err(failed) => {
+            Err(fault) => {
                 self.state = State::Over;
-                Err(failed)
+                Err(fault)
             }
         }
     }
 
     /// Puts the next text that is ready in place of what is in `chunk`, or says that this was all. Where a keep-alive is heard, it
     /// is passed over, and nothing is given.
-    fn give_ready(&mut self, chunk: &mut Chunk) -> Option<ItemKind>
+    fn give_ready(&mut self, chunk: &mut Chunk) -> Option<ItemKind<A::Fault>>
         requires { is_heard self.old.state ≡ true }
-        ensures gives { GivesOf L.LinkIn self.old self.new (items_with result (chunk_of chunk.new)) }
+        ensures gives { GivesOf A.Arrivals self.old self.new (items_with result (chunk_of chunk.new)) }
         ensures text { IfSome result (λ kind. HasText kind (chunk_of chunk.new)) }
         ensures later { result ≡ None → is_giving self.new.state ≡ true }
     {
@@ -184,9 +170,9 @@ impl<L: LinkIn> LinkLeg<L> {
 
     /// Puts the next text of the sender before in place of what is in `chunk`. All of it is ready when the other took over at the
     /// latest. Where this was all it is a marker: what was lost with that one nobody knows. The ear begins anew with the other.
-    fn part(&mut self, chunk: &mut Chunk) -> Option<ItemKind>
+    fn part(&mut self, chunk: &mut Chunk) -> Option<ItemKind<A::Fault>>
         requires { self.old.state ≡ State.Parting }
-        ensures gives { GivesOf L.LinkIn self.old self.new (items_with result (chunk_of chunk.new)) }
+        ensures gives { GivesOf A.Arrivals self.old self.new (items_with result (chunk_of chunk.new)) }
         ensures text { IfSome result (λ kind. HasText kind (chunk_of chunk.new)) }
         ensures later { result ≡ None → is_giving self.new.state ≡ true }
     {
@@ -203,9 +189,9 @@ impl<L: LinkIn> LinkLeg<L> {
     }
 
     /// Gives the next item of what came, if there is one.
-    fn give(&mut self, chunk: &mut Chunk) -> Option<ItemKind>
+    fn give(&mut self, chunk: &mut Chunk) -> Option<ItemKind<A::Fault>>
         requires { is_giving self.old.state ≡ true }
-        ensures gives { GivesOf L.LinkIn self.old self.new (items_with result (chunk_of chunk.new)) }
+        ensures gives { GivesOf A.Arrivals self.old self.new (items_with result (chunk_of chunk.new)) }
         ensures text { IfSome result (λ kind. HasText kind (chunk_of chunk.new)) }
         ensures later { result ≡ None → is_giving self.new.state ≡ true }
     {
@@ -216,39 +202,27 @@ impl<L: LinkIn> LinkLeg<L> {
         }
     }
 
-    /// Stops.
-    fn quit(&mut self)
-        requires { self.old.state ≡ State.Idle }
-        ensures { GivesThen L.LinkIn self.old self.new (Item.Quit ∷ []) }
-    {
-        self.state = State::Over;
-    }
-
-    /// Takes from the link, and gives the first item of what came.
-    fn ask(&mut self, chunk: &mut Chunk) -> Option<ItemKind>
+    /// Takes what comes, and gives the first item of it.
+    fn ask(&mut self, chunk: &mut Chunk) -> Option<ItemKind<A::Fault>>
         requires idle { self.old.state ≡ State.Idle }
         requires few { arrival_count self.old.ear < MOST_ARRIVALS }
-        ensures gives { GivesThen L.LinkIn self.old self.new (items_with result (chunk_of chunk.new)) }
+        ensures gives { GivesThen A.Arrivals self.old self.new (items_with result (chunk_of chunk.new)) }
         ensures text { IfSome result (λ kind. HasText kind (chunk_of chunk.new)) }
         ensures later { result ≡ None → is_giving self.new.state ≡ true }
     {
         match self.listen() {
             Ok(()) => self.give(chunk),
-            Err(_) => Some(ItemKind::Fault),
+            Err(fault) => Some(ItemKind::Fault(fault)),
         }
     }
 
-    /// Takes from the link, unless the leg is to stop, or heard all that an ear hears.
-    fn ask_unless_stopped(&mut self, chunk: &mut Chunk) -> Option<ItemKind>
+    /// The same, unless the leg heard all that an ear hears.
+    fn ask_unless_full(&mut self, chunk: &mut Chunk) -> Option<ItemKind<A::Fault>>
         requires { self.old.state ≡ State.Idle }
-        ensures gives { GivesThen L.LinkIn self.old self.new (items_with result (chunk_of chunk.new)) }
+        ensures gives { GivesThen A.Arrivals self.old self.new (items_with result (chunk_of chunk.new)) }
         ensures text { IfSome result (λ kind. HasText kind (chunk_of chunk.new)) }
         ensures later { result ≡ None → GetsOn self.old self.new }
     {
-        if self.stop.load(Ordering::SeqCst) {
-            self.quit();
-            return Some(ItemKind::Quit);
-        }
         if self.ear.arrivals() >= MOST_ARRIVALS {
             return None;
         }
@@ -256,15 +230,15 @@ impl<L: LinkIn> LinkLeg<L> {
     }
 
     /// Gives the next item, if there is one, and puts its text in place of what is in `chunk`.
-    pub(crate) fn step(&mut self, chunk: &mut Chunk) -> Option<ItemKind>
+    pub(crate) fn step(&mut self, chunk: &mut Chunk) -> Option<ItemKind<A::Fault>>
         requires { is_over self.old.state ≡ false }
-        ensures gives { GivesThen L.LinkIn self.old self.new (items_with result (chunk_of chunk.new)) }
+        ensures gives { GivesThen A.Arrivals self.old self.new (items_with result (chunk_of chunk.new)) }
         ensures text { IfSome result (λ kind. HasText kind (chunk_of chunk.new)) }
         ensures later { result ≡ None → GetsOn self.old self.new }
     {
         match self.state {
             State::Giving | State::Blank | State::Parting | State::Ending => self.give(chunk),
-            State::Idle => self.ask_unless_stopped(chunk),
+            State::Idle => self.ask_unless_full(chunk),
             State::Over => None,
         }
     }

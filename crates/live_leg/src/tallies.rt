@@ -1,11 +1,11 @@
-//! What is counted of a leg over a link.
+//! What is counted of a leg.
 ghost use Rattle.std.specs.Prelude.{◌≡◌, ◌+◌};
 ghost use Rattle.live_spec.specs.Tally.{as_kept, untallied, with_foreign, with_refused, with_sender, with_text};
 ghost use Rattle.live_leg.specs.Tallies.{CountsWith, IsTally, counts_sent};
 
 use crate::senders::DatagramSender;
 
-/// What came of a leg's link, counted. A count that has come to 2^64 - 1 stays there.
+/// What came of a leg, counted. A count that has come to 2^64 - 1 stays there.
 #[derive(Clone, Copy, Debug, Default, PartialEq, Eq)]
 pub struct LegTally {
     /// The datagrams that came.

@@ -1,7 +1,7 @@
 ghost use Rattle.std.specs.Prelude.{◌≤◌};
 ghost use Rattle.rtt_base.specs.declared.limits.TheConstants.{LONGEST_WAIT};
 
-use crate::{ItemKind, LegItem, LegSettings, LegTally, LinkLeg};
+use crate::{ItemKind, Leg, LegSettings, LegTally, LinkItem, LinkLeg, LinkStop, PacedLink};
 use link_io::{Came, MemIn, PlannedTake};
 use receiver::EarSettings;
 use rtt_base::{NoMemory, PayloadTypes};
@@ -47,14 +47,14 @@ fn over(
     link: MemIn,
     settings: LegSettings,
     is_stopped: bool,
-) -> Result<(LinkLeg<MemIn>, LegItem), NoMemory>
+) -> Result<(LinkLeg<MemIn>, LinkItem), NoMemory>
     requires { settings.ear.wait ≤ LONGEST_WAIT }
 {
-    let item = LegItem::blank(alloc)?;
+    let item = LinkItem::blank(alloc)?;
     let Ok(stop) = Arc::new(alloc, AtomicBool::new(is_stopped)) else {
         return Err(NoMemory);
     };
-    match LinkLeg::new(alloc, link, settings, 100, stop) {
+    match Leg::new(alloc, PacedLink::new(link, 100, stop), settings) {
         Ok(leg) => Ok((leg, item)),
         Err(_) => Err(NoMemory),
     }
@@ -74,12 +74,12 @@ fn ann(
     alloc: Global,
     comings: &[LinkEvent],
     is_stopped: bool,
-) -> Result<(LinkLeg<MemIn>, LegItem), NoMemory> {
+) -> Result<(LinkLeg<MemIn>, LinkItem), NoMemory> {
     over(alloc, linked(alloc, comings)?, ANN, is_stopped)
 }
 
 // The same, where she is followed.
-fn followed(alloc: Global, comings: &[LinkEvent]) -> Result<(LinkLeg<MemIn>, LegItem), NoMemory> {
+fn followed(alloc: Global, comings: &[LinkEvent]) -> Result<(LinkLeg<MemIn>, LinkItem), NoMemory> {
     over(alloc, linked(alloc, comings)?, FOLLOWED, false)
 }
 
@@ -92,17 +92,17 @@ fn next<Q, F: Producer<Q>, R: Wait>(rt: &R, leg: &mut F, item: &mut Q) -> bool {
 }
 
 // What it gives next is of this kind.
-fn gives<F: Producer<LegItem>, R: Wait>(
+fn gives<F: Producer<LinkItem>, R: Wait>(
     rt: &R,
     leg: &mut F,
-    item: &mut LegItem,
-    kind: ItemKind,
+    item: &mut LinkItem,
+    kind: ItemKind<LinkStop>,
 ) -> bool {
     next(rt, leg, item) && item.kind == kind
 }
 
 // Whether this is a text of Ann, from this moment on.
-fn is_said(item: &LegItem, text: &[u8], ready: u64) -> bool {
+fn is_said(item: &LinkItem, text: &[u8], ready: u64) -> bool {
     item.chunk.ready == ready && item.chunk.text.as_slice() == text
 }
 
@@ -129,9 +129,9 @@ fn a_keep_alive_is_passed_over(rt: HostRuntime) -> Result<(), Fail> {
 #[test]
 fn a_leg_that_is_told_to_stop_asks_no_more(rt: HostRuntime) -> Result<(), Fail> {
     let (mut leg, mut item) = ann(rt.alloc(), &[SHE_TYPES], true)?;
-    assert!(rt; gives(&rt, &mut leg, &mut item, ItemKind::Quit));
+    assert!(rt; gives(&rt, &mut leg, &mut item, ItemKind::Fault(LinkStop::Told)));
     assert!(rt; leg.is_over());
-    let link = leg.into_link();
+    let link = leg.into_arrivals().into_link();
     assert_eq!(rt; link.told().len(), 0);
     Ok(())
 }
@@ -142,16 +142,16 @@ fn a_fault_is_the_last(rt: HostRuntime) -> Result<(), Fail> {
     link.fail_at(2)?;
     let (mut leg, mut item) = over(rt.alloc(), link, ANN, false)?;
     assert!(rt; gives(&rt, &mut leg, &mut item, ItemKind::Silent));
-    assert!(rt; gives(&rt, &mut leg, &mut item, ItemKind::Fault));
+    assert!(rt; gives(&rt, &mut leg, &mut item, ItemKind::Fault(LinkStop::Failed)));
     assert!(rt; leg.is_over());
     Ok(())
 }
 
 // Whether its link has nothing then, as it says at this moment.
-fn is_silent_at<F: Producer<LegItem>, R: Wait>(
+fn is_silent_at<F: Producer<LinkItem>, R: Wait>(
     rt: &R,
     leg: &mut F,
-    item: &mut LegItem,
+    item: &mut LinkItem,
     at: u64,
 ) -> bool {
     gives(rt, leg, item, ItemKind::Silent) && item.at == at
@@ -174,10 +174,10 @@ const C5: &[u8] = b"\x80\x62\0\x02\0\0\0\x64\0\0\0\x05C";
 const B6: &[u8] = b"\x80\x62\0\0\0\0\0\0\0\0\0\x06B";
 
 // What it says next is this text, from this moment on.
-fn says<F: Producer<LegItem>, R: Wait>(
+fn says<F: Producer<LinkItem>, R: Wait>(
     rt: &R,
     leg: &mut F,
-    item: &mut LegItem,
+    item: &mut LinkItem,
     text: &[u8],
     ready: u64,
 ) -> bool {
@@ -252,7 +252,7 @@ const NOISE: &[u8] = b"\0\x01";
 const TOO_LARGE: LinkEvent = (200, Came::Large, b"");
 
 // It gives what came, as far as this many items go.
-fn gives_all<F: Producer<LegItem>, R: Wait>(rt: &R, leg: &mut F, item: &mut LegItem, most: u32) {
+fn gives_all<F: Producer<LinkItem>, R: Wait>(rt: &R, leg: &mut F, item: &mut LinkItem, most: u32) {
     for _ in 0..most {
         let _ = next(rt, leg, item);
     }

@@ -9,7 +9,8 @@ use Rattle.mixer_spec.specs.Table.{Call, Offer, after_calls, has_room}
 use Rattle.mix_loop.specs.Addresses.{Address}
 use Rattle.mix_loop.specs.Mixers.{Keeps, Offers}
 use Rattle.live_spec.specs.Live.{most_takes}
-use Rattle.live_leg.specs.Items.{Item, Silent, signals_in, text_in}
+use Rattle.live_leg.specs.LinkLegs.{Item}
+use Rattle.live_leg.specs.Items.{Silent, signals_in, text_in}
 use Rattle.mix_loop.specs.declared.live_ports.LivePort.{LivePort}
 use Rattle.mix_loop.specs.Handed.{EndsSilent, HasSignals, IsEnough, IsNext, has_end, is_blocked_after, is_end}
 use Rattle.mix_loop.specs.LivePorts.{Advances, AreNext, Blocks, Gathered, GatheredTo, Goes, GoesOn, Grew, IsGathering, OffersTo, OnlyHand, PortAt, PullsSignal, PullsNothing, PullsText, Retries, Silences, after_offer, with_offers}

@@ -13,7 +13,8 @@ use Rattle.view_spec.specs.declared.tallies.Tally.{Tally}
 use Rattle.live_spec.specs.Tally.{tally_by, tally_came}
 use Rattle.mix_loop.specs.Ports.{of_leg}
 use Rattle.mix_loop.proofs.OfLeg.{chunks_of_leg, filter_of_leg}
-use Rattle.live_leg.specs.Items.{AreItems, Item, text_in, texts_in}
+use Rattle.live_leg.specs.LinkLegs.{Item}
+use Rattle.live_leg.specs.Items.{AreItems, text_in, texts_in}
 use Rattle.live_leg.specs.Items as item
 use Rattle.mix_loop.specs.Covers.{Covers, as_leg}
 
@@ -22,8 +23,7 @@ text_as p j (item.Text ready octets) = refl
 text_as p j item.Seen = refl
 text_as p j item.Silent = refl
 text_as p j item.End = refl
-text_as p j item.Quit = refl
-text_as p j item.Fault = refl
+text_as p j (item.Fault why) = refl
 
 texts_as : (p j : ℕ) (xs : List Item) → map (of_leg j) (texts_in p xs) ≡ texts_in j xs
 texts_as p j [] = refl

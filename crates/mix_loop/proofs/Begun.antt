@@ -8,7 +8,7 @@ use Rattle.mixer_spec.specs.Table.{Call, Admit, Hush, Leave, Offer, Taken, Turn,
 use Rattle.mixer_spec.specs.Calls.{took, turns_made}
 use Rattle.mixer_spec.specs.Legs.{held}
 use Rattle.mixer_spec.proofs.Legs.{come_taken}
-use Rattle.live_leg.specs.Items.{Item}
+use Rattle.live_leg.specs.LinkLegs.{Item}
 use Rattle.mix_loop.specs.declared.live_ports.LivePort.{LivePort}
 use Rattle.mix_loop.specs.Handed.{AreLiveCalls, HasSignals, hand_after}
 use Rattle.mix_loop.specs.LivePorts.{PortAt}

@@ -8,8 +8,10 @@ use Rattle.stream_spec.specs.Ready.{Chunk}
 use Rattle.stream_spec.specs.Links.{Taken, Takes, Came, Datagram, Large, Quiet, Closed, is_closed, is_closing}
 use Rattle.live_spec.specs.Told.{Hearing, first_sender, last_chunks, ready_by}
 use Rattle.live_spec.specs.Live.{IsHeardOut, IsUpToDate, first_takes, is_blank, is_quiet, most_takes}
-use Rattle.live_leg.specs.Items.{Item}
+use Rattle.live_leg.specs.LinkLegs.{Item}
 use Rattle.live_leg.specs.Items as item
+use Rattle.live_leg.specs.declared.paced_links.LinkStop.{LinkStop}
+use Rattle.live_leg.specs.declared.paced_links.LinkStop.TheVariants.{Told}
 use Rattle.live_leg.specs.Items.{AreItems, is_signal, signal_of, signals_in, texts_in}
 use Rattle.live_leg.proofs.Texts.{texts_append}
 use Rattle.mix_loop.specs.Handed.{EndsSilent, IsEnough, has_end, is_end}
@@ -74,7 +76,7 @@ no_signals_in : (xs : List Item) → AreNoSignals xs → signals_in xs ≡ 0
 no_signals_in [] a = refl
 no_signals_in (x ∷ xs) a = let r = no_signals_in xs a.1 in ap (λ b. (if b then 1 else 0) + signals_in xs) a.0 ∙ omega (arith, r)
 
-signal_is : (w : Came) → is_signal (signal_of w) ≡ true
+signal_is : (w : Came) → is_signal {F = LinkStop} (signal_of w) ≡ true
 signal_is (Datagram o) = refl
 signal_is Large = refl
 signal_is Quiet = refl
@@ -86,7 +88,7 @@ signals_given h [] given a = ap signals_in a
 signals_given h (w ∷ past) given a =
     let before = a.0 in
     let news = a.1 in
-    let m = signal_of w.came in
+    let m : Item = signal_of w.came in
     let one : signals_in (m ∷ []) ≡ 1 = ap (λ b. (if b then 1 else 0) + 0) (signal_is w.came) in
     let r = signals_given h past before a.3 in
     let e = ap signals_in a.2 in
@@ -131,8 +133,7 @@ no_end (x ∷ xs) a = ap (λ b. b || has_end xs) (end_signal x a.0) ∙ no_end x
     end_signal item.Seen e = refl
     end_signal item.Silent e = refl
     end_signal item.End e = absurd (cc e)
-    end_signal item.Quit e = refl
-    end_signal item.Fault e = refl
+    end_signal (item.Fault why) e = refl
 
 pub end_split : (xs ys : List Item) → has_end (xs ++ ys) ≡ true → (has_end xs ≡ true) ⊎ (has_end ys ≡ true)
 end_split [] ys e = inr e
@@ -154,7 +155,7 @@ find_end h [] given before rest tail a none e l =
 find_end h (w ∷ past) given before rest tail a none e l =
     let bf = a.0 in
     let news = a.1 in
-    let m = signal_of w.came in
+    let m : Item = signal_of w.came in
     let E : Takes → Type 0 = λ first. is_closed first ≡ true in
     elim (longer before rest given tail e) [
       | inl all ↦
@@ -201,7 +202,7 @@ last_signal : (d : Item) (xs ys : List Item) → is_signal (last_item d (xs ++ y
 last_signal d xs [] e a = ap (last_item d) (append-nil xs)
 last_signal d xs (y ∷ ys) e a = absurd (true≢false (sym e ∙ (ap is_signal (last_append d xs (y ∷ ys)) ∙ last_no_signal y ys a.0 a.1)))
 
-quiet_is : (w : Came) → signal_of w ≡ item.Silent → is_quiet w ≡ true
+quiet_is : (w : Came) → signal_of {F = LinkStop} w ≡ item.Silent → is_quiet w ≡ true
 quiet_is (Datagram o) e = absurd (cc e)
 quiet_is Large e = absurd (cc e)
 quiet_is Quiet e = refl
@@ -217,7 +218,7 @@ end_is Closed = refl
 ends_are : (h : Hearing) (takes : Takes) (given : List Item) → AreItems h takes given → has_end given ≡ is_closed takes
 ends_are h [] given a = ap has_end a
 ends_are h (w ∷ past) given a =
-    let m = signal_of w.came in
+    let m : Item = signal_of w.came in
     ap has_end a.2
     ∙ (end_both a.0 (a.1 ++ m ∷ [])
     ∙ (ap (λ b. has_end a.0 || b) (end_both a.1 (m ∷ []) ∙ (ap (λ b. b || (is_end m || false)) (no_end a.1 (texts_no_signals a.1 a.4)) ∙ (or_none (is_end m) ∙ end_is w.came)))
@@ -232,14 +233,14 @@ ends_are h (w ∷ past) given a =
 -- these takes are those whose signals were popped
 record AreCounted (xs : List Item) (first : Takes) : Type 0 where
   many : length first ≡ signals_in xs
-  blank : last_item item.Quit xs ≡ item.Silent → is_blank first ≡ true
+  blank : last_item (item.Fault Told) xs ≡ item.Silent → is_blank first ≡ true
   ends : has_end xs ≡ is_closed first
 
 -- of items without a signal
 none_counted : (xs ys tail : List Item) → AreNoSignals tail → xs ++ ys ≡ tail → AreCounted xs []
 none_counted xs ys tail none e = record {
   many = (let p = signals_append xs ys in let q = ap signals_in e in let z = no_signals_in tail none in omega (arith, p, q, z));
-  blank = λ b. absurd (true≢false (sym (ap is_signal b) ∙ last_no_signal item.Quit xs refl (front_no_signals xs ys (subst AreNoSignals (sym e) none))));
+  blank = λ b. absurd (true≢false (sym (ap is_signal b) ∙ last_no_signal (item.Fault Told) xs refl (front_no_signals xs ys (subst AreNoSignals (sym e) none))));
   ends = front_no_end (has_end xs) (has_end ys) (sym (end_both xs ys) ∙ (ap has_end e ∙ no_end tail none));
 }
   where
@@ -253,13 +254,13 @@ none_counted xs ys tail none e = record {
 
 all_counted : (h : Hearing) (w : Taken) (past : Takes) (given z xs : List Item) → AreItems h (w ∷ past) given → AreNoSignals z → xs ≡ given ++ z → AreCounted xs (w ∷ past)
 all_counted h w past given z xs a none e =
-    let m = signal_of w.came in
+    let m : Item = signal_of w.came in
     let whole : given ≡ (a.0 ++ a.1) ++ m ∷ [] = a.2 ∙ sym (append_assoc a.0 a.1 (m ∷ [])) in
     record {
       many = (let p = signals_append given z in let q = ap signals_in e in let y = no_signals_in z none in let r = signals_given h (w ∷ past) given a in omega (arith, p, q, y, r));
       blank = λ b. quiet_is w.came (
-          let there : last_item item.Quit (given ++ z) ≡ item.Silent = ap (last_item item.Quit) (sym e) ∙ b in
-          sym (last_is item.Quit (a.0 ++ a.1) m) ∙ (ap (last_item item.Quit) (sym whole) ∙ (sym (last_signal item.Quit given z (ap is_signal there) none) ∙ there)));
+          let there : last_item (item.Fault Told) (given ++ z) ≡ item.Silent = ap (last_item (item.Fault Told)) (sym e) ∙ b in
+          sym (last_is (item.Fault Told) (a.0 ++ a.1) m) ∙ (ap (last_item (item.Fault Told)) (sym whole) ∙ (sym (last_signal (item.Fault Told) given z (ap is_signal there) none) ∙ there)));
       ends = ap has_end e ∙ (end_none given z (no_end z none) ∙ ends_are h (w ∷ past) given a);
     }
 
@@ -290,7 +291,7 @@ find_signals h [] given before rest tail a none e =
 find_signals h (w ∷ past) given before rest tail a none e =
     let bf = a.0 in
     let news = a.1 in
-    let m = signal_of w.came in
+    let m : Item = signal_of w.came in
     elim (longer before rest given tail e) [
       | inl all ↦
           let c = all_counted h w past given all.0 before a (behind_none all.0 rest tail all.2 none) all.1 in
@@ -323,7 +324,7 @@ module _ (h : Hearing) (takes : Takes) (items before more : List Item) (w : Cove
   closed_ends c = found.enough.ends ∙ (ap is_closed (sym counted_are) ∙ c)
 
   heard_out : (last : ℕ) → ((last < signals_in before) × EndsSilent before) ⊎ ((last + most_takes ≤ signals_in before) ⊎ (has_end before ≡ true)) → IsHeardOut takes last (signals_in before)
-  heard_out last (inl s) = inl (s.0, ap is_blank counted_are ∙ found.enough.blank (ap (last_item item.Quit) s.1.1 ∙ last_is item.Quit s.1.0 item.Silent))
+  heard_out last (inl s) = inl (s.0, ap is_blank counted_are ∙ found.enough.blank (ap (last_item (item.Fault Told)) s.1.1 ∙ last_is (item.Fault Told) s.1.0 item.Silent))
   heard_out last (inr (inl l)) = inr (inl l)
   heard_out last (inr (inr ends)) =
       let closed : is_closed found.first ≡ true = sym found.enough.ends ∙ ends in

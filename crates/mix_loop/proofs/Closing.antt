@@ -6,13 +6,14 @@ use Rattle.link_io.specs.declared.ends.LinkIn as links
 use Rattle.stream_spec.specs.Links.{Takes, Came, Datagram, Large, Quiet, Closed, is_closed, is_closing}
 use Rattle.live_spec.specs.Told.{Hearing, all_by, ready_by, told_by}
 use Rattle.live_leg.specs.declared.settings.LegSettings.{LegSettings}
-use Rattle.live_leg.specs.Items.{Item}
+use Rattle.live_leg.specs.LinkLegs.{Item}
 use Rattle.live_leg.specs.Items as item
 use Rattle.live_leg.specs.declared.states.State.{State}
 use Rattle.live_leg.specs.declared.states.State.TheVariants.{Idle, Giving, Blank, Parting, Ending, Over}
-use Rattle.live_leg.specs.Items.{AreItems, signal_of, texts_in}
+use Rattle.live_leg.specs.Items.{AreItems, fault_in, signal_of, texts_in}
 use Rattle.live_leg.specs.Stands.{IsEnded, IsGivingSome, IsStop, PhaseAt}
 use Rattle.live_leg.specs.Stories.{hearing_of}
+use Rattle.live_leg.proofs.Pacing.{went_closed}
 use Rattle.mix_loop.specs.Handed.{has_end}
 use Rattle.mix_loop.proofs.Enough.{end_append}
 use Rattle.mix_loop.specs.Laws.{EndIsAll}
@@ -44,13 +45,12 @@ open_no_end h (w ∷ past) items a o e =
     closing Quiet m = absurd (true≢false (sym m))
     closing Closed m = refl
 
-stop_no_end : (x : Item) (F : Type 0) → IsStop x F → has_end (x ∷ []) ≡ true → ⊥
-stop_no_end (item.Text r o) F s e = s
-stop_no_end item.Seen F s e = s
-stop_no_end item.Silent F s e = s
-stop_no_end item.End F s e = s
-stop_no_end item.Quit F s e = true≢false (sym e)
-stop_no_end item.Fault F s e = true≢false (sym e)
+stop_no_end : (x : Item) → IsStop x → has_end (x ∷ []) ≡ true → ⊥
+stop_no_end (item.Text r o) s e = s
+stop_no_end item.Seen s e = s
+stop_no_end item.Silent s e = s
+stop_no_end item.End s e = s
+stop_no_end (item.Fault why) s e = true≢false (sym e)
 
 module _ (settings : LegSettings) (takes : Takes) (gave popped left : List Item) (all : gave ≡ popped ++ left) (ends : has_end popped ≡ true) where
   abbrev h : Hearing
@@ -69,7 +69,7 @@ module _ (settings : LegSettings) (takes : Takes) (gave popped left : List Item)
   ended_all w =
       let s = w.some in
       let a = subst (λ (ps : Takes). AreItems (hearing_of settings) ps gave) s.takes_are w.are in
-      let m = signal_of s.last.came in
+      let m : Item = signal_of s.last.came in
       let whole : popped ≡ gave = elim (longer popped left gave [] (sym all ∙ sym (append-nil gave))) [
         | inl x ↦ x.1 ∙ (ap (λ z. gave ++ z) (nothing x.0 left x.2) ∙ append-nil gave)
         | inr x ↦
@@ -87,19 +87,19 @@ module _ (settings : LegSettings) (takes : Takes) (gave popped left : List Item)
       nothing [] y e = refl
       nothing (k ∷ z) y e = absurd (cc e)
 
-  phase_all : (st : State) (F : Type 0) → PhaseAt st F (hearing_of settings) takes gave → (is_closed takes ≡ true) × (texts_in 0 popped ≡ all_by (hearing_of settings) takes)
-  phase_all Idle F p = absurd (open_no_end (hearing_of settings) takes gave p.are p.open_still end_in)
-  phase_all Giving F p = absurd (giving_no_end p)
-  phase_all Blank F p = absurd (giving_no_end p)
-  phase_all Parting F p = absurd (giving_no_end p)
-  phase_all Ending F p = absurd (giving_no_end p)
-  phase_all Over F (inl p) = ended_all p
-  phase_all Over F (inr p) = absurd (elim (end_split p.before (p.last ∷ []) (sym (ap has_end p.items_are) ∙ end_in)) [
+  phase_all : (st : State) → PhaseAt st (hearing_of settings) takes gave → (is_closed takes ≡ true) × (texts_in 0 popped ≡ all_by (hearing_of settings) takes)
+  phase_all Idle p = absurd (open_no_end (hearing_of settings) takes gave p.are p.open_still end_in)
+  phase_all Giving p = absurd (giving_no_end p)
+  phase_all Blank p = absurd (giving_no_end p)
+  phase_all Parting p = absurd (giving_no_end p)
+  phase_all Ending p = absurd (giving_no_end p)
+  phase_all Over (inl p) = ended_all p
+  phase_all Over (inr p) = absurd (elim (end_split p.before (p.last ∷ []) (sym (ap has_end p.items_are) ∙ end_in)) [
     | inl before ↦ open_no_end (hearing_of settings) takes p.before p.are p.open_still before
-    | inr last ↦ stop_no_end p.last F p.stops last
+    | inr last ↦ stop_no_end p.last p.stops last
   ])
 
 pub end_law : {L : Type 0} (g : links.Ghosts L) → EndIsAll g
 end_law g leg first now gave popped left w all ends =
-    let r = phase_all first.settings w.so.takes gave popped left all ends now.state _ w.so.phase in
-    (r.0, w.so.closed r.0, whole_as leg (hearing_of first.settings) w.so.takes popped r.1)
+    let r = phase_all first.settings w.so.takes gave popped left all ends now.state w.so.phase in
+    (r.0, went_closed g (fault_in gave) first.arrivals now.arrivals w.so.takes w.so.went r.0, whole_as leg (hearing_of first.settings) w.so.takes popped r.1)

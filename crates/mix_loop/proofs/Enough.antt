@@ -1,8 +1,9 @@
 -- What was said in items.
 use Rattle.std.proofs.Common.{◌≡◌, ◌≤◌, ℕ, ◌+◌, true, false, List, [], ◌∷◌, ◌++◌, ◌||◌, refl, ap, ◌∙◌, arith}
 use Rattle.std.specs.Prelude.{Bool}
-use Rattle.live_leg.specs.Items.{Item, has_fault, signals_in}
-use Rattle.live_leg.proofs.Texts.{fault_append}
+use Rattle.live_leg.specs.LinkLegs.{Item, has_fault}
+use Rattle.live_leg.specs.Items.{signals_in}
+use Rattle.live_leg.proofs.Pacing.{fault_append}
 use Rattle.mix_loop.specs.Handed.{HasSignals, IsEnough, has_end, is_end}
 
 pub signals_append : (xs ys : List Item) → signals_in (xs ++ ys) ≡ signals_in xs + signals_in ys

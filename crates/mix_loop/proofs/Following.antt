@@ -17,7 +17,8 @@ use Rattle.mixer_spec.proofs.Legs.{come_taken}
 use Rattle.stream_spec.specs.Links.{Takes, is_closed}
 use Rattle.live_spec.specs.Told.{Hearing}
 use Rattle.live_spec.specs.Live.{AllMayTurn, AllSeated, AreLive, IsOver, IsUpToDate, Live, MayTurn, at_last, but_last, first_takes, is_blocked, is_held_back, live_chunks}
-use Rattle.live_leg.specs.Items.{Item, signals_in, texts_in}
+use Rattle.live_leg.specs.LinkLegs.{Item}
+use Rattle.live_leg.specs.Items.{signals_in, texts_in}
 use Rattle.live_leg.proofs.Texts.{texts_append}
 use Rattle.mix_loop.specs.Handed.{AllFreshAt, AreLiveCalls, IsFreshAt, hand_after, is_blocked_after}
 use Rattle.mix_loop.proofs.LiveOffering.{hand_kept, hand_taken, took_kept, took_taken}

@@ -10,7 +10,8 @@ use Rattle.mixer_spec.specs.Calls.{took}
 use Rattle.mixer_spec.specs.Legs.{held}
 use Rattle.mixer_spec.proofs.Lists.{set_same}
 use Rattle.mixer_spec.proofs.Legs.{chunks_more}
-use Rattle.live_leg.specs.Items.{Item, signals_in, texts_in}
+use Rattle.live_leg.specs.LinkLegs.{Item}
+use Rattle.live_leg.specs.Items.{signals_in, texts_in}
 use Rattle.live_leg.proofs.Texts.{texts_append}
 use Rattle.live_spec.specs.Live.{is_held_back}
 use Rattle.mix_loop.specs.declared.live_ports.LivePort.{LivePort}

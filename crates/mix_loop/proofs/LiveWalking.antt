@@ -11,7 +11,8 @@ use Rattle.mixer_spec.specs.Calls.{turns_made}
 use Rattle.mix_loop.specs.Mixers.{TellsIdle, Turns}
 use Rattle.mix_loop.proofs.Lists.{get_set_other, get_set_same, get_within}
 use Rattle.live_spec.specs.Live.{AllSeated, at_last}
-use Rattle.live_leg.specs.Items.{Item, signals_in}
+use Rattle.live_leg.specs.LinkLegs.{Item}
+use Rattle.live_leg.specs.Items.{signals_in}
 use Rattle.mix_loop.specs.declared.live_ports.LivePort.{LivePort}
 use Rattle.mix_loop.specs.Clocks.{AtTicks, RiseTo, moments_of}
 use Rattle.mix_loop.specs.Order.{SameTurns}

@@ -7,7 +7,7 @@ use Rattle.mixer_spec.specs.Setups.{Setup}
 use Rattle.mixer_spec.specs.Table.{Call, Offer, Table, after_calls, chunks_taken, given, has_room, is_given, offered}
 use Rattle.mixer_spec.specs.Calls.{took}
 use Rattle.mixer_spec.proofs.Lists.{set_other}
-use Rattle.live_leg.specs.Items.{Item}
+use Rattle.live_leg.specs.LinkLegs.{Item}
 use Rattle.live_spec.specs.Live.{is_held_back}
 use Rattle.mix_loop.specs.declared.live_ports.LivePort.{LivePort}
 use Rattle.mix_loop.specs.Handed.{hand_after, is_blocked_after}

@@ -8,7 +8,8 @@ use Rattle.mixer_spec.specs.Table.{Call, Offer, after_calls, has_room}
 use Rattle.mixer_spec.specs.Calls.{took}
 use Rattle.mixer_spec.specs.Legs.{held}
 use Rattle.live_leg.specs.Items as item
-use Rattle.live_leg.specs.Items.{Item, signals_in, text_in, texts_in}
+use Rattle.live_leg.specs.LinkLegs.{Item}
+use Rattle.live_leg.specs.Items.{signals_in, text_in, texts_in}
 use Rattle.live_leg.proofs.Texts.{texts_append, texts_same}
 use Rattle.mix_loop.specs.declared.live_ports.LivePort.{LivePort}
 use Rattle.mix_loop.specs.Handed.{HasSignals, IsNext, hand_after, has_end, is_end}
@@ -22,8 +23,7 @@ text_goes i (item.Text ready octets) c e = refl
 text_goes i item.Seen c e = refl
 text_goes i item.Silent c e = refl
 text_goes i item.End c e = absurd (cc e)
-text_goes i item.Quit c e = refl
-text_goes i item.Fault c e = refl
+text_goes i (item.Fault why) c e = refl
 
 module _ {I : Type 0} (popped : I → List Item) (s : Setup) (calls : List Call) (i n : ℕ) where
   pub none_in : (p : LivePort I) → p.full ≡ false → hand_of p ≡ None

@@ -11,7 +11,8 @@ use Rattle.mixer_spec.specs.Table.{Call, after_calls}
 use Rattle.mixer_spec.specs.Calls.{took}
 use Rattle.mixer_spec.specs.Legs.{held}
 use Rattle.stream_spec.specs.Links.{Takes}
-use Rattle.live_leg.specs.Items.{Item, texts_in}
+use Rattle.live_leg.specs.LinkLegs.{Item}
+use Rattle.live_leg.specs.Items.{texts_in}
 use Rattle.live_leg.proofs.Texts.{texts_append}
 use Rattle.mix_loop.specs.declared.live_ports.LivePort.{LivePort}
 use Rattle.mix_loop.specs.Handed.{has_end}

@@ -14,9 +14,9 @@ use Rattle.link_io.specs.declared.ends.LinkIn as links
 use Rattle.stream_spec.specs.Links.{Takes}
 use Rattle.live_spec.specs.Told.{Hearing, all_by}
 use Rattle.live_spec.specs.Live.{IsOver, Live, at_last, but_last, live_chunks}
-use Rattle.live_leg.specs.declared.items.LegItem.{LegItem}
-use Rattle.live_leg.specs.declared.legs.LinkLeg.{LinkLeg}
-use Rattle.live_leg.specs.Items.{Item, items_of, signals_in, texts_in}
+use Rattle.live_leg.specs.LinkLegs.{Item, LinkItem, LinkLeg}
+use Rattle.live_leg.specs.Items.{fault_in, items_of, signals_in, texts_in}
+use Rattle.live_leg.proofs.Pacing.{went_taken}
 use Rattle.live_leg.proofs.Texts.{items_append, texts_append}
 use Rattle.workers.specs.declared.lanes.Worker.{Worker}
 use Rattle.workers.specs.Lanes.{popped_of}
@@ -31,10 +31,10 @@ use Rattle.mix_loop.proofs.Covering.{covers, covers_by}
 use Rattle.mix_loop.proofs.CallFinding.{closed_by_more, closed_ends}
 use Rattle.mix_loop.proofs.Following.{runs_to}
 
-pub answered : {L G : Type 0} (g : links.Ghosts L) (first back : LinkLeg L) (started now : Worker LegItem (LinkLeg L) G) → IsJoined g first back started now → IsAnswered g first back now
+pub answered : {L G : Type 0} (g : links.Ghosts L) (first back : LinkLeg L) (started now : Worker LinkItem (LinkLeg L) G) → IsJoined g first back started now → IsAnswered g first back now
 answered g first back started now w =
     let c = w.comes first (w.runs first w.starts.runs) in
-    record { takes = c.1.so.takes; covers = λ leg. covers g leg first back (items_of (popped_of now ++ c.0)) (items_of (popped_of now)) (items_of c.0) c.1 (items_append (popped_of now) c.0); taken = c.1.so.taken }
+    record { takes = c.1.so.takes; covers = λ leg. covers g leg first back (items_of (popped_of now ++ c.0)) (items_of (popped_of now)) (items_of c.0) c.1 (items_append (popped_of now) c.0); taken = went_taken g (fault_in (items_of (popped_of now ++ c.0))) first.arrivals back.arrivals c.1.so.takes c.1.so.went }
 
 -- nothing was offered of what is no leg
 none_took : (s : Setup) (items : ℕ → List Item) (counts : List (ℕ → ℕ)) (calls : List Call) (i : ℕ) → AreLiveCalls s items counts calls → s.legs ≤ i → (took s i calls ≡ []) × (hand_after s i calls ≡ None)

@@ -5,7 +5,7 @@ use Rattle.mixer_spec.specs.Setups.{Setup}
 use Rattle.mixer_spec.specs.Table.{Call, Admit, Hush, Leave, Offer, Turn, after_calls}
 use Rattle.mixer_spec.specs.Calls.{IsAdmit}
 use Rattle.live_spec.specs.Live.{AllSeated}
-use Rattle.live_leg.specs.Items.{Item}
+use Rattle.live_leg.specs.LinkLegs.{Item}
 use Rattle.mix_loop.specs.declared.live_ports.LivePort.{LivePort}
 use Rattle.mix_loop.specs.Walks.{IsServing}
 

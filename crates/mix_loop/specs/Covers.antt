@@ -3,7 +3,8 @@ use Rattle.std.specs.Prelude.{◌≡◌, ℕ, List, ◌++◌}
 use Rattle.stream_spec.specs.Fronts.{IsFront}
 use Rattle.stream_spec.specs.Links.{Takes}
 use Rattle.live_spec.specs.Told.{Hearing, all_by}
-use Rattle.live_leg.specs.Items.{AreItems, Item, texts_in}
+use Rattle.live_leg.specs.LinkLegs.{Item}
+use Rattle.live_leg.specs.Items.{AreItems, texts_in}
 use Rattle.mix_loop.specs.Signals.{AreNoSignals, IsOpenBefore}
 
 -- the same, as of the leg with this number

@@ -6,7 +6,8 @@ use Rattle.mixer_spec.specs.Setups.{Setup}
 use Rattle.mixer_spec.specs.Table.{Call, Admit, Hush, Leave, Offer, Turn, after_calls, has_room, is_idle, is_seated}
 use Rattle.mixer_spec.specs.Calls.{IsAdmit, took}
 use Rattle.live_spec.specs.Live.{AllSeated, at_last, but_last, is_held_back, most_takes}
-use Rattle.live_leg.specs.Items.{Item, End, Silent, signals_in, texts_in}
+use Rattle.live_leg.specs.LinkLegs.{Item}
+use Rattle.live_leg.specs.Items.{End, Silent, signals_in, texts_in}
 
 -- the chunk that was offered last of the leg, where it was not taken
 abbrev pub hand_after : Setup → ℕ → List Call → Option Chunk

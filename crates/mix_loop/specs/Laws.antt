@@ -9,10 +9,8 @@ use Rattle.link_io.specs.declared.ends.LinkIn as links
 use Rattle.stream_spec.specs.Links.{Takes, is_closed}
 use Rattle.live_spec.specs.Told.{Hearing, all_by}
 use Rattle.live_spec.specs.Live.{Live}
-use Rattle.live_leg.specs.declared.items.LegItem.{LegItem}
-use Rattle.live_leg.specs.declared.legs.LinkLeg.{LinkLeg}
-use Rattle.live_leg.specs.Items.{Item, items_of, texts_in}
-use Rattle.live_leg.specs.Stands.{LegGave, LegStands}
+use Rattle.live_leg.specs.LinkLegs.{Item, LegGave, LegStands, LinkItem, LinkLeg}
+use Rattle.live_leg.specs.Items.{items_of, texts_in}
 use Rattle.live_leg.specs.Stories.{hearing_of}
 use Rattle.workers.specs.declared.lanes.Worker.{Worker}
 use Rattle.workers.specs.Lanes.{ComesBack, IsStarted, LaneFollows, popped_of}
@@ -39,20 +37,20 @@ LegsCover {L} g =
     → Covers (as_leg leg (hearing_of first.settings)) w.so.takes popped
 
 -- A leg that was started as `first`, ran, and came back.
-pub record IsJoined {L G : Type 0} (g : links.Ghosts L) (first back : LinkLeg L) (started now : Worker LegItem (LinkLeg L) G) : Type 0 where
+pub record IsJoined {L G : Type 0} (g : links.Ghosts L) (first back : LinkLeg L) (started now : Worker LinkItem (LinkLeg L) G) : Type 0 where
   pub starts : IsStarted (LegGave g) first started
   pub runs : LaneFollows (LegGave g) started now
   pub comes : ComesBack (LegGave g) now back
 
 -- What its link gave covers what was popped of it, whichever number the leg has; where links tell it, that is what the inbound end has taken since.
-pub record IsAnswered {L G : Type 0} (g : links.Ghosts L) (first back : LinkLeg L) (now : Worker LegItem (LinkLeg L) G) : Type 0 where
+pub record IsAnswered {L G : Type 0} (g : links.Ghosts L) (first back : LinkLeg L) (now : Worker LinkItem (LinkLeg L) G) : Type 0 where
   pub takes : Takes
   pub covers : (leg : ℕ) → Covers (as_leg leg (hearing_of first.settings)) takes (items_of (popped_of now))
-  pub taken : g.tells → g.taken back.link ≡ takes ++ g.taken first.link
+  pub taken : g.tells → g.taken back.arrivals.link ≡ takes ++ g.taken first.arrivals.link
 
 abbrev pub ServedAreAnswered : {L : Type 0} (G : Type 0) → links.Ghosts L → Type 0
 ServedAreAnswered {L} G g =
-    (first back : LinkLeg L) (started now : Worker LegItem (LinkLeg L) G) → IsJoined g first back started now → IsAnswered g first back now
+    (first back : LinkLeg L) (started now : Worker LinkItem (LinkLeg L) G) → IsJoined g first back started now → IsAnswered g first back now
 
 -- Whatever turns were made of ports whose legs' links gave this, they are a live run.
 abbrev pub ServingIsLive : {I M : Type 0} → (I → List Item) → (M → Setup → (ℕ → PayloadTypes) → List Call → Type 0) → Type 0
@@ -70,7 +68,7 @@ EndIsAll {L} g =
     (leg : ℕ) (first now : LinkLeg L) (gave popped left : List Item) (w : LegStands g first now gave)
     → gave ≡ popped ++ left
     → has_end popped ≡ true
-    → (is_closed w.so.takes ≡ true) × (g.closed now.link ≡ true) × (texts_in leg popped ≡ all_by (as_leg leg (hearing_of first.settings)) w.so.takes)
+    → (is_closed w.so.takes ≡ true) × (g.closed now.arrivals.link ≡ true) × (texts_in leg popped ≡ all_by (as_leg leg (hearing_of first.settings)) w.so.takes)
 
 -- Of items that are covered and have the end the link is closed, and their texts are all that is heard.
 abbrev pub EndIsCovered : Type 0

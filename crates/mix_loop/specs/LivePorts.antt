@@ -6,7 +6,9 @@ use Rattle.mixer_spec.specs.Table.{Call, Offer}
 use Rattle.mixer_spec.specs.Calls.{took}
 use Rattle.mixer_spec.specs.Legs.{held}
 use Rattle.live_leg.specs.Items as item
-use Rattle.live_leg.specs.Items.{Item, has_fault, text_in, texts_in}
+use Rattle.live_leg.specs.declared.paced_links.LinkStop.TheVariants.{Failed, Told}
+use Rattle.live_leg.specs.LinkLegs.{Item, has_fault}
+use Rattle.live_leg.specs.Items.{text_in, texts_in}
 use Rattle.mix_loop.specs.Addresses.{Address}
 use Rattle.mix_loop.specs.Mixers.{Keeps}
 use Rattle.mix_loop.specs.declared.live_offers.StepAnswer.{StepAnswer}
@@ -98,8 +100,8 @@ module _ {I : Type 0} where
   Pulls popped old new Seen = PullsSignal popped old new item.Seen old.ended old.failed
   Pulls popped old new Silent = PullsSignal popped old new item.Silent old.ended old.failed
   Pulls popped old new End = PullsSignal popped old new item.End true old.failed
-  Pulls popped old new Fault = PullsSignal popped old new item.Fault old.ended true
-  Pulls popped old new Quit = PullsSignal popped old new item.Quit old.ended old.failed
+  Pulls popped old new Fault = PullsSignal popped old new (item.Fault Failed) old.ended true
+  Pulls popped old new Quit = PullsSignal popped old new (item.Fault Told) old.ended old.failed
   Pulls popped old new Nothing = PullsNothing popped old new
 
   -- From these calls on: offers of the leg i were made, and it said n times that all was given.

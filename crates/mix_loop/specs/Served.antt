@@ -6,7 +6,7 @@ use Rattle.file_spec.specs.Conference.{Conference}
 use Rattle.mixer_spec.specs.Setups.{Setup, leg_at, setup}
 use Rattle.mixer_spec.specs.Table.{Call, after_calls}
 use Rattle.stream_spec.specs.Links.{Takes}
-use Rattle.live_leg.specs.Items.{Item}
+use Rattle.live_leg.specs.LinkLegs.{Item}
 use Rattle.mix_loop.specs.declared.live_ports.LivePort.{LivePort}
 use Rattle.mix_loop.specs.Walks.{BrokenTo, ClosedTo, DoneTo}
 use Rattle.live_spec.specs.Served.{Broken, Closed, Done, IsServed, given_to, hearing_at, live_printed}

@@ -1,7 +1,8 @@
 -- Items none of which says that all was given, and which takes closed a link.
 use Rattle.std.specs.Prelude.{◌≡◌, false, List, [], ◌∷◌}
 use Rattle.stream_spec.specs.Links.{Takes, is_closed}
-use Rattle.live_leg.specs.Items.{Item, is_signal}
+use Rattle.live_leg.specs.LinkLegs.{Item}
+use Rattle.live_leg.specs.Items.{is_signal}
 
 abbrev pub AreNoSignals : List Item → Type 0
 AreNoSignals [] = Unit {0}

@@ -7,7 +7,7 @@ use Rattle.mixer_spec.specs.Setups.{Setup}
 use Rattle.mixer_spec.specs.Table.{Call, after_calls, is_idle}
 use Rattle.mixer_spec.specs.Calls.{turns_made}
 use Rattle.live_spec.specs.Live.{AllSeated, at_last}
-use Rattle.live_leg.specs.Items.{Item}
+use Rattle.live_leg.specs.LinkLegs.{Item}
 use Rattle.mix_loop.specs.declared.live_ports.LivePort.{LivePort}
 use Rattle.mix_loop.specs.declared.live_turns.TurnsEnd.{TurnsEnd}
 use Rattle.mix_loop.specs.declared.live_turns.TurnsEnd.TheVariants.{Done, Closed, Faulted, Stopped}

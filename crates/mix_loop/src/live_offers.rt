@@ -7,7 +7,7 @@ ghost use Rattle.mix_loop.specs.LivePorts.{Advances, Gathered, Grew, IsBegun, On
 use crate::MixerCalls;
 use crate::live_ports::LivePort;
 use crate::pops::Consumer;
-use live_leg::ItemKind;
+use live_leg::{ItemKind, LinkStop};
 use rtt_base::Chunk;
 use std::sync::Wait;
 
@@ -114,8 +114,8 @@ impl<I: Consumer> LivePort<I> {
                 self.ended = true;
                 PopAnswer::End
             }
-            Some(ItemKind::Quit) => PopAnswer::Quit,
-            Some(ItemKind::Fault) => {
+            Some(ItemKind::Fault(LinkStop::Told)) => PopAnswer::Quit,
+            Some(ItemKind::Fault(LinkStop::Failed)) => {
                 self.failed = true;
                 PopAnswer::Fault
             }

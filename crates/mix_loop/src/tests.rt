@@ -1,12 +1,12 @@
 ghost use Rattle.std.specs.Prelude.{◌≡◌, ◌<◌, [], suc, length, vec_len, IfSome};
 ghost use Rattle.std.specs.Vec.{vec_capacity};
 ghost use Rattle.workers.specs.Lanes.{AreNew};
-ghost use Rattle.live_leg.specs.Stands.{LegGave, LegStands};
+ghost use Rattle.live_leg.specs.LinkLegs.{LegGave, LegStands};
 ghost use Rattle.mix_loop.specs.Walks.{AreAt};
 
 use crate::{LivePort, MixerCalls, TurnsEnd, drain_all, live_inlets_of, ports_over, take_turns};
 use link_io::{Beat, Came, LinkIn, Links, MemIn, MemLinks, PlannedTake};
-use live_leg::{LegItem, LegSettings, LinkLeg};
+use live_leg::{Leg, LegSettings, LinkItem, LinkLeg, PacedLink};
 use receiver::EarSettings;
 use rtt_base::{Bytes, Chunk, Full, NoMemory, PayloadTypes};
 use rtt_io::StillGate;
@@ -117,7 +117,7 @@ fn link(alloc: Global, count: u16, closes: bool) -> Result<MemIn, NoMemory> {
     Ok(link)
 }
 
-type AnnLane = Worker<LegItem, LinkLeg<MemIn>, StillGate>;
+type AnnLane = Worker<LinkItem, LinkLeg<MemIn>, StillGate>;
 
 type AnnPort = LivePort<AnnLane>;
 
@@ -179,7 +179,7 @@ fn ann(alloc: Global, link: MemIn, stop: &Arc<AtomicBool, Global>) -> Option<Vec
     let Ok(theirs) = Arc::try_clone(stop) else {
         return None;
     };
-    let Ok(leg) = LinkLeg::new(alloc, link, ANN, 100, theirs) else {
+    let Ok(leg) = Leg::new(alloc, PacedLink::new(link, 100, theirs), ANN) else {
         return None;
     };
     alone(alloc, leg)

@@ -25,13 +25,12 @@ use Rattle.view_spec.specs.declared.tallies.Tally.{Tally}
 use Rattle.live_spec.specs.Tally.{tally_by}
 use Rattle.workers.specs.declared.lanes.Worker.{Worker}
 use Rattle.workers.specs.Lanes.{AreNew}
-use Rattle.live_leg.specs.declared.items.LegItem.{LegItem}
-use Rattle.live_leg.specs.declared.legs.LinkLeg.{LinkLeg}
-use Rattle.live_leg.specs.Items.{has_fault}
-use Rattle.live_leg.specs.Stands.{LegGave}
+use Rattle.live_leg.specs.LinkLegs.{LegGave, LinkItem, LinkLeg, has_fault}
 use Rattle.live_leg.specs.declared.tallies.LegTally.{LegTally}
 use Rattle.live_leg.specs.Tallies.{IsTally}
+use Rattle.live_leg.specs.Items.{fault_in}
 use Rattle.live_leg.specs.Stories.{hearing_of}
+use Rattle.live_leg.proofs.Pacing.{went_port, went_taken}
 use Rattle.mix_loop.specs.declared.clocks.TurnClock as clocks
 use Rattle.mix_loop.specs.declared.live_ports.LivePort.{LivePort}
 use Rattle.mix_loop.specs.declared.live_turns.TurnsEnd.{TurnsEnd}
@@ -120,14 +119,14 @@ hearing_line c j line at =
     ap hears at
 
 -- ---- legs that were opened as the first, gave what was popped at these ports, and came back
-module _ {I G : Type 0} (i : ins.Ghosts I) (tells : Type 0) (opened : ℕ → Bool) (c : Conference) (firsts backs : List (LinkLeg I)) (ports : List (LivePort (Worker LegItem (LinkLeg I) G))) (are : OpenLegs i tells opened c firsts)
+module _ {I G : Type 0} (i : ins.Ghosts I) (tells : Type 0) (opened : ℕ → Bool) (c : Conference) (firsts backs : List (LinkLeg I)) (ports : List (LivePort (Worker LinkItem (LinkLeg I) G))) (are : OpenLegs i tells opened c firsts)
     (many : length firsts ≡ length c.legs) (many_ports : length ports ≡ length firsts) (many_backs : length backs ≡ length firsts)
-    (gave : (j : ℕ) (p : LivePort (Worker LegItem (LinkLeg I) G)) (first back : LinkLeg I) → slice_get ports j ≡ Some p → slice_get firsts j ≡ Some first → slice_get backs j ≡ Some back → GaveFirst i first back (popped_in p.inlet)) where
+    (gave : (j : ℕ) (p : LivePort (Worker LinkItem (LinkLeg I) G)) (first back : LinkLeg I) → slice_get ports j ≡ Some p → slice_get firsts j ≡ Some first → slice_get backs j ≡ Some back → GaveFirst i first back (popped_in p.inlet)) where
   -- the link of the leg j gave this, by which what was popped is the first of what the leg gives
   record TookAt (j : ℕ) (takes : Takes) : Type 0 where
-    pub covering : (p : LivePort (Worker LegItem (LinkLeg I) G)) → slice_get ports j ≡ Some p → Covers (hearing_at c j) takes (popped_in p.inlet)
-    pub taken : tells → (back : LinkLeg I) → slice_get backs j ≡ Some back → i.taken back.link ≡ takes
-    pub calm : is_closed takes ≡ true → (back : LinkLeg I) → slice_get backs j ≡ Some back → i.faults back.link ≡ 0
+    pub covering : (p : LivePort (Worker LinkItem (LinkLeg I) G)) → slice_get ports j ≡ Some p → Covers (hearing_at c j) takes (popped_in p.inlet)
+    pub taken : tells → (back : LinkLeg I) → slice_get backs j ≡ Some back → i.taken back.arrivals.link ≡ takes
+    pub calm : is_closed takes ≡ true → (back : LinkLeg I) → slice_get backs j ≡ Some back → i.faults back.arrivals.link ≡ 0
     pub tallied : (back : LinkLeg I) → slice_get backs j ≡ Some back → IsTally back.tally (tally_by (hearing_at c j) takes)
 
   took_at : (j : ℕ) → j < length c.legs → (takes : Takes) × TookAt j takes
@@ -143,13 +142,13 @@ module _ {I G : Type 0} (i : ins.Ghosts I) (tells : Type 0) (opened : ℕ → Bo
       let here : Covers (hearing_at c j) takes (popped_in p.0.inlet) = subst (λ (h : Hearing). Covers h takes (popped_in p.0.inlet)) hears (covers i j first.0 back.0 (popped_in p.0.inlet ++ w.0) (popped_in p.0.inlet) w.0 w.1 refl) in (
         takes,
         record {
-          covering = λ q e. let same : p.0 ≡ q = cc (sym p.1 ∙ e) in subst (λ (x : LivePort (Worker LegItem (LinkLeg I) G)). Covers (hearing_at c j) takes (popped_in x.inlet)) same here;
+          covering = λ q e. let same : p.0 ≡ q = cc (sym p.1 ∙ e) in subst (λ (x : LivePort (Worker LinkItem (LinkLeg I) G)). Covers (hearing_at c j) takes (popped_in x.inlet)) same here;
           taken = λ t x e.
               let same : back.0 ≡ x = cc (sym back.1 ∙ e) in
-              subst (λ (b : LinkLeg I). i.taken b.link ≡ takes) same (w.1.so.taken (o.told t).0 ∙ (ap (λ (ts : Takes). takes ++ ts) (o.told t).1 ∙ append-nil takes));
+              subst (λ (b : LinkLeg I). i.taken b.arrivals.link ≡ takes) same (went_taken i (fault_in (popped_in p.0.inlet ++ w.0)) first.0.arrivals back.0.arrivals takes w.1.so.went (o.told t).0 ∙ (ap (λ (ts : Takes). takes ++ ts) (o.told t).1 ∙ append-nil takes));
           calm = λ closed x e.
               let same : back.0 ≡ x = cc (sym back.1 ∙ e) in
-              subst (λ (b : LinkLeg I). i.faults b.link ≡ 0) same (closed_calm i first.0 back.0 (popped_in p.0.inlet ++ w.0) w.1 closed ∙ o.fresh);
+              subst (λ (b : LinkLeg I). i.faults b.arrivals.link ≡ 0) same (closed_calm i first.0 back.0 (popped_in p.0.inlet ++ w.0) w.1 closed ∙ o.fresh);
           tallied = λ x e.
               let same : back.0 ≡ x = cc (sym back.1 ∙ e) in
               subst (λ (b : LinkLeg I). IsTally b.tally (tally_by (hearing_at c j) takes)) same
@@ -168,25 +167,25 @@ module _ {I G : Type 0} (i : ins.Ghosts I) (tells : Type 0) (opened : ℕ → Bo
       let p = some_there ports j (omega (arith, low, many_ports, many_backs)) in
       let w = gave j p.0 first.0 back p.1 first.1 there in
       let o = are j first.0 first.1 line at in
-      o.at ∙ ap Some (sym w.1.so.port)
+      o.at ∙ ap Some (sym (went_port i (fault_in (popped_in p.0.inlet ++ w.0)) first.0.arrivals back.arrivals w.1.so.takes w.1.so.went))
 
   -- and links are open there
   pub ports_open : tells → AtPorts c opened (λ j. true)
   ports_open t j line p at e =
       let first = some_there firsts j (let low = leg_within c.legs j line at in omega (arith, low, many)) in
       let o = are j first.0 first.1 line at in
-      let same : i.port first.0.link ≡ p = cc (sym o.at ∙ e) in
+      let same : i.port first.0.arrivals.link ≡ p = cc (sym o.at ∙ e) in
       subst (λ (q : ℕ). opened q ≡ true) same (o.told t).2
 
   -- where a fault was popped of one, its link failed
-  pub fault_at : (j : ℕ) (p : LivePort (Worker LegItem (LinkLeg I) G)) → slice_get ports j ≡ Some p → has_fault (popped_in p.inlet) ≡ true → FailedAt (λ (leg : LinkLeg I). i.faults (link_in leg)) backs j
+  pub fault_at : (j : ℕ) (p : LivePort (Worker LinkItem (LinkLeg I) G)) → slice_get ports j ≡ Some p → has_fault (popped_in p.inlet) ≡ true → FailedAt (λ (leg : LinkLeg I). i.faults (link_in leg)) backs j
   fault_at j p there fault =
       let low = slice_get_within ports j p there in
       let line = some_leg c.legs j (omega (arith, low, many, many_ports)) in
       let first = some_there firsts j (omega (arith, low, many_ports)) in
       let back = some_there backs j (omega (arith, low, many_ports, many_backs)) in
       let o = are j first.0 first.1 line.0 line.1 in
-      (back.0, back.1, subst (λ (n : ℕ). Rose n (i.faults back.0.link)) o.fresh (fault_rose i first.0 back.0 (popped_in p.inlet) (gave j p first.0 back.0 there first.1 back.1) fault))
+      (back.0, back.1, subst (λ (n : ℕ). Rose n (i.faults back.0.arrivals.link)) o.fresh (fault_rose i first.0 back.0 (popped_in p.inlet) (gave j p first.0 back.0 there first.1 back.1) fault))
 
   -- ---- the whole, by the calls of the mixer, and of the tap that was told of it and then showed all
   module _ {O T K : Type 0} (o : outs.Ghosts O K) (tells_out : tells → (j : ℕ) → j < length c.legs → o.tells) (stands : T → List Notice → Type 0) (m : TappedMixer (SendingState (FarEnds O)) T) (tap : T) (shows : Learns stands m.tap tap Shows) where
@@ -345,7 +344,7 @@ module _ {I G : Type 0} (i : ins.Ghosts I) (tells : Type 0) (opened : ℕ → Bo
     breaks known tick span same_tick tell (Stopped why) v = is_broken span (StandsPaced known tick span.first span.last (AreInTurn gives addresses span.pauses) (HaltsThen halts)) v v.serving.made.0.0
         (given_then v.serving.calls v.serving.made.0.0 v.serving.made.0.1) (at_ticks known tick span v.serving.calls same_tick tell v.serving.made.1 v.serving.made.2)
 
-    ends_as : (known : Type 0) (tick : ℕ) (span : Span) (same_tick : tick ≡ c.tick) (tell : tells → known) (failed : (j : ℕ) (p : LivePort (Worker LegItem (LinkLeg I) G)) → slice_get ports j ≡ Some p → p.failed ≡ true → has_fault (popped_in p.inlet) ≡ true) (t : TurnsEnd LiveFault)
+    ends_as : (known : Type 0) (tick : ℕ) (span : Span) (same_tick : tick ≡ c.tick) (tell : tells → known) (failed : (j : ℕ) (p : LivePort (Worker LinkItem (LinkLeg I) G)) → slice_get ports j ≡ Some p → p.failed ≡ true → has_fault (popped_in p.inlet) ≡ true) (t : TurnsEnd LiveFault)
         → RanTo popped_in t (StandsPaced known tick span.first span.last (AreInTurn gives addresses span.pauses) gives) (StandsPaced known tick span.first span.last (AreInTurn gives addresses span.pauses) (HaltsThen halts)) (setup c) (payload_types_at c) c.turns ports m → WasFaulted t ports → WasStopped (IsUnsentIn (λ (x : SendingState (FarEnds O)) (why : LiveFault). IsUnsent o.faults x.outbound why)) t m → m.short ≡ false
         → EndsAs i o (stands tap) tells c span backs far.links.items far.listeners.items t
     unfolding done_law closed_law
@@ -356,7 +355,7 @@ module _ {I G : Type 0} (i : ins.Ghosts I) (tells : Type 0) (opened : ℕ → Bo
     ends_as known tick span same_tick tell failed (Stopped NoMemory) v f s long = inl (let t : TurnsEnd LiveFault = Stopped NoMemory in breaks known tick span same_tick tell t v)
 
     -- or for want of memory, where the tap had none
-    pub ends_told : (known : Type 0) (tick : ℕ) (span : Span) (same_tick : tick ≡ c.tick) (tell : tells → known) (failed : (j : ℕ) (p : LivePort (Worker LegItem (LinkLeg I) G)) → slice_get ports j ≡ Some p → p.failed ≡ true → has_fault (popped_in p.inlet) ≡ true) (t : TurnsEnd LiveFault) (short : Bool)
+    pub ends_told : (known : Type 0) (tick : ℕ) (span : Span) (same_tick : tick ≡ c.tick) (tell : tells → known) (failed : (j : ℕ) (p : LivePort (Worker LinkItem (LinkLeg I) G)) → slice_get ports j ≡ Some p → p.failed ≡ true → has_fault (popped_in p.inlet) ≡ true) (t : TurnsEnd LiveFault) (short : Bool)
         → m.short ≡ short
         → RanTo popped_in t (StandsPaced known tick span.first span.last (AreInTurn gives addresses span.pauses) gives) (StandsPaced known tick span.first span.last (AreInTurn gives addresses span.pauses) (HaltsThen halts)) (setup c) (payload_types_at c) c.turns ports m → WasFaulted t ports → WasStopped (IsUnsentIn (λ (x : SendingState (FarEnds O)) (why : LiveFault). IsUnsent o.faults x.outbound why)) t m
         → EndsAs i o (stands tap) tells c span backs far.links.items far.listeners.items (ended_with short t)
@@ -397,7 +396,7 @@ not_called {I} {O} i o stands tells c span opened legs links called are_legs are
   are_open = λ t j line p at e.
       let first = some_there legs j (let low = leg_within c.legs j line at in omega (arith, low, many)) in
       let w = are_legs j first.0 first.1 line at in
-      let same : i.port first.0.link ≡ p = cc (sym w.at ∙ e) in
+      let same : i.port first.0.arrivals.link ≡ p = cc (sym w.at ∙ e) in
       subst (λ (q : ℕ). opened q ≡ true) same (w.told t).2;
   ended = subst (λ (t : TurnsEnd LiveFault). EndsAs i o stands tells c span called.legs.items called.ends.items called.listeners.items t) (sym turned)
       (inr (subst (λ (xs : List O). AreUnused o.given o.faults xs) (sym is_ends) (are_unused o tells c links are_ends many_ends)));

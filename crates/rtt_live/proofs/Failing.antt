@@ -1,18 +1,22 @@
 -- Where a leg said that its link failed, its link did; and none failed that was closed.
-use Rattle.std.proofs.Common.{◌≡◌, Bool, true, false, true≢false, inl, inr, List, [], ◌∷◌, ◌++◌, refl, ap, sym, ◌∙◌, subst}
+use Rattle.std.proofs.Common.{◌≡◌, Bool, true, false, true≢false, inl, inr, Option, None, Some, List, [], ◌∷◌, ◌++◌, refl, ap, sym, ◌∙◌, subst}
 use Rattle.std.specs.Prelude.{◌||◌}
 use Rattle.rtt_io.specs.Counts.{Rose}
-use Rattle.stream_spec.specs.Links.{Came, Datagram, Large, Quiet, Closed, Takes, is_closed}
+use Rattle.stream_spec.specs.Links.{Takes, is_closed}
 use Rattle.link_io.specs.declared.ends.LinkIn as links
 use Rattle.live_spec.specs.Told.{Hearing}
 use Rattle.mix_loop.proofs.CallOpening.{open_takes}
+use Rattle.live_leg.specs.declared.paced_links.LinkStop.{LinkStop}
+use Rattle.live_leg.specs.declared.paced_links.LinkStop.TheVariants.{Failed, Told}
 use Rattle.live_leg.specs.declared.states.State.{State}
 use Rattle.live_leg.specs.declared.states.State.TheVariants.{Idle, Giving, Blank, Parting, Ending, Over}
-use Rattle.live_leg.specs.declared.legs.LinkLeg.{LinkLeg}
-use Rattle.live_leg.specs.Items.{AreItems, AreTexts, Item, has_fault, is_fault, signal_of}
+use Rattle.live_leg.specs.LinkLegs.{Item, LegStands, LinkLeg, has_fault, is_fault, link_arrivals}
+use Rattle.live_leg.specs.Items.{fault_in}
 use Rattle.live_leg.specs.Items as item
-use Rattle.live_leg.specs.Stands.{Counts, IsGivingSome, LegStands, PhaseAt}
+use Rattle.live_leg.specs.Stands.{IsGivingSome, PhaseAt, Went}
 use Rattle.live_leg.specs.Stories.{hearing_of}
+use Rattle.live_leg.proofs.Pacing.{fault_append}
+use Rattle.live_leg.proofs.Texts.{fault_behind, items_calm, texts_calm}
 use Rattle.rtt_live.specs.Jobs.{GaveFirst}
 
 -- where one of the first items is a fault, one of all is
@@ -24,51 +28,62 @@ front_fault (x ∷ xs) ys e = go (is_fault x) e (front_fault xs ys)
     go true e f = refl
     go false e f = f e
 
-pub fault_rose : {L : Type 0} (g : links.Ghosts L) (first back : LinkLeg L) (popped : List Item) → GaveFirst g first back popped → has_fault popped ≡ true → Rose (g.faults first.link) (g.faults back.link)
-fault_rose g first back popped w e = subst (λ (b : Bool). Counts b (g.faults first.link) (g.faults back.link)) (front_fault popped w.0 e) w.1.so.counts
+none_fails : (xs : List Item) → fault_in xs ≡ None → has_fault xs ≡ false
+none_fails [] e = refl
+none_fails (item.Text ready octets ∷ xs) e = none_fails xs e
+none_fails (item.Seen ∷ xs) e = none_fails xs e
+none_fails (item.Silent ∷ xs) e = none_fails xs e
+none_fails (item.End ∷ xs) e = none_fails xs e
+none_fails (item.Fault why ∷ xs) e = absurd (cc e)
 
--- ---- a link that was closed
-both_calm : (xs ys : List Item) → has_fault xs ≡ false → has_fault ys ≡ false → has_fault (xs ++ ys) ≡ false
-both_calm [] ys e f = f
-both_calm (x ∷ xs) ys e f = go (is_fault x) e (λ h. both_calm xs ys h f)
+some_calm : (closing : Bool) (signal : Item) (h : Hearing) (takes : Takes) (items : List Item) → IsGivingSome closing signal h takes items → fault_in items ≡ None
+some_calm closing signal h takes items p = ap fault_in p.items_are ∙ (fault_behind p.before p.news (items_calm h p.past p.before p.are) ∙ texts_calm p.news p.texts)
+
+phase_calm : (st : State) (h : Hearing) (takes : Takes) (items : List Item) → PhaseAt st h takes items → is_closed takes ≡ true → fault_in items ≡ None
+phase_calm Idle h takes items p e = items_calm h takes items p.are
+phase_calm Giving h takes items p e = some_calm false item.Seen h takes items p
+phase_calm Blank h takes items p e = some_calm false item.Silent h takes items p
+phase_calm Parting h takes items p e = some_calm false item.Seen h takes items p
+phase_calm Ending h takes items p e = some_calm true item.End h takes items p
+phase_calm Over h takes items (inl p) e = items_calm h takes items p.are
+phase_calm Over h takes items (inr p) e = absurd (true≢false (sym e ∙ open_takes h takes p.open_still))
+
+-- a fault is the last item, and none of before is one
+last_failed : (x : Item) → (is_fault x || false) ≡ true → fault_in (x ∷ []) ≡ Some Failed
+last_failed (item.Text ready octets) e = absurd (true≢false (sym e))
+last_failed item.Seen e = absurd (true≢false (sym e))
+last_failed item.Silent e = absurd (true≢false (sym e))
+last_failed item.End e = absurd (true≢false (sym e))
+last_failed (item.Fault Failed) e = refl
+last_failed (item.Fault Told) e = absurd (true≢false (sym e))
+
+phase_failed : (st : State) (h : Hearing) (takes : Takes) (items : List Item) → PhaseAt st h takes items → has_fault items ≡ true → fault_in items ≡ Some Failed
+phase_failed st h takes items p e = go st p
   where
-    go : (b : Bool) → (b || has_fault xs) ≡ false → (has_fault xs ≡ false → has_fault (xs ++ ys) ≡ false) → (b || has_fault (xs ++ ys)) ≡ false
-    go true e h = absurd (true≢false e)
-    go false e h = h e
+    none : fault_in items ≡ None → fault_in items ≡ Some Failed
+    none n = absurd (true≢false (sym e ∙ none_fails items n))
 
-texts_calm : (xs : List Item) → AreTexts xs → has_fault xs ≡ false
-texts_calm [] a = refl
-texts_calm (item.Text r o ∷ xs) a = texts_calm xs a.1
-texts_calm (item.Seen ∷ xs) a = absurd (true≢false (sym a.0))
-texts_calm (item.Silent ∷ xs) a = absurd (true≢false (sym a.0))
-texts_calm (item.End ∷ xs) a = absurd (true≢false (sym a.0))
-texts_calm (item.Quit ∷ xs) a = absurd (true≢false (sym a.0))
-texts_calm (item.Fault ∷ xs) a = absurd (true≢false (sym a.0))
+    go : (st : State) → PhaseAt st h takes items → fault_in items ≡ Some Failed
+    go Idle q = none (items_calm h takes items q.are)
+    go Giving q = none (some_calm false item.Seen h takes items q)
+    go Blank q = none (some_calm false item.Silent h takes items q)
+    go Parting q = none (some_calm false item.Seen h takes items q)
+    go Ending q = none (some_calm true item.End h takes items q)
+    go Over (inl q) = none (items_calm h takes items q.are)
+    go Over (inr q) =
+        let calm = items_calm h takes q.before q.are in
+        let fails : (is_fault q.last || false) ≡ true = ap (λ (b : Bool). b || (is_fault q.last || false)) (sym (none_fails q.before calm)) ∙ (sym (fault_append q.before (q.last ∷ [])) ∙ (ap has_fault (sym q.items_are) ∙ e)) in
+        ap fault_in q.items_are ∙ (fault_behind q.before (q.last ∷ []) calm ∙ last_failed q.last fails)
 
-signal_calm : (came : Came) → has_fault (signal_of came ∷ []) ≡ false
-signal_calm (Datagram octets) = refl
-signal_calm Large = refl
-signal_calm Quiet = refl
-signal_calm Closed = refl
+module _ {L : Type 0} (g : links.Ghosts L) (first back : LinkLeg L) where
+  went_so : (o : Option LinkStop) (items : List Item) (w : LegStands g first back items) → fault_in items ≡ o → Went (link_arrivals g) o first.arrivals back.arrivals w.so.takes
+  went_so o items w e = subst (λ (x : Option LinkStop). Went (link_arrivals g) x first.arrivals back.arrivals w.so.takes) e w.so.went
 
-items_calm : (h : Hearing) (takes : Takes) (items : List Item) → AreItems h takes items → has_fault items ≡ false
-items_calm h [] items a = ap has_fault a
-items_calm h (t ∷ past) items a =
-    ap has_fault a.2 ∙ both_calm a.0 (a.1 ++ signal_of t.came ∷ []) (items_calm h past a.0 a.3) (both_calm a.1 (signal_of t.came ∷ []) (texts_calm a.1 a.4) (signal_calm t.came))
+  pub fault_rose : (popped : List Item) → GaveFirst g first back popped → has_fault popped ≡ true → Rose (g.faults first.arrivals.link) (g.faults back.arrivals.link)
+  fault_rose popped w e =
+      let items = popped ++ w.0 in
+      (went_so (Some Failed) items w.1 (phase_failed back.state (hearing_of first.settings) w.1.so.takes items w.1.so.phase (front_fault popped w.0 e))).counts
 
-some_calm : (closing : Bool) (signal : Item) (h : Hearing) (takes : Takes) (items : List Item) → IsGivingSome closing signal h takes items → has_fault items ≡ false
-some_calm closing signal h takes items p = ap has_fault p.items_are ∙ both_calm p.before p.news (items_calm h p.past p.before p.are) (texts_calm p.news p.texts)
-
-phase_calm : (st : State) (F : Type 0) (h : Hearing) (takes : Takes) (items : List Item) → PhaseAt st F h takes items → is_closed takes ≡ true → has_fault items ≡ false
-phase_calm Idle F h takes items p e = items_calm h takes items p.are
-phase_calm Giving F h takes items p e = some_calm false item.Seen h takes items p
-phase_calm Blank F h takes items p e = some_calm false item.Silent h takes items p
-phase_calm Parting F h takes items p e = some_calm false item.Seen h takes items p
-phase_calm Ending F h takes items p e = some_calm true item.End h takes items p
-phase_calm Over F h takes items (inl p) e = items_calm h takes items p.are
-phase_calm Over F h takes items (inr p) e = absurd (true≢false (sym e ∙ open_takes h takes p.open_still))
-
--- none of its takes failed
-pub closed_calm : {L : Type 0} (g : links.Ghosts L) (first back : LinkLeg L) (items : List Item) (w : LegStands g first back items) → is_closed w.so.takes ≡ true → g.faults back.link ≡ g.faults first.link
-closed_calm g first back items w e =
-    subst (λ (b : Bool). Counts b (g.faults first.link) (g.faults back.link)) (phase_calm back.state _ (hearing_of first.settings) w.so.takes items w.so.phase e) w.so.counts
+  -- none of its takes failed
+  pub closed_calm : (items : List Item) (w : LegStands g first back items) → is_closed w.so.takes ≡ true → g.faults back.arrivals.link ≡ g.faults first.arrivals.link
+  closed_calm items w e = (went_so None items w (phase_calm back.state (hearing_of first.settings) w.so.takes items w.so.phase e)).calm

@@ -10,10 +10,8 @@ use Rattle.workers.specs.Lanes.{AreBack, AreStarted, BeganWith, ComesBack, IsSta
 use Rattle.workers.specs.Pairs.{Pairs}
 use Rattle.workers.proofs.Matching.{is_there}
 use Rattle.link_io.specs.declared.ends.LinkIn as links
-use Rattle.live_leg.specs.declared.items.LegItem.{LegItem}
-use Rattle.live_leg.specs.declared.legs.LinkLeg.{LinkLeg}
-use Rattle.live_leg.specs.Items.{Item, has_fault, items_of}
-use Rattle.live_leg.specs.Stands.{LegGave, LegStands}
+use Rattle.live_leg.specs.LinkLegs.{Item, LegGave, LegStands, LinkItem, LinkLeg, has_fault}
+use Rattle.live_leg.specs.Items.{items_of}
 use Rattle.live_leg.proofs.Texts.{items_append}
 use Rattle.mix_loop.specs.declared.live_ports.LivePort.{LivePort}
 use Rattle.mix_loop.specs.Begun.{AreAdmits}
@@ -83,13 +81,13 @@ fault_popped popped began p q grew well none failed = elim (grew.fails failed) [
 
 -- ---- legs that come back
 module _ {L G : Type 0} (g : links.Ghosts L) where
-  pub gave_first : (first back : LinkLeg L) (begun joined : Worker LegItem (LinkLeg L) G) (p0 p1 p2 : LivePort (Worker LegItem (LinkLeg L) G))
+  pub gave_first : (first back : LinkLeg L) (begun joined : Worker LinkItem (LinkLeg L) G) (p0 p1 p2 : LivePort (Worker LinkItem (LinkLeg L) G))
       → IsStarted (LegGave g) first begun → IsPortOf begun p0 → Grew popped_in (LaneFollows (LegGave g)) p0 p1 → Grew popped_in (LaneFollows (LegGave g)) p1 p2
       → joined ≡ p2.inlet → ComesBack (LegGave g) joined back → GaveFirst g first back (popped_in p1.inlet)
   gave_first first back begun joined p0 p1 p2 started port grew emptied is comes =
       let runs = emptied.goes_on p0.inlet (grew.goes_on p0.inlet (λ f r. r)) in
-      let began : BeganWith (LegGave g) first p0.inlet = subst (λ (x : Worker LegItem (LinkLeg L) G). BeganWith (LegGave g) first x) (sym port.is) started.runs in
-      let c = comes first (subst (λ (x : Worker LegItem (LinkLeg L) G). BeganWith (LegGave g) first x) (sym is) (runs first began)) in
+      let began : BeganWith (LegGave g) first p0.inlet = subst (λ (x : Worker LinkItem (LinkLeg L) G). BeganWith (LegGave g) first x) (sym port.is) started.runs in
+      let c = comes first (subst (λ (x : Worker LinkItem (LinkLeg L) G). BeganWith (LegGave g) first x) (sym is) (runs first began)) in
       let items : items_of (popped_of joined ++ c.0) ≡ popped_in p1.inlet ++ (emptied.more ++ items_of c.0) =
       items_append (popped_of joined) c.0
       ∙ (ap (λ (xs : List Item). xs ++ items_of c.0) (ap popped_in is ∙ emptied.popped_are) ∙ append_assoc (popped_in p1.inlet) emptied.more (items_of c.0)) in
@@ -97,17 +95,17 @@ module _ {L G : Type 0} (g : links.Ghosts L) where
 
 module _ {L M G : Type 0} (g : links.Ghosts L) (stands : M → Setup → (ℕ → PayloadTypes) → List Call → Type 0) where
   -- nothing was popped of what is started
-  pub none_popped : (legs : List (LinkLeg L)) (lanes : List (Worker LegItem (LinkLeg L) G)) → AreStarted (LegGave g) legs lanes
-      → (j : ℕ) (x : Worker LegItem (LinkLeg L) G) → slice_get lanes j ≡ Some x → popped_in x ≡ []
+  pub none_popped : (legs : List (LinkLeg L)) (lanes : List (Worker LinkItem (LinkLeg L) G)) → AreStarted (LegGave g) legs lanes
+      → (j : ℕ) (x : Worker LinkItem (LinkLeg L) G) → slice_get lanes j ≡ Some x → popped_in x ≡ []
   none_popped legs lanes started j x e =
       let first = is_there legs j (let low = slice_get_within lanes j x e in let many = started.many in omega arith) in
       ap items_of (started.are j first.0 x first.1 e).none
 
   -- each leg gave first what was popped of it at the end of the turns
-  pub all_gave : {then halts : M → Setup → (ℕ → PayloadTypes) → List Call → Type 0} (turns : ℕ) (turned : TurnsEnd LiveFault) (legs back : List (LinkLeg L)) (lanes joined : List (Worker LegItem (LinkLeg L) G)) (ps new : List (LivePort (Worker LegItem (LinkLeg L) G))) (m m' : M)
+  pub all_gave : {then halts : M → Setup → (ℕ → PayloadTypes) → List Call → Type 0} (turns : ℕ) (turned : TurnsEnd LiveFault) (legs back : List (LinkLeg L)) (lanes joined : List (Worker LinkItem (LinkLeg L) G)) (ps new : List (LivePort (Worker LinkItem (LinkLeg L) G))) (m m' : M)
       → AreStarted (LegGave g) legs lanes → ArePortsOf lanes ps → (w : TurnsWere popped_in (LaneFollows (LegGave g)) stands then halts turns turned ps new m m')
       → Pairs IsInletOf new joined → AreBack (LegGave g) joined back
-      → (j : ℕ) (p : LivePort (Worker LegItem (LinkLeg L) G)) (first last : LinkLeg L) → slice_get w.ports j ≡ Some p → slice_get legs j ≡ Some first → slice_get back j ≡ Some last
+      → (j : ℕ) (p : LivePort (Worker LinkItem (LinkLeg L) G)) (first last : LinkLeg L) → slice_get w.ports j ≡ Some p → slice_get legs j ≡ Some first → slice_get back j ≡ Some last
       → GaveFirst g first last (popped_in p.inlet)
   all_gave turns turned legs back lanes joined ps new m m' started ports w inlets comes j p first last ep ef el =
       let lane = is_there lanes j (let low = slice_get_within legs j first ef in let many = started.many in omega arith) in
@@ -117,19 +115,19 @@ module _ {L M G : Type 0} (g : links.Ghosts L) (stands : M → Setup → (ℕ �
       let r = w.emptied j p ep in
       let lane2 = is_there joined j (let low = slice_get_within new j r.0 r.1 in let many = inlets.many in omega arith) in
       gave_first g first last lane.0 lane2.0 p0.0 p r.0 (started.are j first lane.0 ef lane.1) (ports.pairs.are j lane.0 p0.0 lane.1 p0.1)
-      (subst (λ (x : LivePort (Worker LegItem (LinkLeg L) G)). Grew popped_in (LaneFollows (LegGave g)) p0.0 x) same q.2) r.2 (inlets.are j r.0 lane2.0 r.1 lane2.1) (comes.are j lane2.0 last lane2.1 el)
+      (subst (λ (x : LivePort (Worker LinkItem (LinkLeg L) G)). Grew popped_in (LaneFollows (LegGave g)) p0.0 x) same q.2) r.2 (inlets.are j r.0 lane2.0 r.1 lane2.1) (comes.are j lane2.0 last lane2.1 el)
 
   -- a fault of which a port knows was popped there
-  pub all_failed : {then halts : M → Setup → (ℕ → PayloadTypes) → List Call → Type 0} (turns : ℕ) (turned : TurnsEnd LiveFault) (lanes : List (Worker LegItem (LinkLeg L) G)) (ps new : List (LivePort (Worker LegItem (LinkLeg L) G))) (m m' : M)
-      → ArePortsOf lanes ps → ((j : ℕ) (x : Worker LegItem (LinkLeg L) G) → slice_get lanes j ≡ Some x → popped_in x ≡ [])
+  pub all_failed : {then halts : M → Setup → (ℕ → PayloadTypes) → List Call → Type 0} (turns : ℕ) (turned : TurnsEnd LiveFault) (lanes : List (Worker LinkItem (LinkLeg L) G)) (ps new : List (LivePort (Worker LinkItem (LinkLeg L) G))) (m m' : M)
+      → ArePortsOf lanes ps → ((j : ℕ) (x : Worker LinkItem (LinkLeg L) G) → slice_get lanes j ≡ Some x → popped_in x ≡ [])
       → (w : TurnsWere popped_in (LaneFollows (LegGave g)) stands then halts turns turned ps new m m')
-      → (j : ℕ) (p : LivePort (Worker LegItem (LinkLeg L) G)) → slice_get w.ports j ≡ Some p → p.failed ≡ true → has_fault (popped_in p.inlet) ≡ true
+      → (j : ℕ) (p : LivePort (Worker LinkItem (LinkLeg L) G)) → slice_get w.ports j ≡ Some p → p.failed ≡ true → has_fault (popped_in p.inlet) ≡ true
   all_failed turns turned lanes ps new m m' ports none w j p ep failed =
       let p0 = is_there ps j (let low = slice_get_within w.ports j p ep in let many = w.many in omega (arith, low, many)) in
       let lane = is_there lanes j (let low = slice_get_within ps j p0.0 p0.1 in let many = ports.pairs.many in omega (arith, low, many)) in
       let q = w.grew j p0.0 p0.1 in
       let same : q.0 ≡ p = cc (q.1, ep) in
-      let grew : Grew popped_in (LaneFollows (LegGave g)) p0.0 p = subst (λ (x : LivePort (Worker LegItem (LinkLeg L) G)). Grew popped_in (LaneFollows (LegGave g)) p0.0 x) same q.2 in
+      let grew : Grew popped_in (LaneFollows (LegGave g)) p0.0 p = subst (λ (x : LivePort (Worker LinkItem (LinkLeg L) G)). Grew popped_in (LaneFollows (LegGave g)) p0.0 x) same q.2 in
       let begun = ports.pairs.are j lane.0 p0.0 lane.1 p0.1 in
       let first : popped_in p0.0.inlet ≡ [] = ap popped_in begun.is ∙ none j lane.0 lane.1 in
       fault_popped popped_in (LaneFollows (LegGave g)) p0.0 p grew begun.well first failed

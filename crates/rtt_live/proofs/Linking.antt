@@ -11,7 +11,7 @@ use Rattle.mixer_spec.specs.Setups.{leg_at}
 use Rattle.workers.proofs.Matching.{is_there}
 use Rattle.link_io.specs.declared.ends.LinkIn as ins
 use Rattle.link_io.specs.declared.ends.LinkOut as outs
-use Rattle.live_leg.specs.declared.legs.LinkLeg.{LinkLeg}
+use Rattle.live_leg.specs.LinkLegs.{LinkLeg}
 use Rattle.rtt_live.specs.declared.faults.LiveFault.{LiveFault}
 use Rattle.rtt_live.specs.declared.faults.LiveFault.TheVariants.{Link, NoMemory}
 use Rattle.rtt_live.specs.Opened.{AreCalm, AreEmptyAt, AreOpenBelow, IsNotOpened, IsRefusedAt, LeadsAll, LeadsFirst, LeadsOne, LeadsSome, OpenEnds, OpenLegs, OpensEnd, OpensLeg, link_of}
@@ -28,7 +28,7 @@ module _ {I : Type 0} (g : ins.Ghosts I) (tells : Type 0) (c : Conference) where
   leg_stays : (before after : ℕ → Bool) → (tells → (p : ℕ) → before p ≡ true → after p ≡ true) → (j : ℕ) (leg : LinkLeg I) → OpensLeg g tells before c j leg → OpensLeg g tells after c j leg
   leg_stays before after stay j leg o line at =
       let w = o line at in
-      record { settings = w.settings; new = w.new; at = w.at; fresh = w.fresh; told = λ t. let r = w.told t in (r.0, r.1, stay t (g.port leg.link) r.2) }
+      record { settings = w.settings; new = w.new; at = w.at; fresh = w.fresh; told = λ t. let r = w.told t in (r.0, r.1, stay t (g.port leg.arrivals.link) r.2) }
 
   -- none, and one more
   pub no_legs : (opened : ℕ → Bool) (legs : List (LinkLeg I)) → legs ≡ [] → OpenLegs g tells opened c legs
@@ -46,10 +46,10 @@ module _ {I : Type 0} (g : ins.Ghosts I) (tells : Type 0) (c : Conference) where
   open_below opened legs n len all t j line p low at there =
       let leg = is_there legs j (omega (arith, low, len)) in
       let w = all j leg.0 leg.1 line at in
-      let is : g.port leg.0.link ≡ p = cc (sym w.at ∙ there) in
+      let is : g.port leg.0.arrivals.link ≡ p = cc (sym w.at ∙ there) in
       subst (λ (q : ℕ). opened q ≡ true) is (w.told t).2
 
-  pub legs_calm : (opened : ℕ → Bool) (legs : List (LinkLeg I)) (n : ℕ) → length legs ≡ n → n ≤ length c.legs → OpenLegs g tells opened c legs → AreCalm (λ leg. g.faults leg.link) legs
+  pub legs_calm : (opened : ℕ → Bool) (legs : List (LinkLeg I)) (n : ℕ) → length legs ≡ n → n ≤ length c.legs → OpenLegs g tells opened c legs → AreCalm (λ leg. g.faults leg.arrivals.link) legs
   legs_calm opened legs n len few all j leg e =
       let low = slice_get_within legs j leg e in
       let line = some_leg c.legs j (omega (arith, low, len, few)) in

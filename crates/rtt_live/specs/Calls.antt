@@ -13,7 +13,7 @@ use Rattle.stream_spec.specs.Links.{Takes}
 use Rattle.link_io.specs.Given.{given_by, packets}
 use Rattle.link_io.specs.declared.ends.LinkIn as ins
 use Rattle.link_io.specs.declared.ends.LinkOut as outs
-use Rattle.live_leg.specs.declared.legs.LinkLeg.{LinkLeg}
+use Rattle.live_leg.specs.LinkLegs.{LinkLeg}
 use Rattle.live_leg.specs.declared.tallies.LegTally.{LegTally}
 use Rattle.mix_loop.specs.Clocks.{AtTicks, RiseTo, moments_of}
 use Rattle.mix_loop.specs.Order.{up_to_turn}
@@ -113,7 +113,7 @@ module _ {I O K : Type 0} (i : ins.Ghosts I) (o : outs.Ghosts O K) (tells : Type
     pub given : ℕ → List (List ℕ)
     pub served : IsServed c takes given Broken (live_printed c takes given Broken)
     pub now : ℕ
-    pub taken : tells → (j : ℕ) (leg : LinkLeg I) → slice_get legs j ≡ Some leg → i.taken leg.link ≡ takes j
+    pub taken : tells → (j : ℕ) (leg : LinkLeg I) → slice_get legs j ≡ Some leg → i.taken leg.arrivals.link ≡ takes j
     pub gave : tells → (j : ℕ) (link : O) (line : LegLine) → slice_get links j ≡ Some link → leg_at c.legs j ≡ Some line
         → IsCutShort c served.table now j line (packets_in o.given link)
     pub paced : tells → WasPaced c served.table span (at_link o.given links)
@@ -136,7 +136,7 @@ module _ {I O K : Type 0} (i : ins.Ghosts I) (o : outs.Ghosts O K) (stands : Lis
     pub many : length listeners ≡ length c.legs
     pub heard : (j : ℕ) (l : Listening) → slice_get listeners j ≡ Some l → HasHeard l (given j)
     pub tallied : AreTallies c takes (tallies_in legs)
-    pub taken : tells → (j : ℕ) (leg : LinkLeg I) → slice_get legs j ≡ Some leg → i.taken leg.link ≡ takes j
+    pub taken : tells → (j : ℕ) (leg : LinkLeg I) → slice_get legs j ≡ Some leg → i.taken leg.arrivals.link ≡ takes j
     pub gave : tells → (j : ℕ) (link : O) → slice_get links j ≡ Some link → packets_in o.given link ≡ given j
     pub told : WasTold stands c served.table
     pub paced : tells → WasPaced c served.table span (at_link o.given links)

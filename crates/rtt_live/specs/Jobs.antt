@@ -12,10 +12,8 @@ use Rattle.workers.specs.Pairs.{Pairs}
 use Rattle.workers.specs.Rooms.{HasRoom}
 use Rattle.link_io.specs.declared.ends.LinkIn as links
 use Rattle.mix_loop.specs.Addresses.{Address, AreWithin, ports_of}
-use Rattle.live_leg.specs.declared.items.LegItem.{LegItem}
-use Rattle.live_leg.specs.declared.legs.LinkLeg.{LinkLeg}
-use Rattle.live_leg.specs.Items.{Item, has_fault, items_of}
-use Rattle.live_leg.specs.Stands.{LegGave, LegStands}
+use Rattle.live_leg.specs.LinkLegs.{Item, LegGave, LegStands, LinkItem, LinkLeg, has_fault}
+use Rattle.live_leg.specs.Items.{items_of}
 use Rattle.mix_loop.specs.declared.clocks.TurnClock as clocks
 use Rattle.mix_loop.specs.declared.live_ports.LivePort.{LivePort}
 use Rattle.mix_loop.specs.declared.live_turns.TurnsEnd.{TurnsEnd}
@@ -57,7 +55,7 @@ pub record TurnsWere {I M : Type 0} (popped : I → List Item) (began : I → I 
 -- ---- the whole
 module _ {L G : Type 0} where
   -- what was popped of a leg that runs
-  abbrev pub popped_in : Worker LegItem (LinkLeg L) G → List Item
+  abbrev pub popped_in : Worker LinkItem (LinkLeg L) G → List Item
   popped_in lane = items_of (popped_of lane)
 
 module _ {L : Type 0} (g : links.Ghosts L) where
@@ -89,15 +87,15 @@ module _ {L M C G : Type 0} where
     pub passed : OnlyTimePassed k job.clock.now ended.clock.now
     pub many : length ended.legs.items ≡ length job.legs.items
     pub addresses_are : ports_of (addresses ended.mixer) ≡ ports_of (addresses job.mixer)
-    pub ports : List (LivePort (Worker LegItem (LinkLeg L) G))
+    pub ports : List (LivePort (Worker LinkItem (LinkLeg L) G))
     pub each : length ports ≡ length job.legs.items
-    pub legs : (j : ℕ) (p : LivePort (Worker LegItem (LinkLeg L) G)) (first back : LinkLeg L) → slice_get ports j ≡ Some p
+    pub legs : (j : ℕ) (p : LivePort (Worker LinkItem (LinkLeg L) G)) (first back : LinkLeg L) → slice_get ports j ≡ Some p
         → slice_get job.legs.items j ≡ Some first → slice_get ended.legs.items j ≡ Some back → GaveFirst g first back (popped_in p.inlet)
     pub ran : (s : Setup) (payload_types : ℕ → PayloadTypes) → s.legs ≡ length job.legs.items → AllStay s → stands job.mixer s payload_types (all_admitted s.legs)
         → RanTo popped_in ended.turned (StandsPaced k.tells job.tick (k.moment job.clock.now) (k.moment ended.clock.now) (AreInTurn stands addresses (k.pauses job.clock.now)) stands)
         (StandsPaced k.tells job.tick (k.moment job.clock.now) (k.moment ended.clock.now) (AreInTurn stands addresses (k.pauses job.clock.now)) (HaltsThen halted)) s payload_types job.turns ports ended.mixer
     pub faulted : WasFaulted ended.turned ports
-    pub failed : (j : ℕ) (p : LivePort (Worker LegItem (LinkLeg L) G)) → slice_get ports j ≡ Some p → p.failed ≡ true → has_fault (popped_in p.inlet) ≡ true
+    pub failed : (j : ℕ) (p : LivePort (Worker LinkItem (LinkLeg L) G)) → slice_get ports j ≡ Some p → p.failed ≡ true → has_fault (popped_in p.inlet) ≡ true
     pub stopped : WasStopped unsent ended.turned ended.mixer
     pub paced : k.tells → ended.turned ≡ Done → IsPaced job.turns job.tick (k.moment job.clock.now) (k.moment ended.clock.now)
     pub paused : ended.turned ≡ Done → IsPaused job.turns (k.pauses job.clock.now) (k.pauses ended.clock.now)

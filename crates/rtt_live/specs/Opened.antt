@@ -8,8 +8,7 @@ use Rattle.mixer_spec.specs.Setups.{leg_at}
 use Rattle.link_io.specs.declared.ends.LinkIn as ins
 use Rattle.link_io.specs.declared.ends.LinkOut as outs
 use Rattle.live_leg.specs.declared.settings.LegSettings.{LegSettings}
-use Rattle.live_leg.specs.declared.legs.LinkLeg.{LinkLeg}
-use Rattle.live_leg.specs.Stands.{LegStands}
+use Rattle.live_leg.specs.LinkLegs.{LegStands, LinkLeg}
 use Rattle.rtt_live.specs.declared.faults.LiveFault.{LiveFault}
 use Rattle.rtt_live.specs.declared.faults.LiveFault.TheVariants.{Link, NoMemory}
 
@@ -51,9 +50,9 @@ LeadsAll c old new = new ≡ old ++ map link_of c.legs
 pub record IsOpenedLeg {I : Type 0} (g : ins.Ghosts I) (tells : Type 0) (opened : ℕ → Bool) (c : Conference) (j : ℕ) (line : LegLine) (leg : LinkLeg I) : Type 0 where
   pub settings : leg.settings ≡ leg_settings_at c line
   pub new : LegStands g leg leg []
-  pub at : port line.input ≡ Some (g.port leg.link)
-  pub fresh : g.faults leg.link ≡ 0
-  pub told : tells → g.tells × (g.taken leg.link ≡ []) × (opened (g.port leg.link) ≡ true)
+  pub at : port line.input ≡ Some (g.port leg.arrivals.link)
+  pub fresh : g.faults leg.arrivals.link ≡ 0
+  pub told : tells → g.tells × (g.taken leg.arrivals.link ≡ []) × (opened (g.port leg.arrivals.link) ≡ true)
 
 -- the outbound end of its link, which was given nothing
 pub record IsOpenedEnd {O K : Type 0} (g : outs.Ghosts O K) (tells : Type 0) (line : LegLine) (end : O) : Type 0 where
@@ -109,7 +108,7 @@ IsNotOpened tells opened before after c NoMemory = Unit {0}
 -- ---- that were handed back
 -- the inbound end of a leg's link
 abbrev pub link_in : {I : Type 0} → LinkLeg I → I
-link_in leg = leg.link
+link_in leg = leg.arrivals.link
 
 module _ {X : Type 0} where
   -- none of these failed

@@ -6,7 +6,7 @@ use Rattle.view_spec.specs.declared.tallies.Tally.{Tally}
 use Rattle.view_spec.specs.Tallies.{tally_line}
 use Rattle.stream_spec.specs.Links.{Takes}
 use Rattle.live_spec.specs.Tally.{tally_by}
-use Rattle.live_leg.specs.declared.legs.LinkLeg.{LinkLeg}
+use Rattle.live_leg.specs.LinkLegs.{LinkLeg}
 use Rattle.live_leg.specs.declared.tallies.LegTally.{LegTally}
 use Rattle.live_leg.specs.Tallies.{IsTally}
 use Rattle.live_spec.specs.Served.{hearing_at}

@@ -8,7 +8,7 @@ ghost use Rattle.rtt_live.specs.Opened.{AreCalm, AreEmptyAt, AreStored, FaultsRo
 use crate::LiveFault;
 use file_spec::{Conference, LegLine};
 use link_io::{LinkIn, LinkOut, Links};
-use live_leg::{LegSettings, LinkLeg};
+use live_leg::{Leg, LegSettings, LinkLeg, PacedLink};
 use receiver::EarSettings;
 use rtt_base::NoMemory;
 use script_text::number_from;
@@ -53,7 +53,7 @@ pub(crate) fn close_legs<W: Links>(legs: Vec<LinkLeg<W::In>>, world: &mut W)
 {
     let mut legs = legs;
     while let Some(leg) = legs.pop() {
-        world.done_in(leg.into_link());
+        world.done_in(leg.into_arrivals().into_link());
     }
     legs.destroy_empty();
 }
@@ -117,10 +117,11 @@ fn open_link<W: Links>(
         return Err(LiveFault::Link { leg: own });
     };
     let tick = u64::from(conference.tick);
-    match LinkLeg::new(alloc, inbound, leg_settings(conference, leg), tick, stop) {
+    let arrivals = PacedLink::new(inbound, tick, stop);
+    match Leg::new(alloc, arrivals, leg_settings(conference, leg)) {
         Ok(leg) => Ok((leg, outbound)),
-        Err(inbound) => {
-            world.done_in(inbound);
+        Err(arrivals) => {
+            world.done_in(arrivals.into_link());
             world.done_out(outbound);
             Err(LiveFault::NoMemory)
         }

@@ -4,7 +4,7 @@ ghost use Rattle.rtt_live.specs.Rooms.{HasCallRoom, IsUnusedCall};
 
 use crate::threads::LegWorker;
 use link_io::LinkIn;
-use live_leg::{LegItem, LinkLeg};
+use live_leg::{LinkItem, LinkLeg};
 use mix_loop::LivePort;
 use rtt_base::NoMemory;
 use rtt_io::Gate;
@@ -13,7 +13,7 @@ use workers::WorkerRoom;
 
 /// All memory that the legs of a live call need to run.
 pub(crate) struct CallRoom<L: LinkIn, G: Gate> {
-    pub(crate) lanes: WorkerRoom<LegItem, LinkLeg<L>, G>,
+    pub(crate) lanes: WorkerRoom<LinkItem, LinkLeg<L>, G>,
     pub(crate) ports: Vec<LivePort<LegWorker<L, G>>>,
     pub(crate) joined: Vec<LegWorker<L, G>>,
 }

@@ -9,7 +9,7 @@ ghost use Rattle.rtt_live.specs.Jobs.{CanRun, LentCanRun, LentRanAs, RanAs, Turn
 
 use crate::LiveFault;
 use link_io::LinkIn;
-use live_leg::{LegItem, LinkLeg};
+use live_leg::{LinkItem, LinkLeg};
 use mix_loop::{
     Consumer, LivePort, MixerCalls, TurnClock, TurnsEnd, drain_all, live_inlets_of, ports_over,
     take_turns,
@@ -24,12 +24,12 @@ use std::thread::{Scope, Threads};
 use workers::{Worker, WorkerRoom, WorkerSet, join_lanes, lend, start_lanes};
 
 /// A leg that runs.
-pub(crate) type LegWorker<L, G> = Worker<LegItem, LinkLeg<L>, G>;
+pub(crate) type LegWorker<L, G> = Worker<LinkItem, LinkLeg<L>, G>;
 
 /// A live call that is to run, with all memory that it needs.
 pub(crate) struct CallJob<'w, L: LinkIn, M, C, G: Gate> {
     pub(crate) legs: Vec<LinkLeg<L>>,
-    pub(crate) lanes: WorkerRoom<LegItem, LinkLeg<L>, G>,
+    pub(crate) lanes: WorkerRoom<LinkItem, LinkLeg<L>, G>,
     pub(crate) ports: Vec<LivePort<LegWorker<L, G>>>,
     pub(crate) joined: Vec<LegWorker<L, G>>,
     pub(crate) mixer: M,

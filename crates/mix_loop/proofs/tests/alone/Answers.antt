@@ -1,8 +1,7 @@
 use Rattle.std.proofs.Common.{◌≡◌, ℕ, zero, suc, Some, List, [], ◌∷◌, subst, sym}
 use Rattle.workers.specs.Lanes.{AreNew}
 use Rattle.link_io.specs.declared.ends.LinkIn as ins
-use Rattle.live_leg.specs.declared.legs.LinkLeg.{LinkLeg}
-use Rattle.live_leg.specs.Stands.{LegGave, LegStands}
+use Rattle.live_leg.specs.LinkLegs.{LegGave, LegStands, LinkLeg}
 use Rattle.mix_loop.proofs.tests.alone.Goals as goal
 
 one_is_new : {L : Type 0} (g : ins.Ghosts L) (leg : LinkLeg L) → LegStands g leg leg [] → AreNew (LegGave g) (leg ∷ [])

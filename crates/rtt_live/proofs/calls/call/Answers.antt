@@ -3,7 +3,7 @@ use Rattle.std.specs.Prelude.{vec_len}
 use Rattle.std.specs.Global.{Vec}
 use Rattle.file_spec.specs.Conferences.{meaning_of}
 use Rattle.workers.specs.Rooms.{HasRoom}
-use Rattle.live_leg.specs.declared.legs.LinkLeg.{LinkLeg}
+use Rattle.live_leg.specs.LinkLegs.{LinkLeg}
 use Rattle.rtt_live.specs.declared.far_ends.FarEnds.{FarEnds}
 use Rattle.mix_loop.specs.Clocks.{IsPaced}
 use Rattle.mix_loop.specs.Walks.{IsPaused}

@@ -1,6 +1,7 @@
 use Rattle.std.proofs.Common.{◌≡◌, ◌≢◌, ℕ, true, inl, refl, ap, subst, ◌∙◌, arith}
 use Rattle.rtt_io.specs.Counts.{counted}
-use Rattle.live_leg.specs.declared.legs.LinkLeg.{LinkLeg}
+use Rattle.live_leg.specs.declared.paced_links.PacedLink.{PacedLink}
+use Rattle.live_leg.specs.LinkLegs.{LinkLeg}
 use Rattle.mixer_posts.proofs.Backward.{all_done, front_still, last_of_all}
 use Rattle.rtt_live.proofs.Closing.{failed_more, stored_more}
 use Rattle.rtt_live.proofs.open_links.close_legs.Goals as goal
@@ -10,8 +11,8 @@ loop-leg-init g c = record { same_own = λ p. refl; pauses = refl; moment = refl
 
 pub loop-leg-preserved : goal.loop-leg-preserved
 loop-leg-preserved g c =
-    let faults : LinkLeg g.row.W-In.Denot → _ = λ leg. g.W.In.LinkIn.faults leg.link in
-    let port_of : LinkLeg g.row.W-In.Denot → _ = λ leg. g.W.In.LinkIn.port leg.link in
+    let faults : LinkLeg g.row.W-In.Denot → _ = λ leg. g.W.In.LinkIn.faults leg.arrivals.link in
+    let port_of : LinkLeg g.row.W-In.Denot → _ = λ leg. g.W.In.LinkIn.port leg.arrivals.link in
     let objects = g.W.Links.object_faults in
     let i = c.loop-leg.invariant in
     let done = c.done_in.ensures in
@@ -20,7 +21,7 @@ loop-leg-preserved g c =
     let xs = c.pop.new.self.items in
     let x = c.in-Some.leg in
     let items = c.in-Some.ensures.items in
-    let link = c.into_link.ensures in
+    let link = c.into_link.ensures ∙ ap (λ (a : PacedLink g.row.W-In.Denot). a.link) c.into_arrivals.ensures in
     let added : objects c.done_in.new.self (port_of x) ≡ counted (objects c.loop-leg.world (port_of x)) (faults x) =
     subst (λ (s : g.row.W-In.Denot). objects c.done_in.new.self (g.W.In.LinkIn.port s) ≡ counted (objects c.loop-leg.world (g.W.In.LinkIn.port s)) (g.W.In.LinkIn.faults s)) link done.added in
     record {
@@ -35,11 +36,11 @@ loop-leg-preserved g c =
       leads = λ t. done.same_leads t ∙ i.leads t;
       other = λ t p. done.same_given t p ∙ i.other t p;
       stored = λ t own.
-          let at : g.W.Links.opened c.loop-leg.world (port_of x) ≡ true → g.W.Links.taken_at c.done_in.new.self (port_of x) ≡ g.W.In.LinkIn.taken x.link =
+          let at : g.W.Links.opened c.loop-leg.world (port_of x) ≡ true → g.W.Links.taken_at c.done_in.new.self (port_of x) ≡ g.W.In.LinkIn.taken x.arrivals.link =
           subst (λ (s : g.row.W-In.Denot). g.W.Links.opened c.loop-leg.world (g.W.In.LinkIn.port s) ≡ true → g.W.Links.taken_at c.done_in.new.self (g.W.In.LinkIn.port s) ≡ g.W.In.LinkIn.taken s) link (done.stored t) in
           let others : (p : ℕ) → p ≢ port_of x → g.W.Links.taken_at c.done_in.new.self p ≡ g.W.Links.taken_at c.loop-leg.world p =
           subst (λ (s : g.row.W-In.Denot). (p : ℕ) → p ≢ g.W.In.LinkIn.port s → g.W.Links.taken_at c.done_in.new.self p ≡ g.W.Links.taken_at c.loop-leg.world p) link (done.other_taken t) in
-          stored_more all now xs x items (λ (leg : LinkLeg g.row.W-In.Denot). g.W.In.LinkIn.taken leg.link) port_of (g.W.Links.opened c.args.world.now) (g.W.Links.opened c.loop-leg.world) (g.W.Links.taken_at c.loop-leg.world) (g.W.Links.taken_at c.done_in.new.self)
+          stored_more all now xs x items (λ (leg : LinkLeg g.row.W-In.Denot). g.W.In.LinkIn.taken leg.arrivals.link) port_of (g.W.Links.opened c.args.world.now) (g.W.Links.opened c.loop-leg.world) (g.W.Links.taken_at c.loop-leg.world) (g.W.Links.taken_at c.done_in.new.self)
           own (last_of_all all now xs x items i.front) (i.opened t (port_of x)) at others (i.stored t own);
     }
 

@@ -2,6 +2,7 @@ use Rattle.std.proofs.Common.{◌≡◌, ◌∙◌, ◌∷◌, ◌++◌, [], ℕ
 use Rattle.std.specs.Prelude.{IsSome}
 use Rattle.rtt_io.specs.Counts.{Rose}
 use Rattle.file_spec.specs.declared.conference_lines.LegLine.{LegLine}
+use Rattle.live_leg.specs.declared.paced_links.PacedLink.{PacedLink}
 use Rattle.file_spec.specs.Conference.{port}
 use Rattle.mixer_spec.specs.Setups.{leg_at}
 use Rattle.file_spec.specs.Conferences.{meaning_of}
@@ -34,9 +35,9 @@ pub returns-in-Ok-new-clause-leg : goal.returns-in-Ok-new-clause-leg
 returns-in-Ok-new-clause-leg g c = λ line at.
     let same = shown_leg c.as_slice.result.now c.args.conference.now.legs c.args.own c.index-as_slice-own.result line c.index-as_slice-own.is c.as_slice.ensures at in
     let there = ap port (sym c.as_str.ensures) ∙ (sym c.number_from.ensures.exact ∙ c.in-Some.is) in
-    let link = c.in-Ok-new.ensures.link in
+    let link = ap (λ (a : PacedLink g.row.W-In.Denot). a.link) c.in-Ok-new.ensures.arrivals ∙ c.new-arrivals.ensures.link in
     let opened = c.in-Ok-link.ensures in
-    let numbered : g.W.In.LinkIn.port c.in-Ok-new.leg.link ≡ c.in-Some.port = ap g.W.In.LinkIn.port link ∙ opened.ports.0 in
+    let numbered : g.W.In.LinkIn.port c.in-Ok-new.leg.arrivals.link ≡ c.in-Some.port = ap g.W.In.LinkIn.port link ∙ opened.ports.0 in
     record {
       settings = c.in-Ok-new.ensures.settings ∙ (c.leg_settings.ensures ∙ ap (leg_settings_at (meaning_of c.args.conference.now)) same);
       new = c.in-Ok-new.ensures.stands;

@@ -1,7 +1,7 @@
 use Rattle.std.proofs.Common.{◌≤◌, ◌+◌, List, length, inl, refl, ap, subst, sym, ◌∙◌, arith}
 use Rattle.std.specs.Vec.{vec_capacity}
 use Rattle.std.proofs.lemmas.List.{length_push}
-use Rattle.live_leg.specs.declared.legs.LinkLeg.{LinkLeg}
+use Rattle.live_leg.specs.LinkLegs.{LinkLeg}
 use Rattle.file_spec.specs.Conferences.{meaning_of}
 use Rattle.rtt_live.specs.Opened.{OpenEnds, OpenLegs}
 use Rattle.rtt_live.proofs.Closing.{nothing_then}

@@ -1,14 +1,16 @@
 use Rattle.std.proofs.Common.{◌≤◌, ◌∙◌, inl, refl, ℕ, List, length, ap, subst, sym, arith}
 use Rattle.file_spec.specs.Conferences.{meaning_of}
 use Rattle.mix_loop.specs.Clocks.{IsPaced}
-use Rattle.live_leg.specs.declared.legs.LinkLeg.{LinkLeg}
+use Rattle.mix_loop.specs.Walks.{IsPaused}
+use Rattle.live_leg.specs.LinkLegs.{LinkLeg}
 use Rattle.live_leg.specs.declared.tallies.LegTally.{LegTally}
 use Rattle.rtt_live.specs.Listeners.{ArePrintedOf}
 use Rattle.rtt_live.specs.Reports.{end_of}
 use Rattle.rtt_live.specs.Spans.{span_of}
 use Rattle.rtt_live.specs.Tallies.{tallies_in}
 use Rattle.rtt_live.proofs.Composing.{map_long}
-use Rattle.rtt_live.proofs.Returning.{broke_off_by, counted_by, done_turned, gave_nothing, given_up_by, same_span, served_by, was_not_opened}
+use Rattle.rtt_live.proofs.Leading.{some_all}
+use Rattle.rtt_live.proofs.Returning.{broke_off_by, calm_closed, counted_by, done_turned, gave_nothing, given_up_by, same_span, served_by, was_not_opened}
 use Rattle.rtt_live.proofs.services.serve_tapped.Goals as goal
 
 pub returns-in-Err-clause-given_up : goal.returns-in-Err-clause-given_up
@@ -83,3 +85,32 @@ returns-in-Err-printed-clause-broke_off g c =
     broke_off_by g.W.In.LinkIn g.W.Out.LinkOut (g.T.Tap.stands c.call-turned.result.tap) g.W.Links.tells (meaning_of c.args.conference.now) _ (g.W.Links.opened c.call-turned.new.world) c.call-turned.result c.call-turned.ensures.called c.requires.links (span_of g.W.Links c.args.world.now c.close_ends.new.world)
     (same_span g.W.Links c.args.world.now c.open_links.new.world c.call-turned.new.world c.close_ends.new.world c.in-Ok-open_links.ensures.same_pauses c.in-Ok-open_links.ensures.same_moment (c.close_ends.ensures.same_moment ∙ c.close_legs.ensures.same_moment)) (g.W.Links.opened c.close_legs.new.world) (g.W.Links.taken_at c.close_legs.new.world) (g.W.Links.taken_at c.close_ends.new.world) (g.W.Links.given_at c.close_ends.new.world)
     c.close_legs.ensures.stored c.close_ends.ensures.same_taken c.close_legs.ensures.same_opened c.close_ends.ensures.stored (g.W.Links.given_at c.args.world.now)
+
+pub returns-in-Ok-printed-clause-calm : goal.returns-in-Ok-printed-clause-calm
+returns-in-Ok-printed-clause-calm g c =
+    calm_closed g.W.In.LinkIn g.W.Out.LinkOut (g.T.Tap.stands c.call-turned.result.tap) g.W.Links.tells (meaning_of c.args.conference.now) _ (g.W.Links.opened c.call-turned.new.world) c.call-turned.result c.call-turned.ensures.called
+    (λ p. c.call-turned.ensures.same_objects p ∙ c.open_links.ensures.same_objects p) c.close_legs.ensures.calm c.close_ends.ensures.calm c.in-Ok-answer_of.end (sym c.in-Ok-answer_of.ensures)
+
+pub returns-in-Ok-printed-clause-paused : goal.returns-in-Ok-printed-clause-paused
+returns-in-Ok-printed-clause-paused g c = λ done.
+    let turns = c.args.conference.now.turns in
+    subst (λ (n : ℕ). IsPaused turns n (g.W.Links.pauses c.close_ends.new.world)) c.in-Ok-open_links.ensures.same_pauses
+    (subst (λ (n : ℕ). IsPaused turns (g.W.Links.pauses c.open_links.new.world) n) (sym (c.close_ends.ensures.same_pauses ∙ c.close_legs.ensures.same_pauses))
+    (c.call-turned.ensures.paused (done_turned c.call-turned.result.turned c.in-Ok-answer_of.end (sym c.in-Ok-answer_of.ensures) done)))
+
+pub returns-in-Ok-printed-clause-leads_all : goal.returns-in-Ok-printed-clause-leads_all
+returns-in-Ok-printed-clause-leads_all g c = λ t. c.close_ends.ensures.same_leads t ∙ (c.close_legs.ensures.same_leads t ∙ (c.call-turned.ensures.same_leads t ∙ c.in-Ok-open_links.ensures.leads_all t))
+
+pub returns-in-Ok-printed-clause-all_opened : goal.returns-in-Ok-printed-clause-all_opened
+returns-in-Ok-printed-clause-all_opened g c = λ p. c.close_ends.ensures.same_own p ∙ (c.close_legs.ensures.same_own p ∙ (c.call-turned.ensures.same_own p ∙ c.in-Ok-open_links.ensures.calm p))
+
+pub returns-in-Ok-printed-clause-own_never_falls : goal.returns-in-Ok-printed-clause-own_never_falls
+returns-in-Ok-printed-clause-own_never_falls g c = λ p. omega (arith, c.open_links.ensures.own_never_falls p, c.call-turned.ensures.same_own p, c.close_legs.ensures.same_own p, c.close_ends.ensures.same_own p)
+
+pub returns-in-Err-printed-clause-own_never_falls : goal.returns-in-Err-printed-clause-own_never_falls
+returns-in-Err-printed-clause-own_never_falls g c = λ p. omega (arith, c.open_links.ensures.own_never_falls p, c.call-turned.ensures.same_own p, c.close_legs.ensures.same_own p, c.close_ends.ensures.same_own p)
+
+pub returns-in-Err-printed-clause-leads_some : goal.returns-in-Err-printed-clause-leads_some
+returns-in-Err-printed-clause-leads_some g c = λ t.
+    some_all (meaning_of c.args.conference.now) (g.W.Links.leads c.args.world.now) (g.W.Links.leads c.close_ends.new.world)
+    (c.close_ends.ensures.same_leads t ∙ (c.close_legs.ensures.same_leads t ∙ (c.call-turned.ensures.same_leads t ∙ c.in-Ok-open_links.ensures.leads_all t)))

@@ -1,5 +1,6 @@
 use Rattle.std.proofs.Common.{refl, sym, subst, arith}
-use Rattle.live_leg.specs.Items.{Seen, End, Quit, Fault}
+use Rattle.live_leg.specs.Items.{Seen, End, Fault}
+use Rattle.live_leg.specs.declared.paced_links.LinkStop.TheVariants.{Failed, Told}
 use Rattle.mix_loop.specs.declared.live_offers.StepAnswer.{StepAnswer}
 use Rattle.mix_loop.specs.LivePorts.{Advances}
 use Rattle.mix_loop.proofs.Advancing.{goes_signal, goes_nothing, goes_silent, text_goes, text_grew}
@@ -33,8 +34,8 @@ returns-in-End-clause-advances g c =
 
 pub returns-in-Fault-clause-advances : goal.returns-in-Fault-clause-advances
 returns-in-Fault-clause-advances g c =
-    goes_signal g.I.Consumer.popped g.M.MixerCalls.stands c.args.self.now c.pull.new.self c.args.mixer.now (λ n. n) Fault _ _ (λ k. refl) (λ n. omega arith) (sym (or_none c.args.self.now.ended)) c.requires.empty c.in-Fault.ensures.pulls
+    goes_signal g.I.Consumer.popped g.M.MixerCalls.stands c.args.self.now c.pull.new.self c.args.mixer.now (λ n. n) (Fault Failed) _ _ (λ k. refl) (λ n. omega arith) (sym (or_none c.args.self.now.ended)) c.requires.empty c.in-Fault.ensures.pulls
 
 pub returns-in-Quit-clause-advances : goal.returns-in-Quit-clause-advances
 returns-in-Quit-clause-advances g c =
-    goes_signal g.I.Consumer.popped g.M.MixerCalls.stands c.args.self.now c.pull.new.self c.args.mixer.now (λ n. n) Quit _ _ (λ k. refl) (λ n. omega arith) (sym (or_none c.args.self.now.ended)) c.requires.empty c.in-Quit.ensures.pulls
+    goes_signal g.I.Consumer.popped g.M.MixerCalls.stands c.args.self.now c.pull.new.self c.args.mixer.now (λ n. n) (Fault Told) _ _ (λ k. refl) (λ n. omega arith) (sym (or_none c.args.self.now.ended)) c.requires.empty c.in-Quit.ensures.pulls

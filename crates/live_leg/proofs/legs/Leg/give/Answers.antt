@@ -1,6 +1,6 @@
 use Rattle.std.proofs.Common.{sym, ◌∙◌}
 use Rattle.live_leg.proofs.HowFar.{parting_is, parts_or_hears}
-use Rattle.live_leg.proofs.legs.LinkLeg.give.Goals as goal
+use Rattle.live_leg.proofs.legs.Leg.give.Goals as goal
 
 pub part-requires : goal.part-requires
 part-requires g c = parting_is c.args.self.now.state (sym c.is_parting.ensures ∙ c.if-is_parting.true)

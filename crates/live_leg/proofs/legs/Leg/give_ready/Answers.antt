@@ -8,7 +8,7 @@ use Rattle.live_leg.proofs.Giving.{given_heard, gives_end, gives_next, gives_sai
 use Rattle.live_leg.specs.declared.kinds.ItemKind.{ItemKind}
 use Rattle.live_leg.specs.Texts.{HasText}
 use Rattle.live_leg.proofs.Texts.{seen_text, some_text}
-use Rattle.live_leg.proofs.legs.LinkLeg.give_ready.Goals as goal
+use Rattle.live_leg.proofs.legs.Leg.give_ready.Goals as goal
 
 pub invariant_of-self : goal.invariant_of-self
 invariant_of-self g c = record {
@@ -19,7 +19,7 @@ invariant_of-self g c = record {
 
 pub returns-then-next-clause-gives : goal.returns-then-next-clause-gives
 returns-then-next-clause-gives g c =
-    gives_next g.L.LinkIn c.args.self.now _ (chunk_of c.next.new.chunk) (chunk_of c.next.new.chunk) (heard_giving c.args.self.now.state c.requires) refl (refl, refl, refl, refl, refl) c.next.ensures.settings
+    gives_next g.A.Arrivals c.args.self.now _ (chunk_of c.next.new.chunk) (chunk_of c.next.new.chunk) (heard_giving c.args.self.now.state c.requires) refl (refl, refl, refl, refl, refl) c.next.ensures.settings
     (c.next.ensures.some c.if-next.true) c.next.ensures.front (c.next.ensures.source c.if-next.true) (sym (given_heard c.args.self.now.state c.args.self.now.senders.moment (chunk_of c.next.new.chunk) c.requires))
     c.unless_blank.result c.unless_blank.ensures
 
@@ -36,7 +36,7 @@ invariant_of-self-then-is_ending g c = record {
 
 pub returns-then-is_ending-clause-gives : goal.returns-then-is_ending-clause-gives
 returns-then-is_ending-clause-gives g c =
-    gives_end g.L.LinkIn c.args.self.now _ (sym c.is_ending.ensures ∙ c.if-is_ending.true) refl (refl, refl, refl, refl, refl) c.next.ensures.settings
+    gives_end g.A.Arrivals c.args.self.now _ (sym c.is_ending.ensures ∙ c.if-is_ending.true) refl (refl, refl, refl, refl, refl) c.next.ensures.settings
     (c.next.ensures.none c.if-next.false) (c.next.ensures.all c.if-next.false) c.next.ensures.front
 
 pub invariant_of-self-2 : goal.invariant_of-self-2
@@ -48,9 +48,9 @@ invariant_of-self-2 g c = record {
 
 pub returns-clause-gives : goal.returns-clause-gives
 returns-clause-gives g c =
-    gives_said g.L.LinkIn c.args.self.now _ (chunk_of c.next.new.chunk) c.seen_as-said.result c.seen_as-said.ensures c.requires (sym c.is_ending.ensures ∙ c.if-is_ending.false) refl (refl, refl, refl, refl, refl) c.next.ensures.settings
+    gives_said g.A.Arrivals c.args.self.now _ (chunk_of c.next.new.chunk) c.seen_as-said.result c.seen_as-said.ensures c.requires (sym c.is_ending.ensures ∙ c.if-is_ending.false) refl (refl, refl, refl, refl, refl) c.next.ensures.settings
     (c.next.ensures.none c.if-next.false) (c.next.ensures.all c.if-next.false) c.next.ensures.front
 
 pub returns-clause-text : goal.returns-clause-text
 returns-clause-text g c =
-    subst (λ (k : ItemKind). HasText k (chunk_of c.next.new.chunk)) (sym c.seen_as-said.ensures) (seen_text c.args.self.now.state (chunk_of c.next.new.chunk))
+    subst (λ (k : ItemKind _). HasText k (chunk_of c.next.new.chunk)) (sym c.seen_as-said.ensures) (seen_text c.args.self.now.state (chunk_of c.next.new.chunk))

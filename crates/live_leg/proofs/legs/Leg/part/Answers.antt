@@ -15,7 +15,7 @@ use Rattle.live_leg.proofs.Ears.{rests_giving, still_giving}
 use Rattle.live_leg.proofs.Giving.{given_parting, gives_marker, gives_next}
 use Rattle.live_leg.proofs.HowFar.{parting_not_going, parting_not_idle}
 use Rattle.live_leg.proofs.Texts.{some_text}
-use Rattle.live_leg.proofs.legs.LinkLeg.part.Goals as goal
+use Rattle.live_leg.proofs.legs.Leg.part.Goals as goal
 
 pub invariant_of-self : goal.invariant_of-self
 invariant_of-self g c = record {
@@ -27,7 +27,7 @@ invariant_of-self g c = record {
 pub returns-then-next-clause-gives : goal.returns-then-next-clause-gives
 returns-then-next-clause-gives g c =
     let heard = chunk_of c.next.new.chunk in
-    gives_next g.L.LinkIn c.args.self.now _ heard (chunk_of c.hasten.new.chunk) (ap is_giving c.requires) refl (refl, refl, refl, refl, refl) c.next.ensures.settings
+    gives_next g.A.Arrivals c.args.self.now _ heard (chunk_of c.hasten.new.chunk) (ap is_giving c.requires) refl (refl, refl, refl, refl, refl) c.next.ensures.settings
     (c.next.ensures.some c.if-next.true) c.next.ensures.front (c.next.ensures.source c.if-next.true)
     (given_parting c.args.self.now.state c.args.self.now.senders.moment c.moment.result heard (chunk_of c.hasten.new.chunk) c.requires c.moment.ensures.value c.hasten.ensures)
     c.unless_blank.result c.unless_blank.ensures
@@ -55,7 +55,7 @@ returns-clause-gives g c =
     let packet : List ℕ → Type 0 = λ octets. BeginsWith c.next.new.self c.begin_with.new.ear c.ssrc.result c.moment-moment.result octets in
     let begins = subst (λ (n : ℕ). BeginsWith c.next.new.self c.begin_with.new.ear c.ssrc.result n self.packet.value) c.moment-moment.ensures.value
     (subst packet (c.as_slice-octets.ensures.value ∙ c.deref.ensures) c.begin_with.ensures.begins) in
-    gives_marker g.L.LinkIn self _ c.next.new.self (chunk_of c.write_marker.new.chunk) c.requires refl (refl, refl, refl, refl, refl) c.next.ensures.settings
+    gives_marker g.A.Arrivals self _ c.next.new.self (chunk_of c.write_marker.new.chunk) c.requires refl (refl, refl, refl, refl, refl) c.next.ensures.settings
     (c.next.ensures.none c.if-next.false) (c.next.ensures.all c.if-next.false)
     (subst (λ (s : ℕ). BeginsWith c.next.new.self c.begin_with.new.ear s self.senders.moment self.packet.value) c.ssrc.ensures begins)
     (c.write_marker.ensures ∙ ap (λ (n : ℕ). chunk 0 n marker) c.moment-moment.ensures.value)
