@@ -11,3 +11,4 @@ pub mod Straying
 pub mod Following
 pub mod Gathering
 pub mod Rowing
+pub mod Steps

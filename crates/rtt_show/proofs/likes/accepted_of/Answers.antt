@@ -1,9 +1,10 @@
 use Rattle.std.proofs.Common.{◌≡◌, ℕ, ◌+◌, List, length, refl, ap, ◌∙◌, arith}
 use Rattle.wire_spec.specs.Dump.{Item, sent_item}
 use Rattle.report_spec.specs.Guesses.{accepted}
-use Rattle.rtpdump_io.proofs.Fronts.{left_less, front_none, front_more, front_all}
+use Rattle.rtpdump_io.proofs.Fronts.{front_none, front_all}
 use Rattle.rtt_show.specs.Finds.{one_if}
 use Rattle.rtt_show.proofs.Showing.{accepted_more}
+use Rattle.rtt_show.proofs.Steps.{step_of}
 use Rattle.rtt_show.proofs.likes.accepted_of.Goals as goal
 
 pub loop-octets-init : goal.loop-octets-init
@@ -18,18 +19,15 @@ overflow_add-number c = omega (arith, c.loop-octets.invariant.left.few, c.one_if
 pub loop-octets-preserved : goal.loop-octets-preserved
 loop-octets-preserved c =
     let i = c.loop-octets.invariant in
-    let rest = c.loop-octets.rest.now in
-    let at = c.in-Some.field-0-0 in
-    let octets = c.in-Some.octets.now in
-    let more = c.in-Some.more.now in
+    let s = step_of c.loop-octets.rest.now c.in-Some.field-0-0 c.in-Some.octets.now c.in-Some.more.now c.in-Some.ensures.record c.in-Some.ensures.shorter in
     let old = c.loop-octets.number in
     let Counts : ℕ → List Item → Type 0 = λ n came. n ≡ length (accepted c.args.ssrc c.args.payload_types came) in
     record {
-      left = left_less rest at octets more old (old + c.one_if-number.result) c.in-Some.ensures.record c.in-Some.ensures.shorter (omega (arith, c.one_if-number.ensures.small)) i.left;
+      left = s.less old (old + c.one_if-number.result) (omega (arith, c.one_if-number.ensures.small)) i.left;
       found = λ all a.
-          front_more (Counts old) (Counts (old + c.one_if-number.result)) rest at octets more all c.in-Some.ensures.record c.in-Some.ensures.shorter
-          (λ came e. accepted_more c.args.ssrc c.args.payload_types old (old + c.one_if-number.result) came (sent_item (at, octets)) e (ap (λ n. old + n) (c.one_if-number.ensures.value ∙ ap one_if c.is_accepted-accepted.ensures)))
-          (i.found all a);
+          s.more (Counts old) (Counts (old + c.one_if-number.result))
+          (λ came e. accepted_more c.args.ssrc c.args.payload_types old (old + c.one_if-number.result) came (sent_item (c.in-Some.field-0-0, c.in-Some.octets.now)) e (ap (λ n. old + n) (c.one_if-number.ensures.value ∙ ap one_if c.is_accepted-accepted.ensures)))
+          all (i.found all a);
     }
 
 pub returns-clause-number : goal.returns-clause-number

@@ -1,7 +1,8 @@
 use Rattle.std.proofs.Common.{arith}
 use Rattle.rtt_show.specs.Rows.{IsRow}
-use Rattle.rtpdump_io.proofs.Fronts.{left_less, some_left, front_none, front_more, front_all}
+use Rattle.rtpdump_io.proofs.Fronts.{front_none, front_all}
 use Rattle.rtt_show.proofs.Rowing.{row_more}
+use Rattle.rtt_show.proofs.Steps.{step_of}
 use Rattle.rtt_show.proofs.rows.row_of.Goals as goal
 
 pub loop-at-init : goal.loop-at-init
@@ -12,24 +13,21 @@ loop-at-init c = record {
 
 pub take-requires : goal.take-requires
 take-requires c =
-    let e = some_left c.loop-at.rest.now c.in-Some.at c.in-Some.octets.now c.in-Some.more.now c.loop-at.row.packets c.in-Some.ensures.record c.in-Some.ensures.shorter c.loop-at.invariant.left in
+    let s = step_of c.loop-at.rest.now c.in-Some.at c.in-Some.octets.now c.in-Some.more.now c.in-Some.ensures.record c.in-Some.ensures.shorter in
+    let e = s.some c.loop-at.row.packets c.loop-at.invariant.left in
     omega (arith, e)
 
 pub loop-at-preserved : goal.loop-at-preserved
 loop-at-preserved c =
     let i = c.loop-at.invariant in
-    let rest = c.loop-at.rest.now in
-    let at = c.in-Some.at in
-    let octets = c.in-Some.octets.now in
-    let more = c.in-Some.more.now in
+    let s = step_of c.loop-at.rest.now c.in-Some.at c.in-Some.octets.now c.in-Some.more.now c.in-Some.ensures.record c.in-Some.ensures.shorter in
     let old = c.loop-at.row in
     let new = c.take.new.self in
     let m = c.take.ensures c.if-not-take.false in
     record {
-      left = left_less rest at octets more old.packets new.packets c.in-Some.ensures.record c.in-Some.ensures.shorter (omega (arith, m.packets)) i.left;
+      left = s.less old.packets new.packets (omega (arith, m.packets)) i.left;
       row = λ all a.
-          front_more (IsRow old) (IsRow new) rest at octets more all c.in-Some.ensures.record c.in-Some.ensures.shorter
-          (row_more old new at octets c.in-Some-origin_of.origin c.in-Some-origin_of.ensures m) (i.row all a);
+          s.more (IsRow old) (IsRow new) (row_more old new c.in-Some.at c.in-Some.octets.now c.in-Some-origin_of.origin c.in-Some-origin_of.ensures m) all (i.row all a);
     }
 
 pub returns : goal.returns

@@ -2,8 +2,9 @@ use Rattle.std.proofs.Common.{◌+◌, List, [], Some, refl, sym, subst, arith, 
 use Rattle.wire_spec.specs.Packets.{Arrival}
 use Rattle.wire_spec.specs.Text.{text_of}
 use Rattle.wire_spec.specs.Dump.{Item, sent_item, arrivals_after}
-use Rattle.rtpdump_io.proofs.Fronts.{left_less, some_left, front_none, front_more, front_all}
+use Rattle.rtpdump_io.proofs.Fronts.{front_none, front_all}
 use Rattle.rtt_show.specs.Strays.{Strayed}
+use Rattle.rtt_show.proofs.Steps.{step_of}
 use Rattle.rtt_show.proofs.Surveying.{arrives_more}
 use Rattle.rtt_show.proofs.Following.{strayed_arrived, missed_strayed}
 use Rattle.rtt_show.proofs.strays.strays_of.Goals as goal
@@ -17,27 +18,25 @@ loop-at-init c = record {
 pub take_packet-requires : goal.take_packet-requires
 take_packet-requires c =
     let i = c.loop-at.invariant.few in
-    let e = some_left c.loop-at.rest.now c.in-Some.at c.in-Some.octets.now c.in-Some.more.now i.0 c.in-Some.ensures.record c.in-Some.ensures.shorter i.1 in
+    let s = step_of c.loop-at.rest.now c.in-Some.at c.in-Some.octets.now c.in-Some.more.now c.in-Some.ensures.record c.in-Some.ensures.shorter in
+    let e = s.some i.0 i.1 in
     (i.0, omega (arith, e), i.2)
 
 pub loop-at-preserved : goal.loop-at-preserved
 loop-at-preserved c =
     let i = c.loop-at.invariant in
-    let rest = c.loop-at.rest.now in
-    let at = c.in-Some.at in
-    let octets = c.in-Some.octets.now in
-    let more = c.in-Some.more.now in
+    let step = step_of c.loop-at.rest.now c.in-Some.at c.in-Some.octets.now c.in-Some.more.now c.in-Some.ensures.record c.in-Some.ensures.shorter in
     let f = c.loop-at.follower in
     let s = c.loop-at.strays in
     let g = c.take_packet.new.follower in
     let t = c.take_packet.new.strays in
     let past : List Item → List Arrival = arrivals_after c.args.ssrc c.args.payload_types [] in
     record {
-      few = (i.few.0 + 1, left_less rest at octets more i.few.0 (i.few.0 + 1) c.in-Some.ensures.record c.in-Some.ensures.shorter (omega arith) i.few.1, c.in_ok-take_packet.ensures.few i.few.0 i.few.2);
+      few = (i.few.0 + 1, step.less i.few.0 (i.few.0 + 1) (omega arith) i.few.1, c.in_ok-take_packet.ensures.few i.few.0 i.few.2);
       found = λ all a.
-          front_more (λ came. Strayed f s (past came)) (λ came. Strayed g t (past came)) rest at octets more all c.in-Some.ensures.record c.in-Some.ensures.shorter
-          (λ came h. subst (Strayed g t) (sym (arrives_more c.args.payload_types c.args.ssrc came at octets)) (strayed_arrived f g s t at (text_of octets (Some c.args.ssrc) c.args.payload_types) (past came) c.in_ok-take_packet.ensures.more h))
-          (i.found all a);
+          step.more (λ came. Strayed f s (past came)) (λ came. Strayed g t (past came))
+          (λ came h. subst (Strayed g t) (sym (arrives_more c.args.payload_types c.args.ssrc came c.in-Some.at c.in-Some.octets.now)) (strayed_arrived f g s t c.in-Some.at (text_of c.in-Some.octets.now (Some c.args.ssrc) c.args.payload_types) (past came) c.in_ok-take_packet.ensures.more h))
+          all (i.found all a);
     }
 
 pub returns : goal.returns

@@ -3,7 +3,8 @@ use Rattle.std.specs.Prelude.{Result}
 use Rattle.wire_spec.specs.declared.faults.TextFault.{TextFault}
 use Rattle.rtt_show.specs.declared.origins.Origin.{Origin}
 use Rattle.rtt_show.specs.Surveys.{IsSurvey, SurveysMore}
-use Rattle.rtpdump_io.proofs.Fronts.{left_less, some_left, front_none, front_more, front_all}
+use Rattle.rtpdump_io.proofs.Fronts.{front_none, front_all}
+use Rattle.rtt_show.proofs.Steps.{step_of}
 use Rattle.rtt_show.proofs.Surveying.{survey_more}
 use Rattle.rtt_show.proofs.surveys.survey_of.Goals as goal
 
@@ -16,24 +17,22 @@ loop-at-init c = record {
 pub take-requires : goal.take-requires
 take-requires c =
     let i = c.loop-at.invariant.few in
-    let e = some_left c.loop-at.rest.now c.in-Some.at c.in-Some.octets.now c.in-Some.more.now i.0 c.in-Some.ensures.record c.in-Some.ensures.shorter i.1 in
+    let s = step_of c.loop-at.rest.now c.in-Some.at c.in-Some.octets.now c.in-Some.more.now c.in-Some.ensures.record c.in-Some.ensures.shorter in
+    let e = s.some i.0 i.1 in
     (i.0, omega (arith, e), i.2)
 
 pub loop-at-preserved : goal.loop-at-preserved
 loop-at-preserved c =
     let i = c.loop-at.invariant in
-    let rest = c.loop-at.rest.now in
-    let at = c.in-Some.at in
-    let octets = c.in-Some.octets.now in
-    let more = c.in-Some.more.now in
+    let s = step_of c.loop-at.rest.now c.in-Some.at c.in-Some.octets.now c.in-Some.more.now c.in-Some.ensures.record c.in-Some.ensures.shorter in
     let old = c.loop-at.found in
     let new = c.take.new.self in
     record {
-      few = (i.few.0 + 1, left_less rest at octets more i.few.0 (i.few.0 + 1) c.in-Some.ensures.record c.in-Some.ensures.shorter (omega arith) i.few.1, c.in_ok-take.ensures.few i.few.0 i.few.2);
+      few = (i.few.0 + 1, s.less i.few.0 (i.few.0 + 1) (omega arith) i.few.1, c.in_ok-take.ensures.few i.few.0 i.few.2);
       found = λ all a.
-          front_more (IsSurvey c.args.payload_types c.args.ssrc old) (IsSurvey c.args.payload_types c.args.ssrc new) rest at octets more all c.in-Some.ensures.record c.in-Some.ensures.shorter
-          (λ came s. survey_more c.args.payload_types c.args.ssrc old new came at octets s (subst (λ (read : Result Origin TextFault). SurveysMore old at read new) c.read_source-read.ensures c.in_ok-take.ensures.more))
-          (i.found all a);
+          s.more (IsSurvey c.args.payload_types c.args.ssrc old) (IsSurvey c.args.payload_types c.args.ssrc new)
+          (λ came h. survey_more c.args.payload_types c.args.ssrc old new came c.in-Some.at c.in-Some.octets.now h (subst (λ (read : Result Origin TextFault). SurveysMore old c.in-Some.at read new) c.read_source-read.ensures c.in_ok-take.ensures.more))
+          all (i.found all a);
     }
 
 pub returns : goal.returns
