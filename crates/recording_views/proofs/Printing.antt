@@ -19,7 +19,7 @@ use Rattle.receiver.specs.declared.ears.Ear.{Ear}
 use Rattle.receiver.specs.Hears.{AllReady, Becomes, Gave, GaveReady, GivesChunk, GivesNone, IsGiving, is_finished, is_quiet, arrival_count, text_for, told}
 use Rattle.receiver.specs.EarPlain.{GivesPlain}
 use Rattle.receiver.proofs.ReadyBy.{told_arrived}
-use Rattle.recording_views.specs.Writing.{HasPrinted, Printed, PrintsAll, PrintsEnd, PrintsItem, PrintsPacket, PrintsReady, asked_of, lines_of}
+use Rattle.recording_views.specs.Writing.{HasPrinted, IsBegunFor, Printed, PrintsAll, PrintsEnd, PrintsItem, PrintsPacket, PrintsReady, asked_of, lines_of}
 
 -- ---- what is always so
 pub still_giving : (old new : Ear) (c : Chunk) → GivesChunk old new c → IsGiving old → IsGiving new
@@ -41,11 +41,12 @@ on_ok (Err e) f p = tt
 
 -- ---- nothing came yet
 pub begins : {E : Type 0} (r : Result Ear E) (settings : EarSettings) (sources : List ℕ) (request : ReadRequest) → settings ≡ asked_of request → sources ≡ request.source ∷ []
-    → IfOk r (λ ear. (source : ℕ) → sources ≡ source ∷ [] → Gave ear settings source (begun settings.wait) []) → IfOk r (λ ear. HasPrinted request [] ear [])
-begins (Ok ear) settings sources request e s g =
-    let h = subst (λ (k : EarSettings). Gave ear k request.source (begun k.wait) []) e (g request.source s) in
-    (begun usual_wait, record { arrivals = refl; moment = refl }, ([], ([], h), refl))
+    → IfOk r (λ ear. (source : ℕ) → sources ≡ source ∷ [] → Gave ear settings source (begun settings.wait) []) → IfOk r (IsBegunFor request)
+begins (Ok ear) settings sources request e s g = subst (λ (k : EarSettings). Gave ear k request.source (begun k.wait) []) e (g request.source s)
 begins (Err x) settings sources request e s g = tt
+
+pub has_printed : (request : ReadRequest) (ear : Ear) → IsBegunFor request ear → HasPrinted request [] ear []
+has_printed request ear h = (begun usual_wait, record { arrivals = refl; moment = refl }, ([], ([], h), refl))
 
 pub begins_giving : {E : Type 0} (r : Result Ear E) (settings : EarSettings) (sources : List ℕ) (request : ReadRequest) → sources ≡ request.source ∷ []
     → IfOk r (λ ear. (source : ℕ) → sources ≡ source ∷ [] → Gave ear settings source (begun settings.wait) []) → IfOk r (λ ear. ∥ IsGiving ear ∥₁)
@@ -77,11 +78,11 @@ prints_none first now after begun_with old p g ready settings source story h =
 
 -- ---- a packet
 -- what is told does not depend on what was given
-told_given : (story : Story) (at : ℕ) (given more : List Given) (x : Result Packet TextFault) → record (told (record story { given = given }) at x) { given = more } ≡ record (told story at x) { given = more }
+pub told_given : (story : Story) (at : ℕ) (given more : List Given) (x : Result Packet TextFault) → record (told (record story { given = given }) at x) { given = more } ≡ record (told story at x) { given = more }
 told_given story at given more (Ok p) = refl
 told_given story at given more (Err f) = refl
 
-told_still : (story : Story) (at : ℕ) (given : List Given) (x : Result Packet TextFault) → told (record story { given = given }) at x ≡ record (told story at x) { given = given }
+pub told_still : (story : Story) (at : ℕ) (given : List Given) (x : Result Packet TextFault) → told (record story { given = given }) at x ≡ record (told story at x) { given = given }
 told_still story at given (Ok p) = refl
 told_still story at given (Err f) = refl
 

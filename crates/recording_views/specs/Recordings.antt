@@ -1,5 +1,5 @@
 -- What a terminal heard of a recording.
-use Rattle.std.specs.Prelude.{ℕ, List, [], ◌∷◌}
+use Rattle.std.specs.Prelude.{◌≡◌, ℕ, List, [], ◌∷◌}
 use Rattle.wire_spec.specs.Dump.{Item, Recording, dump, usual_limit}
 use Rattle.rtpdump_io.specs.Calls.{SomeCame}
 use Rattle.command_spec.specs.declared.requests.ReadRequest.{ReadRequest}
@@ -24,6 +24,10 @@ HasHeardOne t = (c : TerminalSettings) × (source : ℕ) × (came : List Item) �
 -- all that is asked for of the recording with these octets was heard
 abbrev pub HasHeard : ReadRequest → List ℕ → Terminal → Type 0
 HasHeard r octets t = Heard t (asked_of r) (r.source ∷ []) (dump usual_limit octets).items
+
+-- the same of this recording, where it is what some octets are read as
+abbrev pub HearsRecording : ReadRequest → Recording → Terminal → Type 0
+HearsRecording r recording t = (octets : List ℕ) → recording ≡ dump usual_limit octets → HasHeard r octets t
 
 -- some records came; those of this recording, which has no fault, where this tells it
 abbrev pub HearsAll : Type 0 → Recording → Terminal → Terminal → Type 0

@@ -1,19 +1,23 @@
 -- What was printed of a recording whose records come one after another.
-use Rattle.std.specs.Prelude.{◌≡◌, ℕ, List, flat_map}
+use Rattle.std.specs.Prelude.{◌≡◌, ℕ, List, [], flat_map}
 use Rattle.wire_spec.specs.Packets.{Arrival}
 use Rattle.wire_spec.specs.Dump.{Recording, Item, arrivals_after, arrivals_with, dump, usual_limit}
 use Rattle.stream_spec.specs.Ready.{Chunk}
 use Rattle.command_spec.specs.declared.requests.ReadRequest.{ReadRequest}
 use Rattle.command_spec.specs.Reading.{usual_wait}
 use Rattle.command_spec.specs.Transcripts.{chunk_line, transcript_view}
-use Rattle.reorder_buffer.specs.Stories.{Story}
+use Rattle.reorder_buffer.specs.Stories.{Story, begun}
 use Rattle.receiver.specs.declared.settings.EarSettings.{EarSettings}
 use Rattle.receiver.specs.declared.ears.Ear.{Ear}
-use Rattle.receiver.specs.Hears.{GaveSome, IsToldOf, ready_chunks, story_chunks, text_for, told}
+use Rattle.receiver.specs.Hears.{Gave, GaveSome, IsToldOf, ready_chunks, story_chunks, text_for, told}
 
 -- what an ear is asked for
 abbrev pub asked_of : ReadRequest → EarSettings
 asked_of r = record { ssrc = r.ssrc; payload_types = r.payload_types; wait = usual_wait }
+
+-- the ear for this request was told nothing
+abbrev pub IsBegunFor : ReadRequest → Ear → Type 0
+IsBegunFor r ear = Gave ear (asked_of r) r.source (begun usual_wait) []
 
 -- the lines of these
 abbrev pub lines_of : List Chunk → List ℕ

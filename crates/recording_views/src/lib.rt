@@ -13,7 +13,7 @@ mod script_lines;
 pub use escapes::append_escaped;
 pub use lists::list_records;
 pub use reads::hear_recording;
-pub use recordings::script_recording;
+pub use recordings::{ear_for, script_recording};
 
 #[cfg(test)]
 mod list_tests;

@@ -2,7 +2,8 @@
 ghost use Rattle.std.specs.Prelude.{◌≡◌, ◌++◌, OnOk, IfOk, flat_map, length};
 ghost use Rattle.rtpdump_io.specs.Reading.{to_come};
 ghost use Rattle.rtpdump_io.specs.Calls.{ReadsToEnd};
-ghost use Rattle.command_spec.specs.Listing.{record_line, last_line, list_view};
+ghost use Rattle.command_spec.specs.Listing.{record_line, last_line};
+ghost use Rattle.recording_views.specs.Lines.{AreLinesOf};
 
 use crate::records::RecordLines;
 use itoa::Buffer;
@@ -51,7 +52,7 @@ pub fn list_records<S: Source>(
     reader: &mut DumpReader<S>,
     payload_types: PayloadTypes,
 ) -> Result<Bytes, RecordingFault>
-    ensures listed { S.tells → IfOk result (λ lines. lines ≡ list_view payload_types (to_come S.left reader.old).items) }
+    ensures listed { S.tells → IfOk result (AreLinesOf payload_types (to_come S.left reader.old)) }
     ensures reads { ReadsToEnd S.tells S.left S.faults S.name reader.old reader.new result }
 {
     let mut out = Bytes::new(alloc);

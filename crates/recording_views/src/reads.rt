@@ -1,13 +1,12 @@
 //! The work of `read`: a recording is heard to its end.
-ghost use Rattle.std.specs.Prelude.{◌≡◌, ℕ, ◌+◌, ◌≤◌, ◌<◌, List, [], ◌∷◌, Bool, OnOk, IfOk};
-ghost use Rattle.wire_spec.specs.Dump.{dump, usual_limit};
+ghost use Rattle.std.specs.Prelude.{◌≡◌, ◌+◌, ◌≤◌, ◌<◌, [], ◌∷◌, Bool, OnOk, IfOk};
 ghost use Rattle.rtpdump_io.specs.Reading.{to_come};
 ghost use Rattle.rtpdump_io.specs.Answers.{record_of, is_end};
 ghost use Rattle.rtpdump_io.specs.Calls.{ReadsToEnd};
 ghost use Rattle.command_spec.specs.declared.requests.ReadRequest.{ReadRequest};
 ghost use Rattle.terminal.specs.Terminals.{counts_of, IsOpen, Listens};
 ghost use Rattle.terminal.specs.Told.{HearsToEnd, Takes};
-ghost use Rattle.recording_views.specs.Recordings.{asked_of, HasHeard, HasHeardOne, HearsAll, HearsOne};
+ghost use Rattle.recording_views.specs.Recordings.{asked_of, HasHeardOne, HearsAll, HearsOne, HearsRecording};
 ghost use Rattle.rtt_base.specs.declared.limits.TheConstants.{MOST_ARRIVALS};
 
 use command_spec::ReadRequest;
@@ -86,8 +85,7 @@ pub fn hear_recording<S: Source>(
     reader: &mut DumpReader<S>,
     request: ReadRequest,
 ) -> Result<Terminal, RecordingFault>
-    ensures heard { S.tells → IfOk result (λ terminal. (octets : List ℕ) → to_come S.left reader.old ≡ dump usual_limit octets
-        → HasHeard request octets terminal) }
+    ensures heard { S.tells → IfOk result (HearsRecording request (to_come S.left reader.old)) }
     ensures one { IfOk result HasHeardOne }
     ensures reads { ReadsToEnd S.tells S.left S.faults S.name reader.old reader.new result }
 {

@@ -1,11 +1,11 @@
 //! The work of `script`: each text of a recording becomes a line as soon as it is heard.
-ghost use Rattle.std.specs.Prelude.{◌≡◌, ◌+◌, ◌≤◌, ◌<◌, [], Bool, OnOk, IfOk};
+ghost use Rattle.std.specs.Prelude.{◌≡◌, ◌+◌, ◌≤◌, ◌<◌, Bool, OnOk, IfOk};
 ghost use Rattle.rtpdump_io.specs.Reading.{to_come};
 ghost use Rattle.rtpdump_io.specs.Answers.{record_of, is_end};
 ghost use Rattle.rtpdump_io.specs.Calls.{ReadsToEnd};
 ghost use Rattle.command_spec.specs.declared.requests.ReadRequest.{ReadRequest};
 ghost use Rattle.receiver.specs.Hears.{IsGiving, arrival_count, is_finished, is_quiet};
-ghost use Rattle.recording_views.specs.Writing.{HasPrinted, IsTranscript, PrintsAll, PrintsEnd, PrintsItem, PrintsPacket, PrintsReady};
+ghost use Rattle.recording_views.specs.Writing.{IsBegunFor, IsTranscript, PrintsAll, PrintsEnd, PrintsItem, PrintsPacket, PrintsReady};
 ghost use Rattle.rtt_base.specs.declared.limits.TheConstants.{END_OF_MOMENTS, MOST_ARRIVALS};
 
 use crate::script_lines::append_line;
@@ -18,8 +18,8 @@ use rtt_io::Source;
 use std::alloc::Global;
 
 /// An ear that hears what is asked for, to which nothing came yet.
-fn ear_for(alloc: Global, request: ReadRequest) -> Result<Ear, OutOfMemory>
-    ensures printed { IfOk result (λ ear. HasPrinted request [] ear []) }
+pub fn ear_for(alloc: Global, request: ReadRequest) -> Result<Ear, OutOfMemory>
+    ensures begun { IfOk result (IsBegunFor request) }
     ensures giving { IfOk result (λ ear. ∥ IsGiving ear ∥₁) }
     ensures quiet { IfOk result (λ ear. is_quiet ear ≡ Bool.true) }
     ensures none { IfOk result (λ ear. arrival_count ear ≡ 0) }

@@ -2,8 +2,8 @@ use Rattle.std.proofs.Common.{refl, ap, ℕ}
 use Rattle.recording_views.proofs.Printing.{begins, begins_giving}
 use Rattle.recording_views.proofs.recordings.ear_for.Goals as goal
 
-pub returns-clause-printed : goal.returns-clause-printed
-returns-clause-printed c =
+pub returns-clause-begun : goal.returns-clause-begun
+returns-clause-begun c =
     begins c.new.result _ _ c.args.request (ap (λ (n : ℕ). record { ssrc = c.args.request.ssrc; payload_types = c.args.request.payload_types; wait = n }) c.from.ensures) refl c.new.ensures.gave
 
 pub returns-clause-giving : goal.returns-clause-giving
