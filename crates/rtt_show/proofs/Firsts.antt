@@ -2,6 +2,7 @@
 use Rattle.std.proofs.Common.{◌≡◌, ℕ, ◌≤◌, Bool, true, false, cond, List, [], ◌∷◌, length, refl, ap, sym, ◌∙◌, arith, length-append, ◌⊎◌, inl, inr}
 use Rattle.std.specs.Prelude.{◌≢◌, ◌==◌, ◌||◌, AllPairs}
 use Rattle.std.specs.List.{list_any}
+use Rattle.std.proofs.Math.Bool.{or-true}
 use Rattle.std.proofs.lemmas.Bool.{true≢false, ltb-true}
 use Rattle.std.proofs.lemmas.Bool.Decides.{Decides-eqb}
 use Rattle.std.proofs.lemmas.List.Folds.{list_any-append, list_any_at}
@@ -14,11 +15,6 @@ eq_same n = (Decides-eqb n n).1 refl
 
 pub eq_is : (m n : ℕ) → (m == n) ≡ true → m ≡ n
 eq_is m n e = (Decides-eqb m n).0 e
-
--- what is true of one of two that are joined
-or_right : (b : Bool) → (b || true) ≡ true
-or_right true = refl
-or_right false = refl
 
 -- what is kept stays kept
 keeps_one : (f : Firsts) (x n : ℕ) → is_kept f x ≡ true → is_kept (with_name f n) x ≡ true
@@ -51,7 +47,7 @@ named_or_full f n = go (is_kept f n) (has_room f) refl refl
   where
     go : (b c : Bool) → is_kept f n ≡ b → has_room f ≡ c → (is_kept (cond b f (cond c (with_kept f n) (with_other f))) n ≡ true) ⊎ (has_room (cond b f (cond c (with_kept f n) (with_other f))) ≡ false)
     go true c e r = inl e
-    go false true e r = inl (list_any-append (λ y. y == n) f.kept (n ∷ []) ∙ (ap (λ b. list_any (λ y. y == n) f.kept || (b || false)) (eq_same n) ∙ or_right (list_any (λ y. y == n) f.kept)))
+    go false true e r = inl (list_any-append (λ y. y == n) f.kept (n ∷ []) ∙ (ap (λ b. list_any (λ y. y == n) f.kept || (b || false)) (eq_same n) ∙ or-true (list_any (λ y. y == n) f.kept)))
     go false false e r = inr r
 
 -- while there is room, whatever was named is kept

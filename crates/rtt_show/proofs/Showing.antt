@@ -14,7 +14,7 @@ use Rattle.view_spec.specs.declared.counts.Counts.{Counts}
 use Rattle.view_spec.specs.Seen.{Reception, text_at, source_at, counts_at}
 use Rattle.view_spec.specs.Views.{Source, source_view, counts_line}
 use Rattle.command_spec.specs.Firsts.{Firsts}
-use Rattle.command_spec.specs.Streams.{Sort, sort_of, is_name, naming, stream_of, pair_of, sources, source_in, is_dynamic, is_like_text, are_like_text, type_inside, may_be_red}
+use Rattle.command_spec.specs.Streams.{Sort, sort_of, is_name, naming, stream_of, pair_of, sources, source_in, is_dynamic, are_like_text, type_inside, may_be_red}
 use Rattle.command_spec.specs.Streams as streams
 use Rattle.command_spec.specs.Showing.{hearing, speaker, sources_seen, refusals, place_of, refusal_line, refusal_lines, refused_as, number_line, other_lines, how_many, least_time, greatest_time}
 use Rattle.report_spec.specs.Showing.{numbers_of, title_of, stream_title, stream_view, pair_view, items_view}
@@ -160,7 +160,7 @@ records_of of items group few h = record {
   few = omega (arith, few, length_filter_le (λ item. is_name group.name (of (sort_of item))) items, ap (λ (xs : List Item). length xs) h.are, length-map h.records sent_item);
 }
 
-drop_at : {X : Type 0} (xs : List X) (i : ℕ) (d : X) → i < length xs → drop i xs ≡ get_or xs i d ∷ drop (i + 1) xs
+pub drop_at : {X : Type 0} (xs : List X) (i : ℕ) (d : X) → i < length xs → drop i xs ≡ get_or xs i d ∷ drop (i + 1) xs
 drop_at [] i d l = absurd (omega (arith, l))
 drop_at (x ∷ xs) zero d l = refl
 drop_at (x ∷ xs) (suc i) d l = drop_at xs i d (omega (arith, l)) ∙ ap (λ (n : ℕ). get_or xs i d ∷ drop n (x ∷ xs)) one

@@ -3,6 +3,7 @@ use Rattle.std.proofs.Common.{◌≡◌, ℕ, ◌+◌, ◌==◌, Bool, true, fal
 use Rattle.std.specs.Prelude.{◌||◌, if◌then◌else◌}
 use Rattle.std.specs.List.{list_any}
 use Rattle.std.proofs.lemmas.List.Folds.{list_any-append}
+use Rattle.std.proofs.Math.Bool.{or-false}
 use Rattle.std.proofs.lemmas.Bool.Decides.{Decides-eqb}
 use Rattle.wire_spec.specs.Packets.{has_text}
 use Rattle.wire_spec.specs.Dump.{Item}
@@ -13,12 +14,8 @@ use Rattle.rtt_show.specs.Finds.{one_if}
 use Rattle.report_spec.specs.Guesses.{has_payload}
 use Rattle.rtt_show.proofs.Surveying.{count_more}
 
-or_false : (b : Bool) → (b || false) ≡ b
-or_false true = refl
-or_false false = refl
-
 any_more : {X : Type 0} (p : X → Bool) (xs : List X) (x : X) → list_any p (xs ++ x ∷ []) ≡ (list_any p xs || p x)
-any_more p xs x = list_any-append p xs (x ∷ []) ∙ ap (λ b. list_any p xs || b) (or_false (p x))
+any_more p xs x = list_any-append p xs (x ∷ []) ∙ ap (λ b. list_any p xs || b) (or-false (p x))
 
 inside_more : (n inside : ℕ) (came : List Item) (item : Item) → n ≡ length came → inside ≡ type_inside came → (if n == 0 then first_type (payload_of item) else inside) ≡ type_inside (came ++ item ∷ [])
 inside_more n inside [] item e i = ap (λ (k : ℕ). if k == 0 then first_type (payload_of item) else inside) e

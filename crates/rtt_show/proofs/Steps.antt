@@ -1,6 +1,7 @@
 -- A step of a loop over records: the first of those that are left is taken.
-use Rattle.std.proofs.Common.{ℕ, ◌+◌, ◌<◌, ◌≤◌, ◌^◌, List, [], ◌∷◌, ◌++◌, length}
+use Rattle.std.proofs.Common.{ℕ, ◌+◌, ◌<◌, ◌≤◌, ◌^◌, List, [], ◌∷◌, ◌++◌, length, arith}
 use Rattle.wire_spec.specs.Dump.{Item, sent_item}
+use Rattle.rtpdump_io.specs.InMemory.{HasRecords}
 use Rattle.rtpdump_io.proofs.Fronts.{Front, Left, Splits, front_more, left_less, some_left}
 
 -- what holds behind this record, by what held before it
@@ -15,3 +16,11 @@ step_of rest at packet behind f l = record {
   less = λ m n. left_less rest at packet behind m n f l;
   more = λ P Q g all. front_more P Q rest at packet behind all f l g;
 }
+
+-- before the first step
+pub all_left : (records : List ℕ) → HasRecords records → Left records 0
+all_left records h = record { back = h.0; left = h.1; few = omega (arith, h.1.few) }
+
+-- what a count of records that is not at its end is called with
+pub some_few : (P : ℕ → Type 0) {rest : List ℕ} {at : ℕ} {packet behind : List ℕ} → Step rest at packet behind → (n : ℕ) × Left rest n × P n → (n : ℕ) × (n < 2 ^ 32) × P n
+some_few P s i = (i.0, omega (arith, s.some i.0 i.1), i.2)

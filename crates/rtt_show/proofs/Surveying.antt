@@ -88,7 +88,7 @@ sources_more f (Err fault) = refl
 
 -- a packet more of the stream
 -- ---- the numbers
-after_more : (ssrc : ℕ) (payload_types : PayloadTypes) (before : List Arrival) (came : List Item) (item : Item) → arrivals_after ssrc payload_types before (came ++ item ∷ []) ≡ arrivals_with ssrc payload_types item (arrivals_after ssrc payload_types before came)
+pub after_more : (ssrc : ℕ) (payload_types : PayloadTypes) (before : List Arrival) (came : List Item) (item : Item) → arrivals_after ssrc payload_types before (came ++ item ∷ []) ≡ arrivals_with ssrc payload_types item (arrivals_after ssrc payload_types before came)
 after_more ssrc payload_types before [] item = refl
 after_more ssrc payload_types before (x ∷ came) item = after_more ssrc payload_types (arrivals_with ssrc payload_types x before) came item
 

@@ -219,22 +219,6 @@ fn show_if_row(
     }
 }
 
-/// Appends what is shown of a stream with these packets, however they come.
-fn show_any(
-    alloc: Global,
-    ssrc: u32,
-    payload_types: PayloadTypes,
-    records: &[u8],
-    out: &mut Bytes,
-) -> Result<(), NoMemory>
-    requires { HasRecords records.now }
-    ensures { OnOk result (OfRecords records.now (λ came. out.new ≡ out.old ++ stream_view payload_types ssrc came)) }
-{
-    let found = survey_of(alloc, records, ssrc, payload_types)?;
-    let terminal = hear_sources(alloc, ssrc, payload_types, &found.sources, records)?;
-    append_stream(alloc, ssrc, payload_types, records, &found, &terminal, out)
-}
-
 /// Appends what is shown of a stream with these packets.
 pub(crate) fn show_stream(
     alloc: Global,
@@ -249,5 +233,7 @@ pub(crate) fn show_stream(
     if show_if_row(alloc, ssrc, payload_types, records, out)? {
         return Ok(());
     }
-    show_any(alloc, ssrc, payload_types, records, out)
+    let found = survey_of(alloc, records, ssrc, payload_types)?;
+    let terminal = hear_sources(alloc, ssrc, payload_types, &found.sources, records)?;
+    append_stream(alloc, ssrc, payload_types, records, &found, &terminal, out)
 }

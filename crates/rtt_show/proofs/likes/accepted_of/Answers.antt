@@ -4,12 +4,12 @@ use Rattle.report_spec.specs.Guesses.{accepted}
 use Rattle.rtpdump_io.proofs.Fronts.{front_none, front_all}
 use Rattle.rtt_show.specs.Finds.{one_if}
 use Rattle.rtt_show.proofs.Showing.{accepted_more}
-use Rattle.rtt_show.proofs.Steps.{step_of}
+use Rattle.rtt_show.proofs.Steps.{all_left, step_of}
 use Rattle.rtt_show.proofs.likes.accepted_of.Goals as goal
 
 pub loop-octets-init : goal.loop-octets-init
 loop-octets-init c = record {
-  left = record { back = c.requires.0; left = c.requires.1; few = omega (arith, c.requires.1.few) };
+  left = all_left c.args.records.now c.requires;
   found = λ all a. front_none (λ came. 0 ≡ length (accepted c.args.ssrc c.args.payload_types came)) c.args.records.now all refl a;
 }
 

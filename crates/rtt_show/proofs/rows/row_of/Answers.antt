@@ -1,13 +1,13 @@
-use Rattle.std.proofs.Common.{arith}
+use Rattle.std.proofs.Common.{arith, subst, sym}
 use Rattle.rtt_show.specs.Rows.{IsRow}
-use Rattle.rtpdump_io.proofs.Fronts.{front_none, front_all}
+use Rattle.rtpdump_io.proofs.Fronts.{Left, front_none, front_all}
 use Rattle.rtt_show.proofs.Rowing.{row_more}
-use Rattle.rtt_show.proofs.Steps.{step_of}
+use Rattle.rtt_show.proofs.Steps.{all_left, step_of}
 use Rattle.rtt_show.proofs.rows.row_of.Goals as goal
 
 pub loop-at-init : goal.loop-at-init
 loop-at-init c = record {
-  left = record { back = c.requires.0; left = c.requires.1; few = omega (arith, c.requires.1.few, c.none-row.ensures.packets) };
+  left = subst (Left c.args.records.now) (sym c.none-row.ensures.packets) (all_left c.args.records.now c.requires);
   row = λ all a. front_none (IsRow c.none-row.result) c.args.records.now all c.none-row.ensures.nothing a;
 }
 

@@ -3,24 +3,20 @@ use Rattle.wire_spec.specs.Packets.{Arrival}
 use Rattle.wire_spec.specs.Text.{text_of}
 use Rattle.wire_spec.specs.Dump.{Item, sent_item, arrivals_after}
 use Rattle.rtpdump_io.proofs.Fronts.{front_none, front_all}
-use Rattle.rtt_show.specs.Strays.{Strayed}
-use Rattle.rtt_show.proofs.Steps.{step_of}
+use Rattle.rtt_show.specs.Strays.{IsBound, Strayed}
+use Rattle.rtt_show.proofs.Steps.{all_left, some_few, step_of}
 use Rattle.rtt_show.proofs.Surveying.{arrives_more}
 use Rattle.rtt_show.proofs.Following.{strayed_arrived, missed_strayed}
 use Rattle.rtt_show.proofs.strays.strays_of.Goals as goal
 
 pub loop-at-init : goal.loop-at-init
 loop-at-init c = record {
-  few = (0, record { back = c.requires.0; left = c.requires.1; few = omega (arith, c.requires.1.few) }, (c.in_ok-follower.ensures.short, c.new-strays.ensures.few));
+  few = (0, all_left c.args.records.now c.requires, (c.in_ok-follower.ensures.short, c.new-strays.ensures.few));
   found = λ all a. front_none (λ came. Strayed c.in_ok-follower.follower c.new-strays.result (arrivals_after c.args.ssrc c.args.payload_types [] came)) c.args.records.now all (record { follows = c.in_ok-follower.ensures.nothing; strays = c.new-strays.ensures.nothing }) a;
 }
 
 pub take_packet-requires : goal.take_packet-requires
-take_packet-requires c =
-    let i = c.loop-at.invariant.few in
-    let s = step_of c.loop-at.rest.now c.in-Some.at c.in-Some.octets.now c.in-Some.more.now c.in-Some.ensures.record c.in-Some.ensures.shorter in
-    let e = s.some i.0 i.1 in
-    (i.0, omega (arith, e), i.2)
+take_packet-requires c = some_few (λ n. IsBound n c.loop-at.follower c.loop-at.strays) (step_of c.loop-at.rest.now c.in-Some.at c.in-Some.octets.now c.in-Some.more.now c.in-Some.ensures.record c.in-Some.ensures.shorter) c.loop-at.invariant.few
 
 pub loop-at-preserved : goal.loop-at-preserved
 loop-at-preserved c =

@@ -2,24 +2,20 @@ use Rattle.std.proofs.Common.{◌+◌, arith, subst}
 use Rattle.std.specs.Prelude.{Result}
 use Rattle.wire_spec.specs.declared.faults.TextFault.{TextFault}
 use Rattle.rtt_show.specs.declared.origins.Origin.{Origin}
-use Rattle.rtt_show.specs.Surveys.{IsSurvey, SurveysMore}
+use Rattle.rtt_show.specs.Surveys.{IsFew, IsSurvey, SurveysMore}
 use Rattle.rtpdump_io.proofs.Fronts.{front_none, front_all}
-use Rattle.rtt_show.proofs.Steps.{step_of}
+use Rattle.rtt_show.proofs.Steps.{all_left, some_few, step_of}
 use Rattle.rtt_show.proofs.Surveying.{survey_more}
 use Rattle.rtt_show.proofs.surveys.survey_of.Goals as goal
 
 pub loop-at-init : goal.loop-at-init
 loop-at-init c = record {
-  few = (0, record { back = c.requires.0; left = c.requires.1; few = omega (arith, c.requires.1.few) }, c.new-found.ensures.few);
+  few = (0, all_left c.args.records.now c.requires, c.new-found.ensures.few);
   found = λ all a. front_none (IsSurvey c.args.payload_types c.args.ssrc c.new-found.result) c.args.records.now all (c.new-found.ensures.nothing c.args.payload_types c.args.ssrc) a;
 }
 
 pub take-requires : goal.take-requires
-take-requires c =
-    let i = c.loop-at.invariant.few in
-    let s = step_of c.loop-at.rest.now c.in-Some.at c.in-Some.octets.now c.in-Some.more.now c.in-Some.ensures.record c.in-Some.ensures.shorter in
-    let e = s.some i.0 i.1 in
-    (i.0, omega (arith, e), i.2)
+take-requires c = some_few (λ n. IsFew n c.loop-at.found) (step_of c.loop-at.rest.now c.in-Some.at c.in-Some.octets.now c.in-Some.more.now c.in-Some.ensures.record c.in-Some.ensures.shorter) c.loop-at.invariant.few
 
 pub loop-at-preserved : goal.loop-at-preserved
 loop-at-preserved c =
