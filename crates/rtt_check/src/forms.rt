@@ -3,7 +3,7 @@ ghost use Rattle.std.specs.Prelude.{◌≡◌, IfOk};
 ghost use Rattle.std.specs.Str.Lines.{lines};
 ghost use Rattle.report_spec.specs.Forms.{begins, conference_of, fault_line, first_said, foreign, form_of, furthest, goes_further, has_mark, is_right_to, is_utf16, mixed_of, other_text, text_form, without_mark};
 
-use crate::lines::{begins_with_moment, first_said, has_conference, has_link, has_recording};
+use crate::lines::{LineContent, begins_with_moment, first_said, has_line};
 use conf_text::{ConfFault, read_conf};
 use file_spec::Form;
 use report_spec::FileForm;
@@ -106,7 +106,7 @@ fn furthest(alloc: Global, text: &[u8]) -> Result<FileForm, NoMemory>
 fn mixed_of(alloc: Global, text: &[u8]) -> Result<FileForm, NoMemory>
     ensures { IfOk result (λ form. form ≡ mixed_of text.now) }
 {
-    if has_recording(alloc, text)? {
+    if has_line(alloc, text, LineContent::Recording)? {
         furthest(alloc, text)
     } else {
         Ok(FileForm::Links)
@@ -116,7 +116,7 @@ fn mixed_of(alloc: Global, text: &[u8]) -> Result<FileForm, NoMemory>
 fn conference_of(alloc: Global, text: &[u8]) -> Result<FileForm, NoMemory>
     ensures { IfOk result (λ form. form ≡ conference_of text.now) }
 {
-    if has_link(alloc, text)? {
+    if has_line(alloc, text, LineContent::Link)? {
         mixed_of(alloc, text)
     } else {
         Ok(FileForm::Recordings)
@@ -126,7 +126,7 @@ fn conference_of(alloc: Global, text: &[u8]) -> Result<FileForm, NoMemory>
 fn other_text(alloc: Global, text: &[u8]) -> Result<FileForm, NoMemory>
     ensures { IfOk result (λ form. form ≡ other_text text.now) }
 {
-    if has_conference(alloc, text)? {
+    if has_line(alloc, text, LineContent::LegOrMixer)? {
         conference_of(alloc, text)
     } else {
         Ok(FileForm::Nothing)

@@ -9,16 +9,17 @@ ghost use Rattle.report_spec.specs.Looks.{legs_as, legs_in, legs_read, legs_unle
 ghost use Rattle.command_spec.specs.Cascading.{odd_line};
 ghost use Rattle.file_spec.specs.Conference.{conference_from};
 ghost use Rattle.file_spec.specs.declared.conference_lines.Form.TheVariants.{Files};
-ghost use Rattle.rtt_check.specs.Reports.{as_told, dump_fault};
+ghost use Rattle.rtt_check.specs.Reports.{IsLegTold, as_told, dump_fault};
 
 use crate::forms::{foreign, form_of};
 use crate::lines::line_at;
 use crate::name_texts::append_told;
-use crate::refusals::{append_dump, append_shown, append_shown_at};
-use crate::reports::{Report, begin, copy_of, end};
+use crate::refusals::append_shown;
+use crate::reports::{Report, begin, copy_of, end, refused};
 use crate::sentences::{STREAM_SENTENCE, form_name, input_dump_sentence, input_sentence};
 use crate::streams::{LegContent, hear_leg};
 use crate::trunks::odd_line;
+use command_spec::Refusal;
 use conf_text::{ConfFault, read_conf};
 use file_spec::{Form, LegLine, Legs};
 use itoa::Buffer;
@@ -89,10 +90,17 @@ fn dump_refused(
 ) -> Result<Report, NoMemory>
     ensures { IfOk result (λ report. as_told report ≡ inputs.dump_refused leg.now octets.now (dump_fault fault)) }
 {
-    let mut text = begin(alloc, FileForm::Recordings)?;
-    append_dump(&mut text, leg.input.as_str(), fault.offset, fault.kind)?;
-    append_shown_at(&mut text, octets, fault.offset)?;
-    end(text, input_dump_sentence(fault.kind))
+    let DumpFault { offset, kind } = fault;
+    let refusal = Refusal::AtByte { byte: offset, kind };
+    let sentence = input_dump_sentence(kind);
+    refused(
+        alloc,
+        FileForm::Recordings,
+        leg.input.as_str(),
+        octets,
+        refusal,
+        sentence,
+    )
 }
 
 /// What a file is.
@@ -119,17 +127,7 @@ fn faulty_as(
 {
     match form {
         FileForm::Recording => dump_refused(alloc, leg, octets, fault),
-        FileForm::Gzip => input_form(alloc, FileForm::Gzip, leg, line),
-        FileForm::Pcap => input_form(alloc, FileForm::Pcap, leg, line),
-        FileForm::PcapNg => input_form(alloc, FileForm::PcapNg, leg, line),
-        FileForm::TooLarge => input_form(alloc, FileForm::TooLarge, leg, line),
-        FileForm::Empty => input_form(alloc, FileForm::Empty, leg, line),
-        FileForm::Utf16 => input_form(alloc, FileForm::Utf16, leg, line),
-        FileForm::Nothing => input_form(alloc, FileForm::Nothing, leg, line),
-        FileForm::Frames => input_form(alloc, FileForm::Frames, leg, line),
-        FileForm::Script => input_form(alloc, FileForm::Script, leg, line),
-        FileForm::Recordings => input_form(alloc, FileForm::Recordings, leg, line),
-        FileForm::Links => input_form(alloc, FileForm::Links, leg, line),
+        other => input_form(alloc, other, leg, line),
     }
 }
 
@@ -215,26 +213,8 @@ fn recording_told(
     }
 }
 
-/// What is told of the IN of a leg that stands in this line.
-fn input_told(
-    alloc: Global,
-    limit: u32,
-    leg: &LegLine,
-    line: Option<&[u8]>,
-    octets: &[u8],
-) -> Result<Option<Report>, NoMemory>
-    requires { limit ≤ MOST_RECORDING_OCTETS }
-    ensures { IfOk result (λ found. option_map as_told found ≡ inputs.input_told limit leg.now (option_map (λ l. l.now) line.entry) octets.now) }
-{
-    if octets.len() > MOST_CHECKED_OCTETS {
-        let report = input_form(alloc, FileForm::TooLarge, leg, line)?;
-        return Ok(Some(report));
-    }
-    recording_told(alloc, limit, leg, line, octets)
-}
-
-/// What is told of the IN of a leg of the conference with the octets `file_spec`, where it may have `limit` octets and has these. Nothing
-/// is where all is well.
+/// What is told of the IN of a leg of the conference with the octets `conference`, where it may have `limit` octets and has these.
+/// Nothing is where all is well.
 pub fn leg_told(
     alloc: Global,
     limit: u32,
@@ -243,9 +223,14 @@ pub fn leg_told(
     octets: &[u8],
 ) -> Result<Option<Report>, NoMemory>
     requires { limit ≤ MOST_RECORDING_OCTETS }
-    ensures { IfOk result (λ found. option_map as_told found ≡ inputs.leg_told limit conference.now leg.now octets.now) }
+    ensures { IfOk result (IsLegTold limit conference.now leg.now octets.now) }
 {
-    input_told(alloc, limit, leg, line_at(conference, leg.line), octets)
+    let line = line_at(conference, leg.line);
+    if octets.len() > MOST_CHECKED_OCTETS {
+        let report = input_form(alloc, FileForm::TooLarge, leg, line)?;
+        return Ok(Some(report));
+    }
+    recording_told(alloc, limit, leg, line, octets)
 }
 
 /// The legs of a conference whose INs are looked at.

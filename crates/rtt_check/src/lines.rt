@@ -8,6 +8,7 @@ ghost use Rattle.file_spec.specs.Lines.{words};
 ghost use Rattle.file_spec.specs.Numbers.{is_number};
 ghost use Rattle.report_spec.specs.Checking.{line_at, word_in};
 ghost use Rattle.report_spec.specs.Forms.{begins_with_moment, first_said, is_conference_word, is_of_conference, is_linked, is_of_link, is_of_moment, is_of_recording, has_leg_words, leg_is_linked, leg_is_recorded, line_word, packet_word, said, service_word, time_word, word_of};
+ghost use Rattle.rtt_check.specs.Lines.{tells};
 
 use report_spec::LineWord;
 use rtt_base::NoMemory;
@@ -234,44 +235,36 @@ pub(crate) fn first_said(octets: &[u8]) -> Option<&[u8]>
     None
 }
 
-/// Whether a line has a leg or a mixer.
-pub(crate) fn has_conference(alloc: Global, octets: &[u8]) -> Result<bool, NoMemory>
-    ensures { IfOk result (λ has. has ≡ list_any (λ l. is_of_conference (said l)) (lines octets.now)) }
-{
-    let mut rest = octets;
-    while let Some((line, after)) = next_line(rest) {
-        let words = words_of(alloc, line)?;
-        if is_of_conference(words.as_slice()) {
-            return Ok(true);
-        }
-        rest = after;
-    }
-    Ok(false)
+/// What a line of a conference tells.
+#[derive(Clone, Copy)]
+pub(crate) enum LineContent {
+    /// A leg or the mixer.
+    LegOrMixer,
+    /// A leg over a link.
+    Link,
+    /// A leg over recordings.
+    Recording,
 }
 
-/// Whether a line has a leg over a link.
-pub(crate) fn has_link(alloc: Global, octets: &[u8]) -> Result<bool, NoMemory>
-    ensures { IfOk result (λ has. has ≡ list_any (λ l. is_of_link (said l)) (lines octets.now)) }
+/// Whether a line with these words tells that.
+fn tells(words: &[&str], content: LineContent) -> bool
+    ensures { result ≡ tells content (map (λ w. w.now) words.now) }
 {
-    let mut rest = octets;
-    while let Some((line, after)) = next_line(rest) {
-        let words = words_of(alloc, line)?;
-        if is_of_link(words.as_slice()) {
-            return Ok(true);
-        }
-        rest = after;
+    match content {
+        LineContent::LegOrMixer => is_of_conference(words),
+        LineContent::Link => is_of_link(words),
+        LineContent::Recording => is_of_recording(words),
     }
-    Ok(false)
 }
 
-/// Whether a line has a leg over recordings.
-pub(crate) fn has_recording(alloc: Global, octets: &[u8]) -> Result<bool, NoMemory>
-    ensures { IfOk result (λ has. has ≡ list_any (λ l. is_of_recording (said l)) (lines octets.now)) }
+/// Whether a line tells that.
+pub(crate) fn has_line(alloc: Global, octets: &[u8], content: LineContent) -> Result<bool, NoMemory>
+    ensures { IfOk result (λ has. has ≡ list_any (λ l. tells content (said l)) (lines octets.now)) }
 {
     let mut rest = octets;
     while let Some((line, after)) = next_line(rest) {
         let words = words_of(alloc, line)?;
-        if is_of_recording(words.as_slice()) {
+        if tells(words.as_slice(), content) {
             return Ok(true);
         }
         rest = after;

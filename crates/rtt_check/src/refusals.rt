@@ -1,86 +1,73 @@
 //! What is told of a refusal.
-ghost use Rattle.std.specs.Prelude.{◌≡◌, ◌<◌, ◌++◌, drop, flat_map, map, take, option_map, OnOk};
-ghost use Rattle.command_spec.specs.declared.faults.Refusal.TheVariants.{AtByte, AtFrame, AtLine, AtTrunk};
-ghost use Rattle.command_spec.specs.Messages.{byte_message, line_message, refusal_message};
+ghost use Rattle.std.specs.Prelude.{◌≡◌, ◌<◌, ◌++◌, decimal, drop, flat_map, map, take, option_map, OnOk};
+ghost use Rattle.command_spec.specs.Messages.{refusal_message};
 ghost use Rattle.report_spec.specs.Checking.{hex_digit, hex_octet, shown, shown_at, shown_line, shown_octet, shown_octets};
 ghost use Rattle.report_spec.specs.Told.{told_name};
+ghost use Rattle.rtt_check.specs.Reports.{place_message, shown_of};
 
+use crate::lines::line_at;
 use crate::name_texts::append_told;
 use crate::names::{conf_kind_name, frame_kind_name};
-use command_spec::dump_kind_name;
-use file_spec::{ConfKind, FrameKind};
+use command_spec::{Refusal, dump_kind_name};
 use itoa::Buffer;
 use report_spec::limits::{MOST_SHOWN_AT_BYTE, MOST_SHOWN_OCTETS};
 use rtt_base::{Bytes, NoMemory};
-use wire_spec::DumpKind;
 
-/// Appends at which byte a file of this name is refused, and why.
-fn append_byte(text: &mut Bytes, name: &str, byte: u64, why: &[u8]) -> Result<(), NoMemory>
-    ensures { OnOk result (text.new ≡ text.old ++ byte_message (told_name name.now) byte why.now) }
+/// Appends where in a file of this name something is refused, the number of a unit, and why.
+fn append_place(
+    text: &mut Bytes,
+    name: &str,
+    unit: &[u8],
+    number: u64,
+    why: &[u8],
+) -> Result<(), NoMemory>
+    ensures { OnOk result (text.new ≡ text.old ++ place_message (told_name name.now) unit.now number why.now) }
 {
     let mut digits = Buffer::new();
     append_told(text, name)?;
-    text.append(b" byte ")?;
-    text.append(digits.format(byte).as_bytes())?;
+    text.append(unit)?;
+    text.append(digits.format(number).as_bytes())?;
     text.append(b": ")?;
     text.append(why)?;
     text.append(b"\n")
 }
 
-/// The same of a recording.
-pub(crate) fn append_dump(
+/// Appends a number between what stands before it and what stands behind it.
+fn append_counted(
     text: &mut Bytes,
-    name: &str,
-    byte: u64,
-    kind: DumpKind,
+    before: &[u8],
+    number: u32,
+    behind: &[u8],
 ) -> Result<(), NoMemory>
-    ensures { OnOk result (text.new ≡ text.old ++ refusal_message (told_name name.now) (AtByte byte kind)) }
-{
-    append_byte(text, name, byte, dump_kind_name(kind))
-}
-
-/// The same of frames.
-pub(crate) fn append_frame(
-    text: &mut Bytes,
-    name: &str,
-    byte: u64,
-    kind: FrameKind,
-) -> Result<(), NoMemory>
-    ensures { OnOk result (text.new ≡ text.old ++ refusal_message (told_name name.now) (AtFrame byte kind)) }
-{
-    append_byte(text, name, byte, frame_kind_name(kind))
-}
-
-/// Appends which line of a file of this name is refused, and the name of the reason.
-fn append_at_line(text: &mut Bytes, name: &str, line: u32, why: &[u8]) -> Result<(), NoMemory>
-    ensures { OnOk result (text.new ≡ text.old ++ line_message (told_name name.now) line why.now) }
+    ensures { OnOk result (text.new ≡ text.old ++ (before.now ++ (decimal number ++ behind.now))) }
 {
     let mut digits = Buffer::new();
-    append_told(text, name)?;
-    text.append(b" line ")?;
-    text.append(digits.format(line).as_bytes())?;
-    text.append(b": ")?;
-    text.append(why)?;
-    text.append(b"\n")
+    text.append(before)?;
+    text.append(digits.format(number).as_bytes())?;
+    text.append(behind)
 }
 
-/// The same of a script or a conference.
-pub(crate) fn append_line(
-    text: &mut Bytes,
-    name: &str,
-    line: u32,
-    kind: ConfKind,
-) -> Result<(), NoMemory>
-    ensures { OnOk result (text.new ≡ text.old ++ refusal_message (told_name name.now) (AtLine line kind)) }
+/// Appends where a file of this name is refused, and why.
+pub(crate) fn append_refusal(text: &mut Bytes, name: &str, refusal: Refusal) -> Result<(), NoMemory>
+    ensures { OnOk result (text.new ≡ text.old ++ refusal_message (told_name name.now) refusal) }
 {
-    append_at_line(text, name, line, conf_kind_name(kind))
-}
-
-/// The same of a leg behind another mixer.
-pub(crate) fn append_trunk(text: &mut Bytes, name: &str, line: u32) -> Result<(), NoMemory>
-    ensures { OnOk result (text.new ≡ text.old ++ refusal_message (told_name name.now) (AtTrunk line)) }
-{
-    append_at_line(text, name, line, b"Trunk")
+    match refusal {
+        Refusal::AtByte { byte, kind } => {
+            append_place(text, name, b" byte ", byte, dump_kind_name(kind))
+        }
+        Refusal::AtFrame { byte, kind } => {
+            append_place(text, name, b" byte ", byte, frame_kind_name(kind))
+        }
+        Refusal::AtLine { line, kind } => {
+            append_place(text, name, b" line ", u64::from(line), conf_kind_name(kind))
+        }
+        Refusal::AtTrunk { line } => {
+            append_place(text, name, b" line ", u64::from(line), b"Trunk")
+        }
+        Refusal::AfterTurns { turns } => {
+            append_counted(text, b"conference too long: ", turns, b" turns\n")
+        },
+    }
 }
 
 /// A hexadecimal digit.
@@ -146,7 +133,7 @@ fn octets_from(octets: &[u8], byte: u64) -> &[u8]
 }
 
 /// Appends the octets that stand at this byte of a file.
-pub(crate) fn append_shown_at(text: &mut Bytes, octets: &[u8], byte: u64) -> Result<(), NoMemory>
+fn append_shown_at(text: &mut Bytes, octets: &[u8], byte: u64) -> Result<(), NoMemory>
     ensures { OnOk result (text.new ≡ text.old ++ shown_at octets.now byte) }
 {
     append_shown_octets(text, octets_from(octets, byte))
@@ -200,5 +187,24 @@ pub(crate) fn append_shown(text: &mut Bytes, line: Option<&[u8]>) -> Result<(), 
     match line {
         Some(line) => append_shown_line(text, line),
         None => Ok(()),
+    }
+}
+
+/// Appends what stands where a file with these octets is refused.
+pub(crate) fn append_shown_of(
+    text: &mut Bytes,
+    octets: &[u8],
+    refusal: Refusal,
+) -> Result<(), NoMemory>
+    ensures { OnOk result (text.new ≡ text.old ++ shown_of octets.now refusal) }
+{
+    match refusal {
+        Refusal::AtByte { byte, .. } | Refusal::AtFrame { byte, .. } => {
+            append_shown_at(text, octets, byte)
+        }
+        Refusal::AtLine { line, .. } | Refusal::AtTrunk { line } => {
+            append_shown(text, line_at(octets, line))
+        }
+        Refusal::AfterTurns { .. } => Ok(()),
     }
 }

@@ -1,26 +1,22 @@
 //! What is told of a file.
 ghost use Rattle.std.specs.Prelude.{◌≡◌, ◌++◌, [], codes, false, IfOk};
-ghost use Rattle.std.specs.Str.Lines.{lines};
-ghost use Rattle.report_spec.specs.declared.forms.FileForm.TheVariants as form;
 ghost use Rattle.report_spec.specs.Checking as checking;
-ghost use Rattle.report_spec.specs.Sentences.{dump_sentence, form_name, frame_sentence};
+ghost use Rattle.report_spec.specs.Sentences.{form_name};
 ghost use Rattle.command_spec.specs.Cascading.{odd_line};
 ghost use Rattle.command_spec.specs.Frames.{AreTyped};
 ghost use Rattle.command_spec.specs.Scripts.{full_line};
-ghost use Rattle.command_spec.specs.declared.faults.Refusal.TheVariants.{AtByte, AtFrame, AtLine, AtTrunk};
-ghost use Rattle.rtt_check.specs.Reports.{as_told};
+ghost use Rattle.rtt_check.specs.Reports.{as_told, shown_of};
 
 use crate::forms::{foreign, form_of, has_mark};
 use crate::lines::{line_at, word_in};
 use crate::packets::count_packets;
-use crate::refusals::{
-    append_dump, append_frame, append_line, append_shown, append_shown_at, append_trunk,
-};
+use crate::refusals::{append_refusal, append_shown_of};
 use crate::sentences::{
     CASCADE_NAME, MARK_SENTENCE, conference_sentence, dump_sentence, form_name, form_sentence,
     frame_sentence, script_sentence, trunk_sentence,
 };
 use crate::trunks::{is_on_trunk, odd_line};
+use command_spec::Refusal;
 use conf_text::{ConfFault, read_conf};
 use file_spec::{ConfKind, Form, FrameRefusal, LegLine};
 use itoa::Buffer;
@@ -101,20 +97,22 @@ pub(crate) fn copy_of(alloc: Global, octets: &[u8]) -> Result<Bytes, NoMemory>
     Ok(copy)
 }
 
-/// A recording that is refused.
-fn dump_refused(
+/// A file of this form that is refused, and what to do.
+pub(crate) fn refused(
     alloc: Global,
+    form: FileForm,
     name: &str,
     octets: &[u8],
-    fault: DumpFault,
+    refusal: Refusal,
+    sentence: &[u8],
 ) -> Result<Report, NoMemory>
-    ensures { IfOk result (λ report. as_told report ≡ checking.refused form.Recording name.now (AtByte fault.offset fault.kind)
-        (checking.shown_at octets.now fault.offset) (dump_sentence fault.kind)) }
+    ensures { IfOk result (λ report. as_told report ≡ checking.refused form name.now refusal
+        (shown_of octets.now refusal) sentence.now) }
 {
-    let mut text = begin(alloc, FileForm::Recording)?;
-    append_dump(&mut text, name, fault.offset, fault.kind)?;
-    append_shown_at(&mut text, octets, fault.offset)?;
-    end(text, dump_sentence(fault.kind))
+    let mut text = begin(alloc, form)?;
+    append_refusal(&mut text, name, refusal)?;
+    append_shown_of(&mut text, octets, refusal)?;
+    end(text, sentence)
 }
 
 fn recording_report(alloc: Global, name: &str, octets: &[u8]) -> Result<Report, NoMemory>
@@ -124,7 +122,17 @@ fn recording_report(alloc: Global, name: &str, octets: &[u8]) -> Result<Report, 
     let mut reader = DumpReader::new(SteadySource::new(copy));
     match count_packets(&mut reader) {
         Ok(packets) => whole(alloc, FileForm::Recording, u64::from(packets), b" packets"),
-        Err(RecordingFault::Dump(fault)) => dump_refused(alloc, name, octets, fault),
+        Err(RecordingFault::Dump(DumpFault { offset, kind })) => {
+            let refusal = Refusal::AtByte { byte: offset, kind };
+            refused(
+                alloc,
+                FileForm::Recording,
+                name,
+                octets,
+                refusal,
+                dump_sentence(kind),
+            )
+        }
         Err(RecordingFault::NoMemory) => Err(NoMemory),
     }
 }
@@ -140,25 +148,6 @@ fn unless_mark<'a>(octets: &[u8], sentence: &'a [u8]) -> &'a [u8]
     }
 }
 
-/// A file of lines that is refused.
-fn line_refused(
-    alloc: Global,
-    form: FileForm,
-    name: &str,
-    octets: &[u8],
-    line: u32,
-    kind: ConfKind,
-    sentence: &[u8],
-) -> Result<Report, NoMemory>
-    ensures { IfOk result (λ report. as_told report ≡ checking.refused form name.now (AtLine line kind)
-        (checking.shown (checking.line_at line (lines octets.now))) (checking.unless_mark octets.now sentence.now)) }
-{
-    let mut text = begin(alloc, form)?;
-    append_line(&mut text, name, line, kind)?;
-    append_shown(&mut text, line_at(octets, line))?;
-    end(text, unless_mark(octets, sentence))
-}
-
 fn script_refused(
     alloc: Global,
     name: &str,
@@ -168,8 +157,9 @@ fn script_refused(
 ) -> Result<Report, NoMemory>
     ensures { IfOk result (λ report. as_told report ≡ checking.script_refused name.now octets.now (record { line = line; kind = kind })) }
 {
-    let sentence = script_sentence(kind);
-    line_refused(alloc, FileForm::Script, name, octets, line, kind, sentence)
+    let refusal = Refusal::AtLine { line, kind };
+    let sentence = unless_mark(octets, script_sentence(kind));
+    refused(alloc, FileForm::Script, name, octets, refusal, sentence)
 }
 
 /// A script all of whose lines are lines, of which one may be full.
@@ -233,24 +223,6 @@ fn recordings_name(legs: &[LegLine]) -> &'static [u8]
     }
 }
 
-/// A file of this form in which a leg behind another mixer has other payload types than the recording of that has.
-fn trunk_refused(
-    alloc: Global,
-    form: FileForm,
-    name: &str,
-    octets: &[u8],
-    line: u32,
-    sentence: &[u8],
-) -> Result<Report, NoMemory>
-    ensures { IfOk result (λ report. as_told report ≡ checking.refused form name.now (AtTrunk line)
-        (checking.shown (checking.line_at line (lines octets.now))) sentence.now) }
-{
-    let mut text = begin(alloc, form)?;
-    append_trunk(&mut text, name, line)?;
-    append_shown(&mut text, line_at(octets, line))?;
-    end(text, sentence)
-}
-
 /// A conference of recordings that is whole, unless it is wrong for `cascade`.
 fn unless_odd(
     alloc: Global,
@@ -262,8 +234,15 @@ fn unless_odd(
 {
     match odd_line(legs) {
         Some(line) => {
-            let sentence = trunk_sentence();
-            trunk_refused(alloc, FileForm::Recordings, name, octets, line, sentence)
+            let refusal = Refusal::AtTrunk { line };
+            refused(
+                alloc,
+                FileForm::Recordings,
+                name,
+                octets,
+                refusal,
+                trunk_sentence(),
+            )
         }
         None => whole_as(alloc, recordings_name(legs), legs.len() as u64, b" legs"),
     }
@@ -297,27 +276,12 @@ fn conference_report(
         Ok(conference) => conference_whole(alloc, form, name, octets, conference.legs.as_slice()),
         Err(ConfFault::Refused { line, kind }) => {
             let word = word_in(alloc, line_at(octets, line))?;
-            let sentence = conference_sentence(form, word, kind);
-            line_refused(alloc, form_in(form), name, octets, line, kind, sentence)
+            let refusal = Refusal::AtLine { line, kind };
+            let sentence = unless_mark(octets, conference_sentence(form, word, kind));
+            refused(alloc, form_in(form), name, octets, refusal, sentence)
         }
         Err(ConfFault::NoMemory) => Err(NoMemory),
     }
-}
-
-/// Frames that are refused.
-fn frame_refused(
-    alloc: Global,
-    name: &str,
-    octets: &[u8],
-    fault: FrameRefusal,
-) -> Result<Report, NoMemory>
-    ensures { IfOk result (λ report. as_told report ≡ checking.refused form.Frames name.now (AtFrame fault.offset fault.kind)
-        (checking.shown_at octets.now fault.offset) (frame_sentence fault.kind)) }
-{
-    let mut text = begin(alloc, FileForm::Frames)?;
-    append_frame(&mut text, name, fault.offset, fault.kind)?;
-    append_shown_at(&mut text, octets, fault.offset)?;
-    end(text, frame_sentence(fault.kind))
 }
 
 fn frames_report(alloc: Global, name: &str, octets: &[u8]) -> Result<Report, NoMemory>
@@ -325,7 +289,17 @@ fn frames_report(alloc: Global, name: &str, octets: &[u8]) -> Result<Report, NoM
 {
     match relay_frames(alloc, octets, usual_settings(0, 0, 0)) {
         Ok(_) => whole(alloc, FileForm::Frames, octets.len() as u64, b" octets"),
-        Err(RelayFault::Refused(fault)) => frame_refused(alloc, name, octets, fault),
+        Err(RelayFault::Refused(FrameRefusal { offset, kind })) => {
+            let refusal = Refusal::AtFrame { byte: offset, kind };
+            refused(
+                alloc,
+                FileForm::Frames,
+                name,
+                octets,
+                refusal,
+                frame_sentence(kind),
+            )
+        }
         Err(RelayFault::NoMemory) => Err(NoMemory),
     }
 }

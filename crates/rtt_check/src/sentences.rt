@@ -32,9 +32,7 @@ pub(crate) fn form_sentence(form: FileForm) -> &'static [u8]
 {
     match form {
         FileForm::Gzip => b"the file is compressed: unpack it first",
-        FileForm::Pcap =>
-            b"the program reads no captures: examples/from-pcap makes recordings of one, and Wireshark exports a stream as rtpdump",
-        FileForm::PcapNg =>
+        FileForm::Pcap | FileForm::PcapNg =>
             b"the program reads no captures: examples/from-pcap makes recordings of one, and Wireshark exports a stream as rtpdump",
         FileForm::TooLarge =>
             b"no file of so many octets is taken: export a call in parts; of a recording show prints the front",
@@ -43,11 +41,11 @@ pub(crate) fn form_sentence(form: FileForm) -> &'static [u8]
         FileForm::Utf16 => b"save the file as UTF-8 without a byte order mark",
         FileForm::Nothing =>
             b"a recording begins with #!rtpplay1.0, a line of a script with a number, and a conference has lines that begin with mixer and leg",
-        FileForm::Recording => b"",
-        FileForm::Frames => b"",
-        FileForm::Script => b"",
-        FileForm::Recordings => b"",
-        FileForm::Links => b"",
+        FileForm::Recording
+        | FileForm::Frames
+        | FileForm::Script
+        | FileForm::Recordings
+        | FileForm::Links => b"",
     }
 }
 
@@ -96,18 +94,10 @@ pub(crate) fn script_sentence(kind: ConfKind) -> &'static [u8]
 {
     match kind {
         ConfKind::NotText => b"the line is not UTF-8: save the file as UTF-8",
-        ConfKind::Word => b"",
         ConfKind::Count =>
             b"no space stands in the line: put one, and no tab, behind the number, also where nothing is typed",
-        ConfKind::Name => b"",
         ConfKind::Number =>
             b"before the first space stands a whole number of milliseconds up to 14400000, in decimal digits, and the line begins with it",
-        ConfKind::Many => b"",
-        ConfKind::PlanMany => b"",
-        ConfKind::Twice => b"",
-        ConfKind::Clash => b"",
-        ConfKind::Few => b"",
-        ConfKind::Crowd => b"",
         ConfKind::Large => b"a script has at most 1048576 octets: part it",
         ConfKind::Order => b"a line above is later: sort the lines by their numbers",
         ConfKind::Escape =>
@@ -115,86 +105,45 @@ pub(crate) fn script_sentence(kind: ConfKind) -> &'static [u8]
         ConfKind::Long => b"a line types at most 1023 octets: make two lines of it",
         ConfKind::Full =>
             b"more than 16384 octets wait to be sent by then: type later, a packet takes 1023 octets each 300 milliseconds",
+        ConfKind::Word
+        | ConfKind::Name
+        | ConfKind::Many
+        | ConfKind::PlanMany
+        | ConfKind::Twice
+        | ConfKind::Clash
+        | ConfKind::Few
+        | ConfKind::Crowd => b"",
     }
 }
+
+/// The first words that lines of a conference of recordings have.
+const RECORDINGS_WORDS: &[u8] =
+    b"a line begins with mixer, leg, gens, stay, tick, spacing, wait, turns, relabel, counts, lose, delay or twice, in small letters, or with # as its first octet: correct the word, and part words by spaces, not by tabs";
+
+/// The first words that lines of a conference of links have.
+const LINKS_WORDS: &[u8] =
+    b"a line begins with mixer, leg, gens, tick, spacing, wait, turns, relabel, counts, gone, operator, record or follow, in small letters, or with # as its first octet: correct the word, and part words by spaces, not by tabs";
 
 /// The first word, or how a leg's terminal shows text, is none of those that there are.
 fn word_sentence(form: Form, word: LineWord) -> &'static [u8]
     ensures { result.now ≡ word_sentence form word }
 {
-    match (form, word) {
-        (Form::Files, LineWord::Leg) =>
-            b"behind the name of a leg stands aware or unaware, in small letters",
-        (Form::Files, LineWord::Mixer) =>
-            b"a line begins with mixer, leg, gens, stay, tick, spacing, wait, turns, relabel, counts, lose, delay or twice, in small letters, or with # as its first octet: correct the word, and part words by spaces, not by tabs",
-        (Form::Files, LineWord::Generations) =>
-            b"a line begins with mixer, leg, gens, stay, tick, spacing, wait, turns, relabel, counts, lose, delay or twice, in small letters, or with # as its first octet: correct the word, and part words by spaces, not by tabs",
-        (Form::Files, LineWord::Stay) =>
-            b"a line begins with mixer, leg, gens, stay, tick, spacing, wait, turns, relabel, counts, lose, delay or twice, in small letters, or with # as its first octet: correct the word, and part words by spaces, not by tabs",
-        (Form::Files, LineWord::Tick) =>
-            b"a line begins with mixer, leg, gens, stay, tick, spacing, wait, turns, relabel, counts, lose, delay or twice, in small letters, or with # as its first octet: correct the word, and part words by spaces, not by tabs",
-        (Form::Files, LineWord::Spacing) =>
-            b"a line begins with mixer, leg, gens, stay, tick, spacing, wait, turns, relabel, counts, lose, delay or twice, in small letters, or with # as its first octet: correct the word, and part words by spaces, not by tabs",
-        (Form::Files, LineWord::Wait) =>
-            b"a line begins with mixer, leg, gens, stay, tick, spacing, wait, turns, relabel, counts, lose, delay or twice, in small letters, or with # as its first octet: correct the word, and part words by spaces, not by tabs",
-        (Form::Files, LineWord::Turns) =>
-            b"a line begins with mixer, leg, gens, stay, tick, spacing, wait, turns, relabel, counts, lose, delay or twice, in small letters, or with # as its first octet: correct the word, and part words by spaces, not by tabs",
-        (Form::Files, LineWord::Relabel) =>
-            b"a line begins with mixer, leg, gens, stay, tick, spacing, wait, turns, relabel, counts, lose, delay or twice, in small letters, or with # as its first octet: correct the word, and part words by spaces, not by tabs",
-        (Form::Files, LineWord::Gone) =>
-            b"a conference of recordings has no lines gone, operator, record and follow: leave the line out",
-        (Form::Files, LineWord::Operator) =>
-            b"a conference of recordings has no lines gone, operator, record and follow: leave the line out",
-        (Form::Files, LineWord::Record) =>
-            b"a conference of recordings has no lines gone, operator, record and follow: leave the line out",
-        (Form::Files, LineWord::Follow) =>
-            b"a conference of recordings has no lines gone, operator, record and follow: leave the line out",
-        (Form::Files, LineWord::Counts) =>
-            b"a line begins with mixer, leg, gens, stay, tick, spacing, wait, turns, relabel, counts, lose, delay or twice, in small letters, or with # as its first octet: correct the word, and part words by spaces, not by tabs",
-        (Form::Files, LineWord::Lose) =>
-            b"a line begins with mixer, leg, gens, stay, tick, spacing, wait, turns, relabel, counts, lose, delay or twice, in small letters, or with # as its first octet: correct the word, and part words by spaces, not by tabs",
-        (Form::Files, LineWord::Delay) =>
-            b"a line begins with mixer, leg, gens, stay, tick, spacing, wait, turns, relabel, counts, lose, delay or twice, in small letters, or with # as its first octet: correct the word, and part words by spaces, not by tabs",
-        (Form::Files, LineWord::Twice) =>
-            b"a line begins with mixer, leg, gens, stay, tick, spacing, wait, turns, relabel, counts, lose, delay or twice, in small letters, or with # as its first octet: correct the word, and part words by spaces, not by tabs",
-        (Form::Files, LineWord::Other) =>
-            b"a line begins with mixer, leg, gens, stay, tick, spacing, wait, turns, relabel, counts, lose, delay or twice, in small letters, or with # as its first octet: correct the word, and part words by spaces, not by tabs",
-        (Form::Links, LineWord::Leg) =>
-            b"behind the name of a leg stands aware or unaware, in small letters",
-        (Form::Links, LineWord::Mixer) =>
-            b"a line begins with mixer, leg, gens, tick, spacing, wait, turns, relabel, counts, gone, operator, record or follow, in small letters, or with # as its first octet: correct the word, and part words by spaces, not by tabs",
-        (Form::Links, LineWord::Generations) =>
-            b"a line begins with mixer, leg, gens, tick, spacing, wait, turns, relabel, counts, gone, operator, record or follow, in small letters, or with # as its first octet: correct the word, and part words by spaces, not by tabs",
-        (Form::Links, LineWord::Stay) =>
-            b"a conference of links has no lines stay, lose, delay and twice: leave the line out",
-        (Form::Links, LineWord::Tick) =>
-            b"a line begins with mixer, leg, gens, tick, spacing, wait, turns, relabel, counts, gone, operator, record or follow, in small letters, or with # as its first octet: correct the word, and part words by spaces, not by tabs",
-        (Form::Links, LineWord::Spacing) =>
-            b"a line begins with mixer, leg, gens, tick, spacing, wait, turns, relabel, counts, gone, operator, record or follow, in small letters, or with # as its first octet: correct the word, and part words by spaces, not by tabs",
-        (Form::Links, LineWord::Wait) =>
-            b"a line begins with mixer, leg, gens, tick, spacing, wait, turns, relabel, counts, gone, operator, record or follow, in small letters, or with # as its first octet: correct the word, and part words by spaces, not by tabs",
-        (Form::Links, LineWord::Turns) =>
-            b"a line begins with mixer, leg, gens, tick, spacing, wait, turns, relabel, counts, gone, operator, record or follow, in small letters, or with # as its first octet: correct the word, and part words by spaces, not by tabs",
-        (Form::Links, LineWord::Relabel) =>
-            b"a line begins with mixer, leg, gens, tick, spacing, wait, turns, relabel, counts, gone, operator, record or follow, in small letters, or with # as its first octet: correct the word, and part words by spaces, not by tabs",
-        (Form::Links, LineWord::Gone) =>
-            b"a line begins with mixer, leg, gens, tick, spacing, wait, turns, relabel, counts, gone, operator, record or follow, in small letters, or with # as its first octet: correct the word, and part words by spaces, not by tabs",
-        (Form::Links, LineWord::Operator) =>
-            b"a line begins with mixer, leg, gens, tick, spacing, wait, turns, relabel, counts, gone, operator, record or follow, in small letters, or with # as its first octet: correct the word, and part words by spaces, not by tabs",
-        (Form::Links, LineWord::Record) =>
-            b"a line begins with mixer, leg, gens, tick, spacing, wait, turns, relabel, counts, gone, operator, record or follow, in small letters, or with # as its first octet: correct the word, and part words by spaces, not by tabs",
-        (Form::Links, LineWord::Follow) =>
-            b"a line begins with mixer, leg, gens, tick, spacing, wait, turns, relabel, counts, gone, operator, record or follow, in small letters, or with # as its first octet: correct the word, and part words by spaces, not by tabs",
-        (Form::Links, LineWord::Counts) =>
-            b"a line begins with mixer, leg, gens, tick, spacing, wait, turns, relabel, counts, gone, operator, record or follow, in small letters, or with # as its first octet: correct the word, and part words by spaces, not by tabs",
-        (Form::Links, LineWord::Lose) =>
-            b"a conference of links has no lines stay, lose, delay and twice: leave the line out",
-        (Form::Links, LineWord::Delay) =>
-            b"a conference of links has no lines stay, lose, delay and twice: leave the line out",
-        (Form::Links, LineWord::Twice) =>
-            b"a conference of links has no lines stay, lose, delay and twice: leave the line out",
-        (Form::Links, LineWord::Other) =>
-            b"a line begins with mixer, leg, gens, tick, spacing, wait, turns, relabel, counts, gone, operator, record or follow, in small letters, or with # as its first octet: correct the word, and part words by spaces, not by tabs",
+    match word {
+        LineWord::Leg => b"behind the name of a leg stands aware or unaware, in small letters",
+        LineWord::Gone | LineWord::Operator | LineWord::Record | LineWord::Follow => match form {
+            Form::Files =>
+                b"a conference of recordings has no lines gone, operator, record and follow: leave the line out",
+            Form::Links => LINKS_WORDS,
+        },
+        LineWord::Stay | LineWord::Lose | LineWord::Delay | LineWord::Twice => match form {
+            Form::Files => RECORDINGS_WORDS,
+            Form::Links =>
+                b"a conference of links has no lines stay, lose, delay and twice: leave the line out",
+        },
+        _ => match form {
+            Form::Files => RECORDINGS_WORDS,
+            Form::Links => LINKS_WORDS,
+        },
     }
 }
 
@@ -209,18 +158,6 @@ fn count_sentence(word: LineWord) -> &'static [u8]
             b"a mixer has the words SSRC SEQ STAMP, and no other: a comment needs a line of its own",
         LineWord::Generations => b"gens has the words NAME N, and no other",
         LineWord::Stay => b"stay has the words NAME FROM UNTIL, and no other",
-        LineWord::Tick =>
-            b"one number stands behind the word, and nothing else: a comment needs a line of its own",
-        LineWord::Spacing =>
-            b"one number stands behind the word, and nothing else: a comment needs a line of its own",
-        LineWord::Wait =>
-            b"one number stands behind the word, and nothing else: a comment needs a line of its own",
-        LineWord::Turns =>
-            b"one number stands behind the word, and nothing else: a comment needs a line of its own",
-        LineWord::Relabel =>
-            b"one number stands behind the word, and nothing else: a comment needs a line of its own",
-        LineWord::Gone =>
-            b"one number stands behind the word, and nothing else: a comment needs a line of its own",
         LineWord::Operator => b"operator has the words PORT WORD, and no other",
         LineWord::Record => b"record has the word PREFIX, and no other: no name has a space",
         LineWord::Follow => b"follow has the word NAME, and no other",
@@ -228,7 +165,7 @@ fn count_sentence(word: LineWord) -> &'static [u8]
         LineWord::Lose => b"lose has the words NAME K, and no other",
         LineWord::Delay => b"delay has the words NAME K MS, and no other",
         LineWord::Twice => b"twice has the words NAME K, and no other",
-        LineWord::Other =>
+        _ =>
             b"one number stands behind the word, and nothing else: a comment needs a line of its own",
     }
 }
@@ -240,38 +177,9 @@ fn name_sentence(word: LineWord) -> &'static [u8]
     match word {
         LineWord::Leg =>
             b"the name of a leg has 1 to 32 letters A to Z and a to z, digits, ., _ and -, and those of files have 1 to 255 octets",
-        LineWord::Mixer =>
-            b"no leg above has this name: correct it, or move the line below that of the leg",
-        LineWord::Generations =>
-            b"no leg above has this name: correct it, or move the line below that of the leg",
-        LineWord::Stay =>
-            b"no leg above has this name: correct it, or move the line below that of the leg",
-        LineWord::Tick =>
-            b"no leg above has this name: correct it, or move the line below that of the leg",
-        LineWord::Spacing =>
-            b"no leg above has this name: correct it, or move the line below that of the leg",
-        LineWord::Wait =>
-            b"no leg above has this name: correct it, or move the line below that of the leg",
-        LineWord::Turns =>
-            b"no leg above has this name: correct it, or move the line below that of the leg",
-        LineWord::Relabel =>
-            b"no leg above has this name: correct it, or move the line below that of the leg",
-        LineWord::Gone =>
-            b"no leg above has this name: correct it, or move the line below that of the leg",
         LineWord::Operator => b"WORD has 8 to 64 letters A to Z and a to z and digits",
         LineWord::Record => b"PREFIX has 1 to 255 octets",
-        LineWord::Follow =>
-            b"no leg above has this name: correct it, or move the line below that of the leg",
-        LineWord::Counts =>
-            b"no leg above has this name: correct it, or move the line below that of the leg",
-        LineWord::Lose =>
-            b"no leg above has this name: correct it, or move the line below that of the leg",
-        LineWord::Delay =>
-            b"no leg above has this name: correct it, or move the line below that of the leg",
-        LineWord::Twice =>
-            b"no leg above has this name: correct it, or move the line below that of the leg",
-        LineWord::Other =>
-            b"no leg above has this name: correct it, or move the line below that of the leg",
+        _ => b"no leg above has this name: correct it, or move the line below that of the leg",
     }
 }
 
@@ -279,53 +187,28 @@ fn name_sentence(word: LineWord) -> &'static [u8]
 fn number_sentence(form: Form, word: LineWord) -> &'static [u8]
     ensures { result.now ≡ number_sentence form word }
 {
-    match (form, word) {
-        (Form::Files, LineWord::Leg) =>
-            b"SSRC is a number up to 4294967295, in decimal digits, and T140 and RED are numbers from 96 to 127",
-        (Form::Files, LineWord::Mixer) =>
+    match word {
+        LineWord::Leg => match form {
+            Form::Files =>
+                b"SSRC is a number up to 4294967295, in decimal digits, and T140 and RED are numbers from 96 to 127",
+            Form::Links =>
+                b"SSRC is a number up to 4294967295, in decimal digits, IN is a port from 1 to 65535, and T140 and RED are numbers from 96 to 127",
+        },
+        LineWord::Mixer =>
             b"SSRC and STAMP are numbers up to 4294967295, and SEQ is one up to 65535, in decimal digits",
-        (Form::Files, LineWord::Generations) => b"gens is a number from 0 to 3",
-        (Form::Files, LineWord::Stay) =>
+        LineWord::Generations => b"gens is a number from 0 to 3",
+        LineWord::Stay =>
             b"FROM and UNTIL are numbers of milliseconds up to 14400000, and UNTIL is the greater one",
-        (Form::Files, LineWord::Tick) => b"tick is a number of milliseconds from 20 to 200",
-        (Form::Files, LineWord::Spacing) => b"spacing is a number of milliseconds from 100 to 500",
-        (Form::Files, LineWord::Wait) => b"wait is a number of milliseconds from 0 to 10000",
-        (Form::Files, LineWord::Turns) => b"turns is a number from 1 to 5000000",
-        (Form::Files, LineWord::Relabel) =>
-            b"relabel is a number of milliseconds from 2000 to 60000",
-        (Form::Files, LineWord::Gone) => b"gone is a number of milliseconds from 10000 to 86400000",
-        (Form::Files, LineWord::Operator) => b"PORT is a number from 1 to 65535",
-        (Form::Files, LineWord::Record) => b"the number of a packet is one from 0 to 4294967295",
-        (Form::Files, LineWord::Follow) => b"the number of a packet is one from 0 to 4294967295",
-        (Form::Files, LineWord::Counts) => b"the number of a packet is one from 0 to 4294967295",
-        (Form::Files, LineWord::Lose) => b"the number of a packet is one from 0 to 4294967295",
-        (Form::Files, LineWord::Delay) =>
+        LineWord::Tick => b"tick is a number of milliseconds from 20 to 200",
+        LineWord::Spacing => b"spacing is a number of milliseconds from 100 to 500",
+        LineWord::Wait => b"wait is a number of milliseconds from 0 to 10000",
+        LineWord::Turns => b"turns is a number from 1 to 5000000",
+        LineWord::Relabel => b"relabel is a number of milliseconds from 2000 to 60000",
+        LineWord::Gone => b"gone is a number of milliseconds from 10000 to 86400000",
+        LineWord::Operator => b"PORT is a number from 1 to 65535",
+        LineWord::Delay =>
             b"the number of a packet is one from 0 to 4294967295, and MS one of milliseconds up to 60000",
-        (Form::Files, LineWord::Twice) => b"the number of a packet is one from 0 to 4294967295",
-        (Form::Files, LineWord::Other) => b"the number of a packet is one from 0 to 4294967295",
-        (Form::Links, LineWord::Leg) =>
-            b"SSRC is a number up to 4294967295, in decimal digits, IN is a port from 1 to 65535, and T140 and RED are numbers from 96 to 127",
-        (Form::Links, LineWord::Mixer) =>
-            b"SSRC and STAMP are numbers up to 4294967295, and SEQ is one up to 65535, in decimal digits",
-        (Form::Links, LineWord::Generations) => b"gens is a number from 0 to 3",
-        (Form::Links, LineWord::Stay) =>
-            b"FROM and UNTIL are numbers of milliseconds up to 14400000, and UNTIL is the greater one",
-        (Form::Links, LineWord::Tick) => b"tick is a number of milliseconds from 20 to 200",
-        (Form::Links, LineWord::Spacing) => b"spacing is a number of milliseconds from 100 to 500",
-        (Form::Links, LineWord::Wait) => b"wait is a number of milliseconds from 0 to 10000",
-        (Form::Links, LineWord::Turns) => b"turns is a number from 1 to 5000000",
-        (Form::Links, LineWord::Relabel) =>
-            b"relabel is a number of milliseconds from 2000 to 60000",
-        (Form::Links, LineWord::Gone) => b"gone is a number of milliseconds from 10000 to 86400000",
-        (Form::Links, LineWord::Operator) => b"PORT is a number from 1 to 65535",
-        (Form::Links, LineWord::Record) => b"the number of a packet is one from 0 to 4294967295",
-        (Form::Links, LineWord::Follow) => b"the number of a packet is one from 0 to 4294967295",
-        (Form::Links, LineWord::Counts) => b"the number of a packet is one from 0 to 4294967295",
-        (Form::Links, LineWord::Lose) => b"the number of a packet is one from 0 to 4294967295",
-        (Form::Links, LineWord::Delay) =>
-            b"the number of a packet is one from 0 to 4294967295, and MS one of milliseconds up to 60000",
-        (Form::Links, LineWord::Twice) => b"the number of a packet is one from 0 to 4294967295",
-        (Form::Links, LineWord::Other) => b"the number of a packet is one from 0 to 4294967295",
+        _ => b"the number of a packet is one from 0 to 4294967295",
     }
 }
 
@@ -335,23 +218,11 @@ fn twice_sentence(word: LineWord) -> &'static [u8]
 {
     match word {
         LineWord::Leg => b"a leg above has this name: give each its own",
-        LineWord::Mixer => b"a line above says it: leave one of them out",
-        LineWord::Generations => b"a line above says it of this leg: leave one of them out",
-        LineWord::Stay => b"a line above says it of this leg: leave one of them out",
-        LineWord::Tick => b"a line above says it: leave one of them out",
-        LineWord::Spacing => b"a line above says it: leave one of them out",
-        LineWord::Wait => b"a line above says it: leave one of them out",
-        LineWord::Turns => b"a line above says it: leave one of them out",
-        LineWord::Relabel => b"a line above says it: leave one of them out",
-        LineWord::Gone => b"a line above says it: leave one of them out",
-        LineWord::Operator => b"a line above says it: leave one of them out",
-        LineWord::Record => b"a line above says it: leave one of them out",
-        LineWord::Follow => b"a line above says it of this leg: leave one of them out",
-        LineWord::Counts => b"a line above says it: leave one of them out",
-        LineWord::Lose => b"a line above says it of this packet: leave one of them out",
-        LineWord::Delay => b"a line above says it of this packet: leave one of them out",
-        LineWord::Twice => b"a line above says it of this packet: leave one of them out",
-        LineWord::Other => b"a line above says it: leave one of them out",
+        LineWord::Generations | LineWord::Stay | LineWord::Follow =>
+            b"a line above says it of this leg: leave one of them out",
+        LineWord::Lose | LineWord::Delay | LineWord::Twice =>
+            b"a line above says it of this packet: leave one of them out",
+        _ => b"a line above says it: leave one of them out",
     }
 }
 
@@ -359,49 +230,15 @@ fn twice_sentence(word: LineWord) -> &'static [u8]
 fn clash_sentence(form: Form, word: LineWord) -> &'static [u8]
     ensures { result.now ≡ clash_sentence form word }
 {
-    match (form, word) {
-        (Form::Files, LineWord::Leg) =>
-            b"the SSRC is that of a leg or the mixer above, the OUT is that of a leg above, an OUT is an IN, or the two payload types are the same: give each its own",
-        (Form::Files, LineWord::Mixer) => b"a leg above has this SSRC: give the mixer its own",
-        (Form::Files, LineWord::Generations) =>
-            b"a leg above has this SSRC: give the mixer its own",
-        (Form::Files, LineWord::Stay) => b"a leg above has this SSRC: give the mixer its own",
-        (Form::Files, LineWord::Tick) => b"a leg above has this SSRC: give the mixer its own",
-        (Form::Files, LineWord::Spacing) => b"a leg above has this SSRC: give the mixer its own",
-        (Form::Files, LineWord::Wait) => b"a leg above has this SSRC: give the mixer its own",
-        (Form::Files, LineWord::Turns) => b"a leg above has this SSRC: give the mixer its own",
-        (Form::Files, LineWord::Relabel) => b"a leg above has this SSRC: give the mixer its own",
-        (Form::Files, LineWord::Gone) => b"a leg above has this SSRC: give the mixer its own",
-        (Form::Files, LineWord::Operator) =>
-            b"a leg above has this port: give the operator its own",
-        (Form::Files, LineWord::Record) => b"a leg above has this SSRC: give the mixer its own",
-        (Form::Files, LineWord::Follow) => b"a leg above has this SSRC: give the mixer its own",
-        (Form::Files, LineWord::Counts) => b"a leg above has this SSRC: give the mixer its own",
-        (Form::Files, LineWord::Lose) => b"a leg above has this SSRC: give the mixer its own",
-        (Form::Files, LineWord::Delay) => b"a leg above has this SSRC: give the mixer its own",
-        (Form::Files, LineWord::Twice) => b"a leg above has this SSRC: give the mixer its own",
-        (Form::Files, LineWord::Other) => b"a leg above has this SSRC: give the mixer its own",
-        (Form::Links, LineWord::Leg) =>
-            b"the SSRC is that of a leg or the mixer above, the IN is that of a leg or the operator above, the OUT is that of a leg above, or the two payload types are the same: give each its own",
-        (Form::Links, LineWord::Mixer) => b"a leg above has this SSRC: give the mixer its own",
-        (Form::Links, LineWord::Generations) =>
-            b"a leg above has this SSRC: give the mixer its own",
-        (Form::Links, LineWord::Stay) => b"a leg above has this SSRC: give the mixer its own",
-        (Form::Links, LineWord::Tick) => b"a leg above has this SSRC: give the mixer its own",
-        (Form::Links, LineWord::Spacing) => b"a leg above has this SSRC: give the mixer its own",
-        (Form::Links, LineWord::Wait) => b"a leg above has this SSRC: give the mixer its own",
-        (Form::Links, LineWord::Turns) => b"a leg above has this SSRC: give the mixer its own",
-        (Form::Links, LineWord::Relabel) => b"a leg above has this SSRC: give the mixer its own",
-        (Form::Links, LineWord::Gone) => b"a leg above has this SSRC: give the mixer its own",
-        (Form::Links, LineWord::Operator) =>
-            b"a leg above has this port: give the operator its own",
-        (Form::Links, LineWord::Record) => b"a leg above has this SSRC: give the mixer its own",
-        (Form::Links, LineWord::Follow) => b"a leg above has this SSRC: give the mixer its own",
-        (Form::Links, LineWord::Counts) => b"a leg above has this SSRC: give the mixer its own",
-        (Form::Links, LineWord::Lose) => b"a leg above has this SSRC: give the mixer its own",
-        (Form::Links, LineWord::Delay) => b"a leg above has this SSRC: give the mixer its own",
-        (Form::Links, LineWord::Twice) => b"a leg above has this SSRC: give the mixer its own",
-        (Form::Links, LineWord::Other) => b"a leg above has this SSRC: give the mixer its own",
+    match word {
+        LineWord::Operator => b"a leg above has this port: give the operator its own",
+        LineWord::Leg => match form {
+            Form::Files =>
+                b"the SSRC is that of a leg or the mixer above, the OUT is that of a leg above, an OUT is an IN, or the two payload types are the same: give each its own",
+            Form::Links =>
+                b"the SSRC is that of a leg or the mixer above, the IN is that of a leg or the operator above, the OUT is that of a leg above, or the two payload types are the same: give each its own",
+        },
+        _ => b"a leg above has this SSRC: give the mixer its own",
     }
 }
 
@@ -435,10 +272,7 @@ pub(crate) fn conference_sentence(form: Form, word: LineWord, kind: ConfKind) ->
             b"at some moment more than 16 legs stay: give legs stays, so that one goes before another comes",
         ConfKind::Large =>
             b"a conference has at most 262144 octets: leave out comments, or lines lose, delay and twice",
-        ConfKind::Order => b"",
-        ConfKind::Escape => b"",
-        ConfKind::Long => b"",
-        ConfKind::Full => b"",
+        ConfKind::Order | ConfKind::Escape | ConfKind::Long | ConfKind::Full => b"",
     }
 }
 
