@@ -1,7 +1,6 @@
 //! What is counted of one input.
 ghost use Rattle.std.specs.Prelude.{◌≡◌};
-ghost use Rattle.wire_spec.specs.Text.{text_of};
-ghost use Rattle.view_spec.specs.Seen.{Text, fate_of};
+ghost use Rattle.view_spec.specs.Seen.{Text};
 ghost use Rattle.view_spec.specs.Seen as seen;
 ghost use Rattle.rtt_attend.specs.Counted.{CountsFate, IsFew, fate_in, fate_of_fault, hears_so};
 
@@ -41,23 +40,6 @@ fn count_refused(tally: &mut Tally)
     tally.refused += 1;
 }
 
-/// Counts a packet that has these octets, where this sender is heard.
-fn count_packet(
-    octets: &[u8],
-    ssrc: u32,
-    payload_types: PayloadTypes,
-    text: &mut TextPacket,
-    tally: &mut Tally,
-)
-    requires few { IsFew tally.old }
-    ensures { CountsFate (fate_of (text_of octets.now (Some ssrc) payload_types)) tally.old tally.new }
-{
-    match read_text(octets, Some(ssrc), payload_types, text) {
-        Ok(()) => count_text(tally),
-        Err(fault) => count_fault(fault, tally),
-    }
-}
-
 /// Counts a record, whose octets these are where it is a packet. RTCP is no packet.
 pub(crate) fn count_item(
     item: DumpItem,
@@ -71,7 +53,10 @@ pub(crate) fn count_item(
     ensures { CountsFate (fate_in (hears_so ssrc payload_types) item octets.now) tally.old tally.new }
 {
     match item {
-        DumpItem::Packet { at: _ } => count_packet(octets, ssrc, payload_types, text, tally),
+        DumpItem::Packet { at: _ } => match read_text(octets, Some(ssrc), payload_types, text) {
+            Ok(()) => count_text(tally),
+            Err(fault) => count_fault(fault, tally),
+        },
         DumpItem::Cut { at: _ } | DumpItem::Large { at: _ } => count_refused(tally),
         DumpItem::Rtcp { at: _ } | DumpItem::End => {}
     }
