@@ -23,7 +23,7 @@ use Rattle.reorder_buffer.proofs.Steps.{tracks_with}
 use Rattle.receiver.specs.Hears.{IsToldOf, told}
 use Rattle.receiver.proofs.ReadyBy.{told_arrived}
 use Rattle.rtt_show.specs.Surveys.{firsts_of}
-use Rattle.rtt_show.proofs.Surveying.{firsts_more}
+use Rattle.rtt_show.proofs.Surveying.{after_more, firsts_more}
 use Rattle.rtt_times.specs.declared.stream_packets.TimedPacket.{TimedPacket}
 use Rattle.rtt_times.specs.declared.stream_packets.StreamPackets.{StreamPackets}
 use Rattle.rtt_times.specs.Heard.{Counts, Drains, Hearing, HearsOctets, HearsPacket, IsEmpty, IsHeard, Listening, came_in, due_in, number_from, with_given}
@@ -109,10 +109,6 @@ with_packet_heard t u q old new p at h story names k = h story names (record {
 })
 
 -- ---- records
-after_more : (ssrc : ℕ) (payload_types : PayloadTypes) (before : List Arrival) (came : List Item) (item : Item) → arrivals_after ssrc payload_types before (came ++ item ∷ []) ≡ arrivals_with ssrc payload_types item (arrivals_after ssrc payload_types before came)
-after_more ssrc payload_types before [] item = refl
-after_more ssrc payload_types before (x ∷ came) item = after_more ssrc payload_types (arrivals_with ssrc payload_types x before) came item
-
 sources_more : (ssrc : ℕ) (payload_types : PayloadTypes) (items : List Item) (at : ℕ) (octets : List ℕ) (p : Packet) → text_of octets (Some ssrc) payload_types ≡ Ok p → sources ssrc payload_types (items ++ sent_item (at, octets) ∷ []) ≡ with_name (sources ssrc payload_types items) p.source
 sources_more ssrc payload_types items at octets p x = firsts_more (λ item. source_in (text_at ssrc payload_types item)) items (sent_item (at, octets)) ∙ rw x refl
 

@@ -4,6 +4,7 @@ use Rattle.std.specs.Prelude.{All, ◌^◌, ◌&&◌, if◌then◌else◌}
 use Rattle.std.specs.List.Sorted.{IsNonDecreasingBy, IsPermutation, IsStableByKey}
 use Rattle.std.specs.declared.cmp.Ordering.TheVariants.{Less, Equal, Greater}
 use Rattle.std.specs.Ordering.{is_lt, nat_cmp}
+use Rattle.std.proofs.Math.Seq.{drop-append_seam, take-length}
 use Rattle.std.proofs.lemmas.Bool.{cases_lt, ne_eqb, eq-eqb, lt-ltb, le-ltb}
 use Rattle.std.proofs.lemmas.List.{map-append, length-map, get_or-map, take-append-le}
 use Rattle.std.proofs.lemmas.List.Elements.{All-push, All-weaker, All-head, All-tail}
@@ -16,7 +17,7 @@ use Rattle.command_spec.specs.Transcripts.{escaped}
 use Rattle.report_spec.specs.Ordered.{given_by, ordered_by}
 use Rattle.report_spec.proofs.Ordered.{Rises, AreFrom, is_ordered, ordered_made}
 use Rattle.report_spec.specs.Times as times
-use Rattle.report_spec.specs.Times.{name_of, day_of}
+use Rattle.report_spec.specs.Times.{day_of}
 use Rattle.rtt_times.specs.declared.lines.Span.{Span}
 use Rattle.rtt_times.specs.declared.lines.Lines.{Lines}
 use Rattle.rtt_times.specs.Lines.{AddsLines, AddsText, AreEarly, Keeps, KeepsFrom, LiesIn, Line, Sorts, at_of, chunk_written, line_in, name_before, said_line, line_with, timed_line, timed_written, written}
@@ -35,14 +36,6 @@ same_lines octets more (s ∷ spans) a =
     ap (λ (l : Line). l ∷ map (line_in (octets ++ more)) spans) (same_line octets more s (All-head (LiesIn octets) s spans a))
     ∙ ap (λ (ls : List Line). line_in octets s ∷ ls) (same_lines octets more spans (All-tail (LiesIn octets) s spans a))
 
-take_all : (xs : List ℕ) → take (length xs) xs ≡ xs
-take_all [] = refl
-take_all (x ∷ xs) = ap (λ (ys : List ℕ). x ∷ ys) (take_all xs)
-
-drop_front : (xs ys : List ℕ) → drop (length xs) (xs ++ ys) ≡ ys
-drop_front [] ys = refl
-drop_front (x ∷ xs) ys = drop_front xs ys
-
 -- octets alone
 pub more_octets : (old new : Lines) (more : List ℕ) → new.octets ≡ old.octets ++ more → new.spans ≡ old.spans → (lines : List Line) → Keeps old lines → Keeps new lines
 more_octets old new more o s lines k = record {
@@ -59,8 +52,8 @@ kept old mid new at text s o f lines k =
     let long : length mid.octets ≡ length old.octets + length text = ap length o ∙ length-append old.octets text in
     let last : line_in (old.octets ++ text) span ≡ record { at = at; text = text } =
     ap (λ (n : ℕ). record { at = at; text = drop (length old.octets) (take n (old.octets ++ text)) }) (ap length o)
-    ∙ (ap (λ (xs : List ℕ). record { at = at; text = drop (length old.octets) xs }) (take_all (old.octets ++ text))
-    ∙ ap (λ (xs : List ℕ). record { at = at; text = xs }) (drop_front old.octets text)) in
+    ∙ (ap (λ (xs : List ℕ). record { at = at; text = drop (length old.octets) xs }) (take-length (old.octets ++ text))
+    ∙ ap (λ (xs : List ℕ). record { at = at; text = xs }) (drop-append_seam old.octets text)) in
     record {
       lie = subst (λ (xs : List ℕ). All (LiesIn xs) new.spans.items) (sym f.octets)
           (subst (λ (ss : List Span). All (LiesIn mid.octets) ss) (sym f.spans) (All-push (LiesIn mid.octets) mid.spans.items span m.lie (omega (arith, long), omega arith)));
@@ -84,7 +77,7 @@ some_said name (x ∷ xs) l = refl
 pub said_nothing : (old name text new : List ℕ) → new ≡ take (length old) ((old ++ name) ++ escaped text) → length ((old ++ name) ++ escaped text) ≡ length (old ++ name) → new ≡ old ++ said_line name text
 said_nothing old name text new e n =
     let empty : length (escaped text) ≡ 0 = omega (arith, n, length-append (old ++ name) (escaped text)) in
-    e ∙ (ap (take (length old)) (append_assoc old name (escaped text)) ∙ (take-append-le (length old) old (name ++ escaped text) (omega arith) ∙ (take_all old
+    e ∙ (ap (take (length old)) (append_assoc old name (escaped text)) ∙ (take-append-le (length old) old (name ++ escaped text) (omega arith) ∙ (take-length old
     ∙ (sym (append-nil old) ∙ ap (λ (xs : List ℕ). old ++ xs) (sym (none_said name (escaped text) empty))))))
 
 pub said_something : (old name text new : List ℕ) → new ≡ ((old ++ name) ++ escaped text) ++ 0x0A ∷ [] → (length ((old ++ name) ++ escaped text) ≡ length (old ++ name) → ⊥) → new ≡ old ++ said_line name text

@@ -13,6 +13,7 @@ use Rattle.stream_spec.specs.Numbering.{Numbered, RisingNumbers, by_number, has_
 use Rattle.stream_spec.specs.Ready.{ready_of}
 use Rattle.stream_spec.proofs.Rising.{used_rises, length_by_number}
 use Rattle.command_spec.specs.Reading.{usual_wait}
+use Rattle.command_spec.proofs.SentBack.{map_twice}
 use Rattle.reorder_buffer.specs.declared.answers.Due.{Due}
 use Rattle.reorder_buffer.specs.Stories.{dues_of, due_at}
 use Rattle.report_spec.specs.Numbers.{Lost, Row, is_late, late, lost, lost_among, lost_before, lost_from, missing, with_number}
@@ -23,6 +24,7 @@ use Rattle.rtt_times.specs.declared.stream_packets.StreamPackets.{StreamPackets}
 use Rattle.rtt_times.specs.declared.lines.Lines.{Lines}
 use Rattle.rtt_times.specs.Heard.{HasNumbers, came_in, came_of, due_in}
 use Rattle.rtt_times.specs.Lines.{AddsLines, Line, written}
+use Rattle.rtt_show.proofs.Showing.{drop_at}
 use Rattle.rtt_times.proofs.Writing.{adds_both, adds_none, adds_same}
 use Rattle.rtt_times.specs.Numbers.{AddsBefore, AddsMissing, AddsNumbers, AreAbove, AreLateNumbers, IsLate, IsPart, came_line, due_number, gap_lines, has_due, has_one, late_among, late_lines, row_lines}
 
@@ -191,10 +193,6 @@ rising_next f (x ∷ y ∷ ys) r zero d l = r.0 y (inl refl)
 rising_next f (x ∷ y ∷ ys) r (suc k) d l =
     let shift : suc k + 1 ≡ suc (k + 1) = omega arith in
     subst (λ (n : ℕ). f (get_or (x ∷ y ∷ ys) (suc k) d) < f (get_or (x ∷ y ∷ ys) n d)) (sym shift) (rising_next f (y ∷ ys) r.1 k d (omega (arith, l)))
-
-map_twice : {X Y Z : Type 0} (f : Y → Z) (g : X → Y) (xs : List X) → map f (map g xs) ≡ map (λ x. f (g x)) xs
-map_twice f g [] = refl
-map_twice f g (x ∷ xs) = ap (λ ys. f (g x) ∷ ys) (map_twice f g xs)
 
 dues_rising : (past : List Numbered) → RisingBy due_number (map due_in (dues_of usual_wait past))
 dues_rising past = subst (RisingBy due_number) (sym (map_twice due_in (due_at usual_wait past) (used usual_wait past))) (rising_map due_number (λ u. due_in (due_at usual_wait past u)) (used usual_wait past) (used_rises usual_wait past))
@@ -384,13 +382,6 @@ numbers_added ssrc h found numbers one two three l a gaps lates past n =
     adds_same one three (gap_lines ssrc numbers h.used.items ++ late_lines ssrc found) (map written (number_lines ssrc past)) whole (adds_both one two three (gap_lines ssrc numbers h.used.items) (late_lines ssrc found) gaps lates)
 
 -- ---- steps of loops
-pub drop_next : {X : Type 0} (xs : List X) (i : ℕ) (d : X) → i < length xs → drop i xs ≡ get_or xs i d ∷ drop (i + 1) xs
-drop_next [] i d l = absurd (omega (arith, l))
-drop_next (x ∷ xs) zero d l = refl
-drop_next (x ∷ xs) (suc i) d l =
-    let shift : suc i + 1 ≡ suc (i + 1) = omega arith in
-    drop_next xs i d (omega (arith, l)) ∙ ap (λ (n : ℕ). get_or xs i d ∷ drop n (x ∷ xs)) (sym shift)
-
 pub drop_over : {X : Type 0} (xs : List X) (n : ℕ) → length xs ≤ n → drop n xs ≡ []
 drop_over [] zero l = refl
 drop_over [] (suc n) l = refl
@@ -401,7 +392,7 @@ pub unused_more : (used : List Due) (came : List TimedPacket) (i : ℕ) (one : T
     → new ++ late_among used (drop (i + 1) came) ≡ late_among used came
 unused_more used came i one late new l e n h =
     let rest = late_among used (drop (i + 1) came) in
-    let parts : drop i came ≡ (one ∷ []) ++ drop (i + 1) came = drop_next came i one l ∙ ap (λ (c : TimedPacket). c ∷ drop (i + 1) came) (sym e) in
+    let parts : drop i came ≡ (one ∷ []) ++ drop (i + 1) came = drop_at came i one l ∙ ap (λ (c : TimedPacket). c ∷ drop (i + 1) came) (sym e) in
     ap (λ xs. xs ++ rest) n
     ∙ (append_assoc late (late_among used (one ∷ [])) rest
     ∙ (ap (λ xs. late ++ xs) (sym (filter-append (λ c. not (has_due c.number used)) (one ∷ []) (drop (i + 1) came)))
@@ -428,7 +419,7 @@ never_falls_on xs i h = IsNonDecreasingBy-drop (λ (n : ℕ). n) i xs h
 pub rows_more : (at ssrc low high : ℕ) (all : List ℕ) (i from number next : ℕ) (old now new : Lines) → IsNonDecreasing all → i < length all → number ≡ get_or all i number → AddsBefore at ssrc from number high now new next
     → RowsSoFar at ssrc low high all (drop i all) from old now → RowsSoFar at ssrc low high all (drop (i + 1) all) next old new
 rows_more at ssrc low high all i from number next old now new up l e adds h =
-    let parts : drop i all ≡ number ∷ drop (i + 1) all = drop_next all i number l ∙ ap (λ (n : ℕ). n ∷ drop (i + 1) all) (sym e) in
+    let parts : drop i all ≡ number ∷ drop (i + 1) all = drop_at all i number l ∙ ap (λ (n : ℕ). n ∷ drop (i + 1) all) (sym e) in
     let a = adds (drop (i + 1) all) (subst IsNonDecreasing parts (never_falls_on all i up)) in (
       h.0 ++ a.0,
       rows_both at ssrc h.0 a.0 old now new h.1 a.1,
@@ -469,8 +460,8 @@ pub gaps_more : (ssrc : ℕ) (late : List ℕ) (all : List Due) (i : ℕ) (d e :
     → GapsSoFar ssrc late all (drop i all) old now → GapsSoFar ssrc late all (drop (i + 1) all) old new
 gaps_more ssrc late all i d e old now new l one two adds h =
     let rows = row_lines e.ready ssrc (missing (λ n. has_one n late) (suc d.number) (e.number - suc d.number)) in
-    let first : drop (i + 1) all ≡ e ∷ drop (i + 1 + 1) all = drop_next all (i + 1) e l ∙ ap (λ (x : Due). x ∷ drop (i + 1 + 1) all) (sym two) in
-    let parts : drop i all ≡ d ∷ e ∷ drop (i + 1 + 1) all = drop_next all i d (omega (arith, l)) ∙ (ap (λ (x : Due). x ∷ drop (i + 1) all) (sym one) ∙ ap (λ xs. d ∷ xs) first) in (
+    let first : drop (i + 1) all ≡ e ∷ drop (i + 1 + 1) all = drop_at all (i + 1) e l ∙ ap (λ (x : Due). x ∷ drop (i + 1 + 1) all) (sym two) in
+    let parts : drop i all ≡ d ∷ e ∷ drop (i + 1 + 1) all = drop_at all i d (omega (arith, l)) ∙ (ap (λ (x : Due). x ∷ drop (i + 1) all) (sym one) ∙ ap (λ xs. d ∷ xs) first) in (
       h.0 ++ rows,
       adds_both old now new h.0 rows h.1 adds,
       h.2 ∙ (ap (λ xs. h.0 ++ gap_lines ssrc late xs) parts ∙ (sym (append_assoc h.0 rows (gap_lines ssrc late (e ∷ drop (i + 1 + 1) all))) ∙ ap (λ xs. (h.0 ++ rows) ++ gap_lines ssrc late xs) (sym first))),
@@ -495,7 +486,7 @@ late_none ssrc all l = ([], adds_none l, refl)
 
 pub late_more : (ssrc : ℕ) (all : List TimedPacket) (i : ℕ) (one : TimedPacket) (old now new : Lines) → i < length all → one ≡ get_or all i one → AddsLines now (came_line ssrc one ∷ []) new → LateSoFar ssrc all (drop i all) old now → LateSoFar ssrc all (drop (i + 1) all) old new
 late_more ssrc all i one old now new l e adds h =
-    let parts : drop i all ≡ one ∷ drop (i + 1) all = drop_next all i one l ∙ ap (λ (c : TimedPacket). c ∷ drop (i + 1) all) (sym e) in (
+    let parts : drop i all ≡ one ∷ drop (i + 1) all = drop_at all i one l ∙ ap (λ (c : TimedPacket). c ∷ drop (i + 1) all) (sym e) in (
       h.0 ++ came_line ssrc one ∷ [],
       adds_both old now new h.0 (came_line ssrc one ∷ []) h.1 adds,
       h.2 ∙ (ap (λ xs. h.0 ++ late_lines ssrc xs) parts ∙ sym (append_assoc h.0 (came_line ssrc one ∷ []) (late_lines ssrc (drop (i + 1) all)))),

@@ -1,43 +1,26 @@
 -- An ear that is told and gives, and what is written of it.
-use Rattle.std.proofs.Common.{◌≡◌, ℕ, Some, Ok, Err, Result, List, [], ◌∷◌, ◌++◌, map, flat_map, length, refl, ap, sym, ◌∙◌, subst, append-nil, append_assoc}
-use Rattle.std.specs.Prelude.{IfOk, OnOk}
+use Rattle.std.proofs.Common.{◌≡◌, ℕ, Some, List, [], ◌∷◌, ◌++◌, map, flat_map, length, refl, ap, sym, ◌∙◌, subst, append-nil, append_assoc}
 use Rattle.std.proofs.lemmas.Grind.{flat_map-append}
 use Rattle.std.proofs.lemmas.List.{map-append}
-use Rattle.wire_spec.specs.declared.faults.TextFault.{TextFault}
-use Rattle.wire_spec.specs.Packets.{Packet, Arrival}
+use Rattle.wire_spec.specs.Packets.{Arrival}
 use Rattle.wire_spec.specs.Text.{text_of}
-use Rattle.wire_spec.specs.Dump.{Item, arrivals_after, arrivals_with, sent_item}
+use Rattle.wire_spec.specs.Dump.{Item, arrivals_after, sent_item}
 use Rattle.stream_spec.specs.Ready.{Chunk, chunks}
 use Rattle.command_spec.specs.declared.requests.ReadRequest.{ReadRequest}
 use Rattle.command_spec.specs.Reading.{usual_wait}
-use Rattle.reorder_buffer.specs.Stories.{Story, Given, begun, ended}
+use Rattle.reorder_buffer.specs.Stories.{Story, begun, ended}
 use Rattle.receiver.specs.declared.settings.EarSettings.{EarSettings}
 use Rattle.receiver.specs.declared.ears.Ear.{Ear}
-use Rattle.receiver.specs.Hears.{AllReady, Becomes, Gave, GaveReady, GivesChunk, GivesNone, IsGiving, arrival_count, text_for, told}
+use Rattle.receiver.specs.Hears.{AllReady, Becomes, Gave, GaveReady, GivesChunk, GivesNone, arrival_count, text_for, told}
 use Rattle.receiver.specs.EarPlain.{GivesPlain}
 use Rattle.receiver.proofs.ReadyBy.{told_arrived}
+use Rattle.recording_views.specs.Writing.{IsBegunFor, asked_of}
+use Rattle.recording_views.proofs.Printing.{told_given, told_still}
 use Rattle.report_spec.specs.Times.{chunk_lines, source_lines}
+use Rattle.rtt_show.proofs.Surveying.{after_more}
 use Rattle.rtt_times.specs.declared.lines.Lines.{Lines}
 use Rattle.rtt_times.specs.Lines.{Line, AddsLines, Keeps, written, chunk_written}
-use Rattle.rtt_times.specs.Writing.{HasWritten, HasWrittenOf, Written, WritesEnd, WritesPacket, WritesReady, asked_of, lines_of}
-
--- ---- what is always so
-pub still_giving : (old new : Ear) (c : Chunk) → GivesChunk old new c → IsGiving old → IsGiving new
-still_giving old new c g i = let m = g i.0 i.1 i.2 i.3 i.4 in (i.0, i.1, record i.2 { given = m.0 }, i.3 ++ c ∷ [], m.1)
-
-pub rests_giving : (old new : Ear) → GivesNone old new → IsGiving old → IsGiving new
-rests_giving old new g i = let m = g i.0 i.1 i.2 i.3 i.4 in (i.0, i.1, record i.2 { given = m.0 }, i.3, m.1)
-
-pub plain_giving : (old new : Ear) (now : ℕ) (octets : List ℕ) (more : List Chunk) → GivesPlain old new now octets more → IsGiving old → IsGiving new
-plain_giving old new now octets more g i = let m = g i.0 i.1 i.2 i.3 i.4 in (i.0, i.1, record (told i.2 now (text_for i.0 octets)) { given = m.0 }, i.3 ++ more, m.1)
-
-pub becomes_giving : (old new : Ear) (f : EarSettings → Story → Story) → Becomes old new f → IsGiving old → IsGiving new
-becomes_giving old new f b i = (i.0, i.1, f i.0 i.2, i.3, b.gave i.0 i.1 i.2 i.3 i.4)
-
--- ---- answers
-pub on_ok : {A E P Q : Type 0} (r : Result A E) → (P → Q) → OnOk r P → OnOk r Q
-on_ok (Ok x) f p = f p
-on_ok (Err e) f p = tt
+use Rattle.rtt_times.specs.Writing.{BeginsWriting, HasWritten, HasWrittenOf, Written, WritesEnd, WritesPacket, WritesReady, lines_of}
 
 -- ---- lines that are added
 pub adds_none : (l : Lines) → AddsLines l [] l
@@ -50,26 +33,8 @@ pub adds_same : (one two : Lines) (xs ys : List Line) → xs ≡ ys → AddsLine
 adds_same one two xs ys e f = subst (λ (zs : List Line). AddsLines one zs two) e f
 
 -- ---- nothing came yet
-pub begins : {E : Type 0} (r : Result Ear E) (settings : EarSettings) (sources : List ℕ) (request : ReadRequest) → settings ≡ asked_of request → sources ≡ request.source ∷ []
-    → IfOk r (λ ear. (source : ℕ) → sources ≡ source ∷ [] → Gave ear settings source (begun settings.wait) []) → IfOk r (λ ear. (first : Lines) → HasWritten request first [] ear first)
-begins (Ok ear) settings sources request e s g = λ first.
-    let h = subst (λ (k : EarSettings). Gave ear k request.source (begun k.wait) []) e (g request.source s) in
-    (begun usual_wait, record { arrivals = refl; moment = refl }, ([], ([], h), adds_none first))
-begins (Err x) settings sources request e s g = tt
-
-pub begins_giving : {E : Type 0} (r : Result Ear E) (settings : EarSettings) (sources : List ℕ) (request : ReadRequest) → sources ≡ request.source ∷ []
-    → IfOk r (λ ear. (source : ℕ) → sources ≡ source ∷ [] → Gave ear settings source (begun settings.wait) []) → IfOk r (λ ear. ∥ IsGiving ear ∥₁)
-begins_giving (Ok ear) settings sources request s g = ∣ (settings, request.source, begun settings.wait, [], g request.source s) ∣₁
-begins_giving (Err x) settings sources request s g = tt
-
--- what is told does not depend on what was given
-told_given : (story : Story) (at : ℕ) (given more : List Given) (x : Result Packet TextFault) → record (told (record story { given = given }) at x) { given = more } ≡ record (told story at x) { given = more }
-told_given story at given more (Ok p) = refl
-told_given story at given more (Err f) = refl
-
-told_still : (story : Story) (at : ℕ) (given : List Given) (x : Result Packet TextFault) → told (record story { given = given }) at x ≡ record (told story at x) { given = given }
-told_still story at given (Ok p) = refl
-told_still story at given (Err f) = refl
+pub begins_writing : (request : ReadRequest) (ear : Ear) → IsBegunFor request ear → BeginsWriting request ear
+begins_writing request ear h first = (begun usual_wait, record { arrivals = refl; moment = refl }, ([], ([], h), adds_none first))
 
 module _ (r : ReadRequest) where
   -- ---- what is written of what an ear gives
@@ -121,15 +86,11 @@ module _ (r : ReadRequest) where
       adds_same first new _ _ (ap (lines_of r) ready) (p first settings source (ended story) (h.0, (h.1.0, g), h.2)).1
 
 -- ---- records
-after_more : (r : ReadRequest) (before : List Arrival) (came : List Item) (item : Item) → arrivals_after r.ssrc r.payload_types before (came ++ item ∷ []) ≡ arrivals_with r.ssrc r.payload_types item (arrivals_after r.ssrc r.payload_types before came)
-after_more r before [] item = refl
-after_more r before (x ∷ came) item = after_more r (arrivals_with r.ssrc r.payload_types x before) came item
-
 pub item_written : (r : ReadRequest) (before after : Ear) (at : ℕ) (octets : List ℕ) (first old new : Lines) → WritesPacket r at octets before old after new
     → (came : List Item) → HasWrittenOf r first before old came → HasWrittenOf r first after new (came ++ sent_item (at, octets) ∷ [])
 item_written r before after at octets first old new p came h =
     let past = arrivals_after r.ssrc r.payload_types [] came in
-    subst (λ (a : List Arrival). HasWritten r first a after new) (sym (after_more r [] came (sent_item (at, octets))))
+    subst (λ (a : List Arrival). HasWritten r first a after new) (sym (after_more r.ssrc r.payload_types [] came (sent_item (at, octets))))
     (told h.0 at (text_for (asked_of r) octets), told_arrived h.0 past at (text_of octets (Some r.ssrc) r.payload_types) h.1, p first (asked_of r) r.source h.0 h.2)
 
 all_written : (r : ReadRequest) (cs : List Chunk) → lines_of r cs ≡ map written (flat_map (chunk_lines r.ssrc r.source) cs)

@@ -4,12 +4,12 @@ use Rattle.wire_spec.specs.Packets.{Arrival}
 use Rattle.wire_spec.specs.Dump.{Item, arrivals_after}
 use Rattle.stream_spec.specs.Ready.{Chunk}
 use Rattle.command_spec.specs.declared.requests.ReadRequest.{ReadRequest}
-use Rattle.command_spec.specs.Reading.{usual_wait}
 use Rattle.report_spec.specs.Times.{source_lines}
 use Rattle.reorder_buffer.specs.Stories.{Story}
 use Rattle.receiver.specs.declared.settings.EarSettings.{EarSettings}
 use Rattle.receiver.specs.declared.ears.Ear.{Ear}
 use Rattle.receiver.specs.Hears.{GaveSome, IsToldOf, ready_chunks, story_chunks, text_for, told}
+use Rattle.recording_views.specs.Writing.{asked_of}
 use Rattle.rtt_show.specs.Records.{OfRecords}
 use Rattle.rtt_times.specs.declared.lines.Lines.{Lines}
 use Rattle.rtt_times.specs.Lines.{Line, AddsLines, chunk_written, name_before, written}
@@ -17,10 +17,6 @@ use Rattle.rtt_times.specs.Lines.{Line, AddsLines, chunk_written, name_before, w
 -- this holds of the request whose source is named so
 abbrev pub UnderName : List ℕ → (ReadRequest → Type 0) → Type 0
 UnderName name P = (r : ReadRequest) → name ≡ name_before r → P r
-
--- what an ear is asked for
-abbrev pub asked_of : ReadRequest → EarSettings
-asked_of r = record { ssrc = r.ssrc; payload_types = r.payload_types; wait = usual_wait }
 
 -- the lines of these
 abbrev pub lines_of : ReadRequest → List Chunk → List Line

@@ -3,32 +3,16 @@ ghost use Rattle.std.specs.Prelude.{◌≡◌, ◌+◌, ◌≤◌, ◌<◌, Bool
 ghost use Rattle.rtpdump_io.specs.InMemory.{HasRecords};
 ghost use Rattle.receiver.specs.Hears.{IsGiving, arrival_count, is_finished, is_quiet};
 ghost use Rattle.rtt_times.specs.Lines.{name_before};
-ghost use Rattle.rtt_times.specs.Writing.{AddsSource, BeginsWriting, HasArrivals, UnderName, WritesEnd, WritesPacket, WritesReady, WritesRecords};
+ghost use Rattle.rtt_times.specs.Writing.{AddsSource, HasArrivals, UnderName, WritesEnd, WritesPacket, WritesReady, WritesRecords};
 ghost use Rattle.rtt_base.specs.declared.limits.TheConstants.{END_OF_MOMENTS, MOST_ARRIVALS};
 
 use crate::lines::{Lines, append_name};
 use command_spec::ReadRequest;
-use receiver::{Ear, EarSettings, PlainAnswer};
+use receiver::{Ear, PlainAnswer};
+use recording_views::ear_for;
 use rtpdump_io::next_record;
-use rtt_base::limits::USUAL_WAIT;
 use rtt_base::{Bytes, Chunk, NoMemory as OutOfMemory};
 use std::alloc::Global;
-
-/// An ear that hears what is asked for, to which nothing came yet.
-fn ear_for(alloc: Global, of: ReadRequest) -> Result<Ear, OutOfMemory>
-    ensures written { IfOk result (BeginsWriting of) }
-    ensures giving { IfOk result (λ ear. ∥ IsGiving ear ∥₁) }
-    ensures quiet { IfOk result (λ ear. is_quiet ear ≡ Bool.true) }
-    ensures none { IfOk result (λ ear. arrival_count ear ≡ 0) }
-    ensures open { IfOk result (λ ear. is_finished ear ≡ Bool.false) }
-{
-    let asked = EarSettings {
-        ssrc: of.ssrc,
-        payload_types: of.payload_types,
-        wait: u64::from(USUAL_WAIT),
-    };
-    Ear::new(alloc, asked, &[of.source])
-}
 
 /// How the source is named, and a space.
 fn name_of(alloc: Global, of: ReadRequest) -> Result<Bytes, OutOfMemory>

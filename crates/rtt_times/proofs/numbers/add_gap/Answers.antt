@@ -1,7 +1,7 @@
 use Rattle.std.proofs.Common.{◌≡◌, ◌+◌, ℕ, suc, arith, subst}
 use Rattle.rtt_times.specs.Numbers.{AddsMissing}
 use Rattle.rtt_times.proofs.Missing.{part_added}
-use Rattle.rtt_times.proofs.Writing.{on_ok}
+use Rattle.recording_views.proofs.Printing.{on_ok}
 use Rattle.rtt_times.proofs.numbers.add_gap.Goals as goal
 
 pub returns : goal.returns

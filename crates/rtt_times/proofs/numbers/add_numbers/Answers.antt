@@ -4,7 +4,7 @@ use Rattle.rtt_times.specs.declared.stream_packets.TimedPacket.{TimedPacket}
 use Rattle.rtt_times.specs.Lines.{AddsLines}
 use Rattle.rtt_times.specs.Numbers.{AreAbove, AreLateNumbers, gap_lines, late_lines}
 use Rattle.rtt_times.proofs.Missing.{dues_above, numbers_added}
-use Rattle.rtt_times.proofs.Writing.{on_ok}
+use Rattle.recording_views.proofs.Printing.{on_ok}
 use Rattle.rtt_times.proofs.numbers.add_numbers.Goals as goal
 
 pub add_gaps-requires-clause-above : goal.add_gaps-requires-clause-above

@@ -1,6 +1,6 @@
 use Rattle.std.proofs.Common.{◌<◌, arith}
 use Rattle.rtt_times.proofs.Missing.{row_added}
-use Rattle.rtt_times.proofs.Writing.{on_ok}
+use Rattle.recording_views.proofs.Printing.{on_ok}
 use Rattle.rtt_times.proofs.numbers.add_row.Goals as goal
 
 pub returns : goal.returns

@@ -1,7 +1,8 @@
 use Rattle.std.proofs.Common.{◌∙◌}
 use Rattle.std.proofs.Math.Logic.{∥∥₁_map}
 use Rattle.stream_spec.specs.Ready.{chunk_of}
-use Rattle.rtt_times.proofs.Writing.{writes_none, writes_chunk, rests_giving, still_giving}
+use Rattle.recording_views.proofs.Printing.{rests_giving, still_giving}
+use Rattle.rtt_times.proofs.Writing.{writes_none, writes_chunk}
 use Rattle.rtt_times.proofs.texts.add_heard.Goals as goal
 
 pub returns-then-not-next-clause-writes : goal.returns-then-not-next-clause-writes

@@ -1,6 +1,7 @@
 use Rattle.std.proofs.Math.Logic.{∥∥₁_map}
 use Rattle.reorder_buffer.specs.Stories.{ended}
-use Rattle.rtt_times.proofs.Writing.{on_ok, becomes_giving, writes_end}
+use Rattle.recording_views.proofs.Printing.{on_ok, becomes_giving}
+use Rattle.rtt_times.proofs.Writing.{writes_end}
 use Rattle.rtt_times.proofs.texts.add_rest.Goals as goal
 
 pub add_heard-requires : goal.add_heard-requires

@@ -30,16 +30,4 @@ returns-clause-told c =
     c.in_ok-sort.ensures (c.others_of.ensures ∙ ap sum_others c.as_slice-2.ensures.value)
 
 pub returns-clause-early : goal.returns-clause-early
-returns-clause-early c =
-    let found = c.args.found.now in
-    let named = c.in_ok-named.named.items in
-    let one = c.new-lines.result in
-    let two = c.add_all_numbers.new.lines in
-    let three = c.add_all_texts.new.lines in
-    let streams = c.as_slice-streams.ensures.value in
-    lines_early found c.sort.new.self c.others_of.result
-    (all_told found named c.others_of.result one two three c.sort.new.self c.new-lines.ensures
-    (subst (λ (gs : List Group). AreNumbered found.payload_types gs named one two) streams c.in_ok-named.ensures.numbers)
-    (subst (λ (gs : List Group). AreTexted found.payload_types gs named two three) streams (subst (λ (ns : List FirstSources). AreTexted found.payload_types c.as_slice-streams.result.now ns two three) c.as_slice.ensures.value c.in_ok-add_all_texts.ensures))
-    c.in_ok-sort.ensures (c.others_of.ensures ∙ ap sum_others c.as_slice-2.ensures.value))
-    c.requires
+returns-clause-early c = lines_early c.args.found.now c.sort.new.self c.others_of.result (returns-clause-told c) c.requires

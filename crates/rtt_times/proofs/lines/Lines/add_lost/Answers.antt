@@ -2,7 +2,7 @@ use Rattle.std.proofs.Common.{ℕ, refl, subst}
 use Rattle.rtt_times.specs.declared.lines.Lines.{Lines}
 use Rattle.rtt_times.specs.Lines.{KeepsFrom}
 use Rattle.rtt_times.proofs.Kept.{kept}
-use Rattle.rtt_times.proofs.Writing.{on_ok}
+use Rattle.recording_views.proofs.Printing.{on_ok}
 use Rattle.rtt_times.proofs.lines.Lines.add_lost.Goals as goal
 
 pub returns : goal.returns

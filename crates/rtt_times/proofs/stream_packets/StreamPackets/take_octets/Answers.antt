@@ -1,7 +1,7 @@
 use Rattle.wire_spec.specs.Packets.{packet_of}
 use Rattle.rtp_text.specs.Views.{packet_in}
 use Rattle.rtt_times.proofs.Hearing.{no_text_heard, text_heard, with_packet_heard}
-use Rattle.rtt_times.proofs.Writing.{on_ok}
+use Rattle.recording_views.proofs.Printing.{on_ok}
 use Rattle.rtt_times.proofs.stream_packets.StreamPackets.take_octets.Goals as goal
 
 pub returns-in-Some-next_in_order-clause-hears : goal.returns-in-Some-next_in_order-clause-hears
