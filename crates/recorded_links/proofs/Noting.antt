@@ -1,9 +1,9 @@
 -- An entry more in a recording.
-use Rattle.std.proofs.Common.{◌≡◌, ◌≢◌, ◌<◌, ◌≤◌, ◌^◌, ℕ, zero, ◌+◌, ◌-◌, Bool, true, false, Option, Some, None, IsSome, List, [], ◌∷◌, ◌++◌, length, map, take, refl, sym, ap, ◌∙◌, subst, arith, length-append, append_assoc}
+use Rattle.std.proofs.Common.{◌≡◌, ◌≢◌, ◌<◌, ◌^◌, ℕ, ◌+◌, ◌-◌, Bool, true, false, Option, Some, IsSome, List, [], ◌∷◌, ◌++◌, length, map, take, refl, sym, ap, ◌∙◌, subst, arith, length-append, append_assoc}
 use Rattle.std.proofs.lemmas.List.{append-nil, map-append, length-map}
 use Rattle.std.proofs.Math.Seq.{take-append-add}
 use Rattle.rtt_io.specs.declared.sinks.Sink as sinks
-use Rattle.live_spec.specs.Recorded.{Entry, Parts, noted, nothing_noted, has_room, head_written, part_written, record_in, entry_written, with_entry, begun_with}
+use Rattle.live_spec.specs.Recorded.{Parts, noted, nothing_noted, has_room, head_written, part_written, record_in, entry_written, with_entry, begun_with}
 use Rattle.live_spec.proofs.Growing.{written_more, noted_by}
 use Rattle.recorded_links.specs.declared.places.FilePosition.{FilePosition}
 use Rattle.recorded_links.specs.Names.{numbered}
@@ -317,3 +317,22 @@ module _ {F : Type 0} (g : sinks.Ghosts F) where
       let v : IsWriting g mid (emptied g old) written ps = subst (λ c. IsWriting g c (emptied g old) written ps) (sym same) (flushed g before old file written ps wrote w) in
       subst (λ (k : Keeping F). StillHolds k.stem k.start after (length k.pending) ps (behind ps)) view
       (holds_all old.stem old.start after (length old.pending) ps (behind ps) (next_under mid after (emptied g old) written ps number next small refl named stored others v))
+
+  -- ---- names of others
+
+  -- one name of its own
+  pub touches : (before after : List ℕ → Option (List ℕ)) (now old : Keeping F) (name : List ℕ)
+      → old ≡ now → name ≡ numbered old.stem old.number
+      → ((n : List ℕ) → n ≢ name → after n ≡ before n)
+      → (n : List ℕ) → ((k : ℕ) → n ≢ numbered now.stem k) → after n ≡ before n
+  touches before after now old name view named others n other =
+      others n (λ same. other old.number (same ∙ (named ∙ ap (λ (k : Keeping F). numbered k.stem old.number) view)))
+
+  -- two of them
+  pub touches_both : (before mid after : List ℕ → Option (List ℕ)) (now old : Keeping F) (name : List ℕ) (number : ℕ)
+      → old ≡ now → mid ≡ before → name ≡ numbered old.stem old.number
+      → ((n : List ℕ) → n ≢ name → n ≢ numbered old.stem number → after n ≡ mid n)
+      → (n : List ℕ) → ((k : ℕ) → n ≢ numbered now.stem k) → after n ≡ before n
+  touches_both before mid after now old name number view same named others n other =
+      others n (λ e. other old.number (e ∙ (named ∙ ap (λ (k : Keeping F). numbered k.stem old.number) view))) (λ e. other number (e ∙ ap (λ (k : Keeping F). numbered k.stem number) view))
+      ∙ ap (λ (c : List ℕ → Option (List ℕ)). c n) same

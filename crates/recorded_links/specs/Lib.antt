@@ -3,3 +3,9 @@ pub mod Places
 pub mod Files
 pub mod Standing
 pub mod Writing
+pub mod Notes
+pub mod Rule
+pub mod Shelves
+pub mod Written
+pub mod Coming
+pub mod Recordings

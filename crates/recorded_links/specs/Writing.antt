@@ -2,6 +2,7 @@
 use Rattle.std.specs.Prelude.{◌≡◌, ◌≢◌, ◌⊎◌, ℕ, ◌++◌, Option, Some, IsSome, List, take}
 use Rattle.rtt_io.specs.Counts.{Rose}
 use Rattle.rtt_io.specs.Names.{Same}
+use Rattle.recorded_links.specs.Names.{numbered}
 
 -- a file took some octets of what was pending, and the rest is pending
 pub record IsFurther (took pending more less : List ℕ) : Type 0 where
@@ -25,3 +26,7 @@ module _ {J : Type 0} where
   -- what lies under names other than these two stays
   abbrev pub SameButBoth : (name other : List ℕ) → (J → List ℕ → Option (List ℕ)) → J → J → Type 0
   SameButBoth name other contents old new = (n : List ℕ) → n ≢ name → n ≢ other → contents new n ≡ contents old n
+
+  -- what lies under names that are no names of this recording's files stays
+  abbrev pub TouchesOwn : (J → List ℕ → Option (List ℕ)) → J → J → (stem : List ℕ) → Type 0
+  TouchesOwn contents old new stem = (n : List ℕ) → ((k : ℕ) → n ≢ numbered stem k) → contents new n ≡ contents old n

@@ -1,7 +1,10 @@
 //! What goes from who takes and gives to who writes.
-ghost use Rattle.std.specs.Prelude.{◌≤◌, ◌<◌, ◌^◌, length};
+ghost use Rattle.std.specs.Prelude.{◌≡◌, ◌≤◌, ◌<◌, ◌^◌, ◌++◌, [], ◌∷◌, length, OnOk, OnErr};
 ghost use Rattle.rtt_base.specs.declared.limits.TheConstants.{MOST_PACKET_OCTETS};
+ghost use Rattle.recorded_links.specs.Places.{entry};
+ghost use Rattle.recorded_links.specs.Notes.{entries_in, octets_of};
 
+use crate::notes::Note;
 use rtt_base::{Bytes, NoMemory};
 use std::alloc::Global;
 
@@ -14,24 +17,22 @@ const ENTRY_OCTETS: u64 = 64;
 /// Of a batch that counts for more octets no memory is kept.
 const MOST_KEPT_OCTETS: u64 = 8192;
 
-/// How many octets came, or were given, and the moment (milliseconds).
-#[derive(Clone, Copy, Debug)]
-pub(crate) struct Note {
-    pub(crate) at: u64,
-    pub(crate) len: usize,
-    ghost few: { len ≤ MOST_PACKET_OCTETS },
-    ghost early: { at < 2 ^ 63 },
-}
-
 /// What was noted, oldest first.
 #[derive(Debug, Drop)]
 pub(crate) struct Batch {
-    alloc: Global,
     notes: Vec<Note>,
     /// Those of all notes.
     octets: Bytes,
     /// For how many octets it counts.
     size: u64,
+    ghost whole: { octets_of notes.items ≡ length octets },
+}
+
+/// A batch in which nothing was noted, with the memory of one that was.
+#[derive(Drop)]
+pub(crate) struct SpareBatch {
+    pub(crate) batch: Batch,
+    ghost empty: { entries_in batch.notes.items batch.octets ≡ [] },
 }
 
 /// For how many octets an entry of these counts.
@@ -41,21 +42,26 @@ pub(crate) fn entry_size(octets: &[u8]) -> u64 {
 
 impl Batch {
     /// Nothing was noted. It takes no memory.
-    pub(crate) fn empty(alloc: Global) -> Batch {
+    pub(crate) fn empty(alloc: Global) -> Batch
+        ensures { entries_in result.notes.items result.octets ≡ [] }
+    {
         Batch {
-            alloc,
             notes: Vec::new(alloc),
             octets: Bytes::new(alloc),
             size: 0,
         }
     }
 
-    pub(crate) fn notes(&self) -> &[Note] {
+    pub(crate) fn notes(&self) -> &[Note]
+        ensures { result.now ≡ self.now.notes.items }
+    {
         self.notes.as_slice()
     }
 
     /// Those of all notes, one behind the other.
-    pub(crate) fn octets(&self) -> &[u8] {
+    pub(crate) fn octets(&self) -> &[u8]
+        ensures { result.now ≡ self.now.octets }
+    {
         self.octets.as_slice()
     }
 
@@ -64,33 +70,43 @@ impl Batch {
         self.size
     }
 
-    /// Forgets all that was noted. It keeps its memory for what is noted next, unless that is much.
-    pub(crate) fn clear(&mut self) {
-        if self.size > MOST_KEPT_OCTETS {
-            self.notes = Vec::new(self.alloc);
-            self.octets = Bytes::new(self.alloc);
+    /// Forgets all that was noted, and keeps the memory for what is noted next, unless that is much.
+    pub(crate) fn into_spare(self) -> Option<SpareBatch> {
+        let Batch {
+            mut notes,
+            mut octets,
+            size,
+        } = self;
+        if size > MOST_KEPT_OCTETS {
+            return None;
         }
-        self.notes.clear();
-        self.octets.clear();
-        self.size = 0;
+        notes.clear();
+        octets.clear();
+        Some(SpareBatch {
+            batch: Batch {
+                notes,
+                octets,
+                size: 0,
+            },
+        })
     }
 
     /// Notes octets at a moment, where there is room. After `NoMemory`, which also says that there is none, it is as before.
+    #[tactic(auto, using(crate::proofs::Adding::octets_more, crate::proofs::Adding::entries_more))]
     pub(crate) fn add(&mut self, at: u64, octets: &[u8]) -> Result<(), NoMemory>
         requires few { length octets.now ≤ MOST_PACKET_OCTETS }
         requires early { at < 2 ^ 63 }
+        ensures ok { OnOk result (entries_in self.new.notes.items self.new.octets ≡ entries_in self.old.notes.items self.old.octets ++ entry at octets.now ∷ []) }
+        ensures err { OnErr result (entries_in self.new.notes.items self.new.octets ≡ entries_in self.old.notes.items self.old.octets) }
     {
         let size = self.size.saturating_add(entry_size(octets));
         if size > MOST_BATCH_OCTETS {
             return Err(NoMemory);
         }
-        let before = self.octets.len();
+        self.notes.reserve(1)?;
         self.octets.append(octets)?;
         let len = octets.len();
-        if self.notes.push(Note { at, len }).is_err() {
-            self.octets.truncate(before);
-            return Err(NoMemory);
-        }
+        self.notes.push_reserved(Note { at, len });
         self.size = size;
         Ok(())
     }

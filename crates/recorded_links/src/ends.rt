@@ -1,5 +1,9 @@
 //! The two ends of a link that is recorded.
-ghost use Rattle.std.specs.Prelude.{◌≡◌};
+ghost use Rattle.std.specs.Prelude.{◌≡◌, ◌<◌, ◌^◌, false, [], ◌++◌, IfSome};
+ghost use Rattle.std.proofs.Props.{props};
+ghost use Rattle.link_io.specs.Taking.{came_of};
+ghost use Rattle.recorded_links.specs.Coming.{AreGiven, came_noted, takes_noted};
+ghost use Rattle.recorded_links.specs.Shelves.{noted};
 
 use crate::noters::Noter;
 use link_io::{Beat, Came, LinkIn, LinkOut, LinkTake};
@@ -12,11 +16,27 @@ use std::sync::Wait;
 pub struct RecordedIn<I: LinkIn, R> {
     link: I,
     noter: Option<Noter<R>>,
+    ghost noted: { I.tells → IfSome noter (λ n. n.over ≡ false → noted n.pass ≡ takes_noted (I.taken link)) } by { Prim.hlevel props },
+}
+
+/// Notes what a take gave, where it is a datagram, whose octets these are.
+fn note_taken<R: Wait + Drop>(noter: &mut Noter<R>, taken: LinkTake, octets: &[u8])
+    requires { taken.at < 2 ^ 48 }
+    ensures noted { noter.new.over ≡ false → noted noter.new.pass ≡ noted noter.old.pass ++ came_noted taken.at (came_of taken.came octets.now) }
+    ensures over { noter.new.over ≡ false → noter.old.over ≡ false }
+{
+    match taken.came {
+        Came::Datagram => noter.note(taken.at, octets),
+        Came::Large => {}
+        Came::Quiet => {}
+        Came::Closed => {}
+    }
 }
 
 impl<I: LinkIn, R> RecordedIn<I, R> {
     /// The end over this one, whose recording this one notes.
     pub(crate) fn new(link: I, noter: Option<Noter<R>>) -> RecordedIn<I, R>
+        requires { I.tells → IfSome noter (λ n. n.over ≡ false → noted n.pass ≡ takes_noted (I.taken link)) }
         ensures { result.link ≡ link }
     {
         RecordedIn { link, noter }
@@ -24,7 +44,8 @@ impl<I: LinkIn, R> RecordedIn<I, R> {
 
     /// The end below, and who notes.
     pub(crate) fn into_parts(self) -> (I, Option<Noter<R>>)
-        ensures { result.0 ≡ self.link }
+        ensures link { result.0 ≡ self.link }
+        ensures noted { I.tells → IfSome result.1 (λ n. n.over ≡ false → noted n.pass ≡ takes_noted (I.taken result.0)) }
     {
         let RecordedIn { link, noter } = self;
         (link, noter)
@@ -48,10 +69,8 @@ impl<I: LinkIn, R: Wait + Drop> LinkIn for RecordedIn<I, R> {
         let Ok(taken) = self.link.take(out, until) else {
             return Err(Failed);
         };
-        if taken.came == Came::Datagram {
-            if let Some(noter) = &mut self.noter {
-                noter.note(taken.at, out.as_slice());
-            }
+        if let Some(noter) = &mut self.noter {
+            note_taken(noter, taken, out.as_slice());
         }
         Ok(taken)
     }
@@ -62,11 +81,13 @@ impl<I: LinkIn, R: Wait + Drop> LinkIn for RecordedIn<I, R> {
 pub struct RecordedOut<O: LinkOut, R> {
     link: O,
     noter: Option<Noter<R>>,
+    ghost noted: { O.tells → IfSome noter (λ n. n.over ≡ false → AreGiven (noted n.pass) (O.given link)) } by { Prim.hlevel props },
 }
 
 impl<O: LinkOut, R> RecordedOut<O, R> {
     /// The end over this one, whose recording this one notes.
     pub(crate) fn new(link: O, noter: Option<Noter<R>>) -> RecordedOut<O, R>
+        requires { O.tells → IfSome noter (λ n. n.over ≡ false → AreGiven (noted n.pass) (O.given link)) }
         ensures { result.link ≡ link }
     {
         RecordedOut { link, noter }
@@ -74,7 +95,8 @@ impl<O: LinkOut, R> RecordedOut<O, R> {
 
     /// The end below, and who notes.
     pub(crate) fn into_parts(self) -> (O, Option<Noter<R>>)
-        ensures { result.0 ≡ self.link }
+        ensures link { result.0 ≡ self.link }
+        ensures noted { O.tells → IfSome result.1 (λ n. n.over ≡ false → AreGiven (noted n.pass) (O.given result.0)) }
     {
         let RecordedOut { link, noter } = self;
         (link, noter)

@@ -1,14 +1,17 @@
 //! Links that are recorded.
-ghost use Rattle.std.specs.Prelude.{◌≡◌, ℕ};
+ghost use Rattle.std.specs.Prelude.{◌≡◌, ℕ, [], IfSome};
+ghost use Rattle.recorded_links.specs.Shelves.{noted};
 
 use crate::Journals;
 use crate::ends::{RecordedIn, RecordedOut};
+use crate::noter_places::{FreshNoter, NoterPlace};
 use crate::noters::Noter;
 use crate::tracks::{Tracks, end_all};
 use crate::writers::Writer;
 use link_io::{Beat, Links};
 use rtt_base::{Failed, NoMemory};
 use std::alloc::Global;
+use std::mem;
 use std::sync::atomic::{AtomicU64, Ordering};
 use std::sync::{Arc, Wait};
 use std::thread::Threads;
@@ -21,8 +24,8 @@ pub struct RecordedLinks<L: Links, J: Journals, R> {
     links: L,
     /// The last moment that the clock told.
     clock: Arc<AtomicU64, Global>,
-    /// Who notes, in leg order, in before out: where no end has it.
-    noters: Vec<Option<Noter<R>>>,
+    /// Where who notes is, in leg order, in before out.
+    noters: Vec<NoterPlace<R>>,
     /// How many noters were given out.
     given: usize,
     writer: Writer<J>,
@@ -49,7 +52,7 @@ where
         rt: R,
         links: L,
         clock: Arc<AtomicU64, Global>,
-        noters: Vec<Option<Noter<R>>>,
+        noters: Vec<NoterPlace<R>>,
         writer: Writer<J>,
     ) -> RecordedLinks<L, J, R>
         ensures { result.links ≡ links }
@@ -96,19 +99,25 @@ where
 }
 
 /// Who notes for the next end, where somebody does; so many were given out.
-fn next_noter<R: Drop>(noters: &mut Vec<Option<Noter<R>>>, given: &mut usize) -> Option<Noter<R>> {
-    let noter = noters.get_mut(*given)?.take();
+fn next_noter<R: Drop>(noters: &mut Vec<NoterPlace<R>>, given: &mut usize) -> Option<Noter<R>>
+    ensures { IfSome result (λ n. noted n.pass ≡ []) }
+{
+    let place = noters.get_mut(*given)?;
     *given = given.saturating_add(1);
-    noter
+    match mem::replace(place, NoterPlace::Given) {
+        NoterPlace::Unused(FreshNoter { noter }) => Some(noter),
+        NoterPlace::Given => None,
+        NoterPlace::Back(_) => None,
+    }
 }
 
 /// Has who notes back.
-fn put_back<R: Drop>(noters: &mut Vec<Option<Noter<R>>>, noter: Option<Noter<R>>) {
+fn put_back<R: Drop>(noters: &mut Vec<NoterPlace<R>>, noter: Option<Noter<R>>) {
     let Some(noter) = noter else {
         return;
     };
     if let Some(place) = noters.get_mut(noter.number) {
-        *place = Some(noter);
+        *place = NoterPlace::Back(noter);
     }
 }
 

@@ -1,8 +1,14 @@
 //! The end at which entries of a recording are noted.
+ghost use Rattle.std.specs.Prelude.{◌≡◌, ◌<◌, ◌^◌, ℕ, false, [], ◌∷◌, ◌++◌};
+ghost use Rattle.std.specs.Arc.{arc_value};
+ghost use Rattle.recorded_links.specs.Places.{entry};
+ghost use Rattle.recorded_links.specs.Rule.{noted_of};
+ghost use Rattle.recorded_links.specs.Shelves.{IsNoteOf, hand, noted};
 
 use crate::Way;
 use crate::batches::entry_size;
-use crate::shelves::{Legs, Shelf, WaitingRecords};
+use crate::passes::{NotePass, Shelf};
+use crate::waiting::{Legs, WaitingRecords};
 use rtt_base::limits::MOST_PACKET_OCTETS;
 use std::alloc::Global;
 use std::sync::atomic::{AtomicU64, Ordering};
@@ -11,11 +17,12 @@ use std::sync::{Arc, Wait};
 /// The last moment that is noted (milliseconds).
 const LAST_MOMENT: u64 = (1 << 48) - 1;
 
-/// The end at which entries of a recording are noted. Who notes waits for who writes only while that takes a batch from the shelf,
-/// and never for a file: where the batch on the shelf is full, too much waits in the whole call, or memory runs out, nothing more is noted.
+/// The end at which entries of a recording are noted. Who notes never waits for who writes, nor for a file: where the batch on the shelf is
+/// full, too much waits in the whole call, or memory runs out, nothing more is noted.
 #[derive(Drop)]
 pub(crate) struct Noter<R> {
     rt: R,
+    alloc: Global,
     /// The number of its recording.
     pub(crate) number: usize,
     way: Way,
@@ -23,46 +30,60 @@ pub(crate) struct Noter<R> {
     clock: Arc<AtomicU64, Global>,
     /// What waits in the whole call.
     waiting: Arc<WaitingRecords, Global>,
-    shelf: Shelf,
+    shelf: Arc<Shelf, Global>,
+    pass: NotePass,
+    /// Something could not be noted.
     over: bool,
+    ghost of: { IsNoteOf (arc_value shelf) pass },
+    ghost rests: { over ≡ false → hand pass ≡ [] },
 }
 
 impl<R: Wait + Drop> Noter<R> {
     pub(crate) fn new(
         rt: R,
+        alloc: Global,
         number: usize,
         way: Way,
         clock: Arc<AtomicU64, Global>,
         waiting: Arc<WaitingRecords, Global>,
-        shelf: Shelf,
-    ) -> Noter<R> {
+        shelf: Arc<Shelf, Global>,
+        pass: NotePass,
+    ) -> Noter<R>
+        requires of { IsNoteOf (arc_value shelf) pass }
+        requires rests { hand pass ≡ [] }
+        ensures { result.pass ≡ pass }
+    {
         Noter {
             rt,
+            alloc,
             number,
             way,
             clock,
             waiting,
             shelf,
+            pass,
             over: false,
         }
     }
 
     /// Notes octets at a moment, unless something could not be noted before, or more waits to be written than may.
-    pub(crate) fn note(&mut self, at: u64, octets: &[u8]) {
+    pub(crate) fn note(&mut self, at: u64, octets: &[u8])
+        requires { at < 2 ^ 48 }
+        ensures noted { self.new.over ≡ false → noted self.new.pass ≡ noted self.old.pass ++ noted_of (entry at octets.now) ∷ [] }
+        ensures over { self.new.over ≡ false → self.old.over ≡ false }
+    {
         if self.over {
             return;
         }
-        if octets.len() > MOST_PACKET_OCTETS {
-            self.over = true;
-            return;
-        }
         let size = entry_size(octets);
-        if !self.waiting.count(size) {
+        if octets.len() > MOST_PACKET_OCTETS || !self.waiting.count(size) {
             self.over = true;
             return;
         }
-        let added = self.shelf.lock(&self.rt).add(at.min(LAST_MOMENT), octets);
-        if added.is_err() {
+        let noted = self
+            .shelf
+            .note(&self.rt, self.alloc, &mut self.pass, at, octets);
+        if noted.is_err() {
             self.waiting.uncount(size);
             self.over = true;
             return;
@@ -73,13 +94,18 @@ impl<R: Wait + Drop> Noter<R> {
     }
 
     /// Notes octets at the last moment that the clock told.
-    pub(crate) fn note_now(&mut self, octets: &[u8]) {
-        let at = self.clock.load(Ordering::SeqCst);
+    pub(crate) fn note_now(&mut self, octets: &[u8])
+        ensures noted { self.new.over ≡ false → (at : ℕ) × (noted self.new.pass ≡ noted self.old.pass ++ noted_of (entry at octets.now) ∷ []) }
+        ensures over { self.new.over ≡ false → self.old.over ≡ false }
+    {
+        let at = self.clock.load(Ordering::SeqCst).min(LAST_MOMENT);
         self.note(at, octets);
     }
 
     /// Whether something could not be noted.
-    pub(crate) fn is_over(&self) -> bool {
+    pub(crate) fn is_over(&self) -> bool
+        ensures { result ≡ self.now.over }
+    {
         self.over
     }
 }

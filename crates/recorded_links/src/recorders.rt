@@ -7,7 +7,7 @@ ghost use Rattle.recorded_links.specs.declared.places.TheConstants.{MOST_PENDING
 ghost use Rattle.recorded_links.specs.Places.{entry};
 ghost use Rattle.recorded_links.specs.Names.{numbered};
 ghost use Rattle.recorded_links.specs.Standing.{KeepsNoted, KeepsWritten, LiesThere, NotesMore, RecorderStandsFor, StaysAll};
-ghost use Rattle.recorded_links.specs.Writing.{IsCalm, IsCaused, IsFurther, LeavesFront, SameButBoth};
+ghost use Rattle.recorded_links.specs.Writing.{IsCalm, IsCaused, IsFurther, LeavesFront, SameButBoth, TouchesOwn};
 
 use crate::Journals;
 use crate::names::file_name;
@@ -193,6 +193,7 @@ fn begin_file<J: Journals>(
     ensures fresh { IfOk result (λ f. J.File.faults f ≡ 0) }
     ensures named { IfOk result (λ f. J.File.name f ≡ numbered stem.now number) }
     ensures told { J.tells → OnOk result J.File.tells }
+    ensures was_free { J.tells → OnOk result (J.contents journals.old (numbered stem.now number) ≡ None) }
     ensures took { J.tells → IfOk result (λ f. J.File.took f ≡ octets.now) }
     ensures there { J.tells → OnOk result (IsSome (J.contents journals.new (numbered stem.now number))) }
     ensures calm { result ≢ Err RecordFault.Failed → IsCalm J.own_faults J.object_faults journals.old journals.new }
@@ -263,6 +264,9 @@ impl<J: Journals> Recorder<J> {
         ensures named { IfOk result (λ r. (r.stem ≡ string_bytes stem) × (r.start ≡ start)) }
         ensures stands { J.tells → IfOk result (λ r. RecorderStandsFor J.File.Sink (J.contents journals.new) r
             nothing_noted) }
+        ensures was_free { J.tells → OnOk result (J.contents journals.old (numbered (string_bytes stem) 1) ≡ None) }
+        ensures there { J.tells → OnOk result (IsSome (J.contents journals.new (numbered (string_bytes stem) 1))) }
+        ensures others { J.tells → TouchesOwn J.contents journals.old journals.new (string_bytes stem) }
         ensures calm { result ≢ Err RecordFault.Failed → IsCalm J.own_faults J.object_faults journals.old journals.new }
         ensures caused { result ≡ Err RecordFault.Failed → IsCaused J.own_faults J.object_faults journals.old journals.new (numbered (string_bytes stem) 1) }
     {
@@ -293,6 +297,7 @@ impl<J: Journals> Recorder<J> {
         ensures notes { J.tells → NotesMore J.File.Sink (J.contents journals.old) (J.contents journals.new) self.old self.new (entry at octets.now) }
         ensures keeps { J.tells → OnErr result (KeepsNoted J.File.Sink (J.contents journals.old) (J.contents journals.new) self.old (entry at octets.now)) }
         ensures bounded { length self.new.pending ≤ MOST_PENDING_OCTETS }
+        ensures others { J.tells → TouchesOwn J.contents journals.old journals.new self.old.stem }
         ensures ended { OnErr result (self.new.file ≡ None) }
         ensures calm { result ≢ Err RecordFault.Failed → IsCalm J.own_faults J.object_faults journals.old journals.new }
         ensures caused { result ≡ Err RecordFault.Failed → IsCaused J.own_faults J.object_faults journals.old journals.new (numbered self.new.stem self.new.number) }
@@ -339,6 +344,7 @@ impl<J: Journals> Recorder<J> {
         ensures stays { J.tells → StaysAll J.File.Sink (J.contents journals.old) (J.contents journals.new) self.old self.new }
         ensures written { IfSome self.new.file (λ _. self.new.pending ≡ []) }
         ensures over { OnOk result (is_none self.new.file ≡ is_none self.old.file) }
+        ensures others { J.tells → TouchesOwn J.contents journals.old journals.new self.old.stem }
         ensures keeps { J.tells → OnErr result (KeepsWritten J.File.Sink (J.contents journals.old) (J.contents journals.new) self.old) }
         ensures ended { OnErr result (self.new.file ≡ None) }
         ensures calm { OnOk result (IsCalm J.own_faults J.object_faults journals.old journals.new) }
@@ -361,6 +367,7 @@ impl<J: Journals> Recorder<J> {
         ensures ended { self.new.file ≡ None }
         ensures whole { J.tells → result ≡ Ok true → LiesThere J.File.Sink (J.contents journals.old) (J.contents journals.new) self.old }
         ensures over { OnOk result (result ≡ Ok false → self.old.file ≡ None) }
+        ensures others { J.tells → TouchesOwn J.contents journals.old journals.new self.old.stem }
         ensures keeps { J.tells → OnErr result (KeepsWritten J.File.Sink (J.contents journals.old) (J.contents journals.new) self.old) }
         ensures calm { OnOk result (IsCalm J.own_faults J.object_faults journals.old journals.new) }
         ensures caused { OnErr result (IsCaused J.own_faults J.object_faults journals.old journals.new (numbered self.new.stem self.new.number)) }

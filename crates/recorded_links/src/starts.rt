@@ -1,11 +1,13 @@
 //! The recordings of a call are begun.
-ghost use Rattle.std.specs.Prelude.{◌≡◌, ℕ, IfOk};
+ghost use Rattle.std.specs.Prelude.{◌≡◌, ℕ, [], IfOk};
+ghost use Rattle.recorded_links.specs.Shelves.{noted};
 
-use crate::batches::Batch;
 use crate::links::RecordedLinks;
+use crate::noter_places::{FreshNoter, NoterPlace};
 use crate::noters::Noter;
-use crate::shelves::{Legs, WaitingRecords};
+use crate::passes::Shelf;
 use crate::tracks::{Track, Tracks};
+use crate::waiting::{Legs, WaitingRecords};
 use crate::writers::{StartFault, Writer};
 use crate::{Journals, RecordFault, Recorder, Way, file_name, stem_of};
 use file_spec::LegLine;
@@ -13,7 +15,7 @@ use link_io::Links;
 use rtt_base::NoMemory;
 use std::alloc::Global;
 use std::sync::atomic::AtomicU64;
-use std::sync::{Arc, Mutex, Wait};
+use std::sync::{Arc, Wait};
 use std::thread::Threads;
 use std::time::Clock;
 
@@ -70,8 +72,13 @@ pub(crate) fn begin_track<J: Journals, R: Wait + Copy + Drop>(
     number: usize,
     clock: &Arc<AtomicU64, Global>,
     waiting: &Arc<WaitingRecords, Global>,
-) -> Result<(Track<J>, Noter<R>), BeginFault> {
-    let Ok(shelf) = Arc::new(alloc, Mutex::new(Batch::empty(alloc))) else {
+) -> Result<(Track<J>, Noter<R>), BeginFault>
+    ensures fresh { IfOk result (λ made. noted made.1.pass ≡ []) }
+{
+    let Ok((shelf, note, take)) = Shelf::new(alloc) else {
+        return Err(BeginFault::NoMemory);
+    };
+    let Ok(shelf) = Arc::new(alloc, shelf) else {
         return Err(BeginFault::NoMemory);
     };
     let (Ok(theirs), Ok(clock)) = (Arc::try_clone(&shelf), Arc::try_clone(clock)) else {
@@ -82,14 +89,14 @@ pub(crate) fn begin_track<J: Journals, R: Wait + Copy + Drop>(
     };
     let recorder = begin_recorder(journals, alloc, stem, start)?;
     let track = Track {
-        alloc,
         way,
         leg: Legs::of(number),
         recorder,
         shelf: theirs,
-        spare: Batch::empty(alloc),
+        pass: take,
     };
-    Ok((track, Noter::new(rt, number, way, clock, waiting, shelf)))
+    let noter = Noter::new(rt, alloc, number, way, clock, waiting, shelf, note);
+    Ok((track, noter))
 }
 
 /// The recordings of a call as they are begun, and who notes.
@@ -101,7 +108,7 @@ struct RecordingStart<R> {
     clock: Arc<AtomicU64, Global>,
     /// What waits to be written.
     waiting: Arc<WaitingRecords, Global>,
-    noters: Vec<Option<Noter<R>>>,
+    noters: Vec<NoterPlace<R>>,
 }
 
 /// Begins one more recording, whose files have names that begin so.
@@ -123,7 +130,8 @@ fn begin_more<J: Journals, R: Wait + Copy + Drop>(
         &beginning.clock,
         &beginning.waiting,
     )?;
-    if beginning.noters.push(Some(noter)).is_err() || tracks.tracks.push(track).is_err() {
+    let place = NoterPlace::Unused(FreshNoter { noter });
+    if beginning.noters.push(place).is_err() || tracks.tracks.push(track).is_err() {
         return Err(BeginFault::NoMemory);
     }
     Ok(())

@@ -1,8 +1,8 @@
 use crate::batches::Batch;
 use crate::noters::Noter;
-use crate::shelves::{WaitingRecords, exchange};
 use crate::starts::begin_track;
 use crate::tracks::Track;
+use crate::waiting::WaitingRecords;
 use crate::{BeginFault, LinksReturn, MemJournals, RecordedLinks, Way, stem_of};
 use conf_text::{Form, read_conf};
 use file_spec::Conference;
@@ -248,16 +248,23 @@ fn begun<R: Wait + Copy + Drop>(
     Ok((track, noter, waiting))
 }
 
+fn size_of(batch: &Option<Batch>) -> u64 {
+    match batch {
+        Some(batch) => batch.size(),
+        None => 0,
+    }
+}
+
 /// For how many octets counts what waits of 300 datagrams, and once that was taken away what waits of one more.
 fn waits<R: Wait + Copy + Drop>(rt: R, alloc: Global) -> Result<[u64; 2], BeginFault> {
     let mut journals = MemJournals::new(alloc);
-    let (track, mut noter, _waiting) = begun(rt, alloc, &mut journals)?;
+    let (mut track, mut noter, _waiting) = begun(rt, alloc, &mut journals)?;
     for _ in 0..300u32 {
         noter.note(0, &LARGE);
     }
-    let first = exchange(&rt, &track.shelf, Batch::empty(alloc)).size();
+    let first = size_of(&track.shelf.take(&rt, &mut track.pass));
     noter.note(0, &LARGE);
-    let next = exchange(&rt, &track.shelf, Batch::empty(alloc)).size();
+    let next = size_of(&track.shelf.take(&rt, &mut track.pass));
     Ok([first, next])
 }
 

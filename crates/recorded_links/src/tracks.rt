@@ -1,55 +1,120 @@
 //! The recordings of a call, as they are written.
-ghost use Rattle.std.specs.Prelude.{◌≡◌, [], IfSome};
+ghost use Rattle.std.specs.Prelude.{◌≡◌, [], IfSome, take, drop};
+ghost use Rattle.std.specs.Arc.{arc_value};
+ghost use Rattle.recorded_links.specs.Notes.{entries_in};
+ghost use Rattle.recorded_links.specs.Shelves.{IsTakeOf, taken};
+ghost use Rattle.recorded_links.specs.Writing.{TouchesOwn};
+ghost use Rattle.recorded_links.specs.Written.{HasTakenStill, NotesAll};
+ghost use Rattle.recorded_links.specs.Recordings.{AllHaveStill, SameNames};
 
-use crate::batches::Batch;
-use crate::noters::Noter;
-use crate::shelves::{Legs, Shelf, WaitingRecords, exchange};
+use crate::noter_places::NoterPlace;
+use crate::notes::Note;
+use crate::passes::{Shelf, TakePass};
+use crate::waiting::{Legs, WaitingRecords};
 use crate::{Journals, Recorder, Way};
 use rtt_base::NoMemory;
 use std::alloc::Global;
-use std::mem;
 use std::sync::{Arc, Wait};
 
 /// A recording, and the shelf from which it is written.
 #[derive(Drop)]
 pub(crate) struct Track<J: Journals> {
-    pub(crate) alloc: Global,
     pub(crate) way: Way,
     pub(crate) leg: Legs,
     pub(crate) recorder: Recorder<J>,
-    pub(crate) shelf: Shelf,
-    /// An empty batch, which goes on the shelf next.
-    pub(crate) spare: Batch,
+    pub(crate) shelf: Arc<Shelf, Global>,
+    pub(crate) pass: TakePass,
+    ghost of: { IsTakeOf (arc_value shelf) pass },
+}
+
+/// The first octets, so many, and those behind them.
+fn split_octets(octets: &[u8], len: usize) -> (&[u8], &[u8])
+    ensures first { result.0.now ≡ take len octets.now }
+    ensures behind { result.1.now ≡ drop len octets.now }
+{
+    octets.split_at(len.min(octets.len()))
+}
+
+/// Has the entries of these notes, whose octets lie one behind the other, in a recording.
+fn note_each<J: Journals>(
+    recorder: &mut Recorder<J>,
+    journals: &mut J,
+    notes: &[Note],
+    octets: &[u8],
+)
+    ensures named { (recorder.new.stem ≡ recorder.old.stem) × (recorder.new.start ≡ recorder.old.start) }
+    ensures others { J.tells → TouchesOwn J.contents journals.old journals.new recorder.old.stem }
+    ensures notes { J.tells → NotesAll J.File.Sink (J.contents journals.old) (J.contents journals.new) recorder.old recorder.new
+        (entries_in notes.now octets.now) }
+{
+    let mut rest = octets;
+    for note in notes {
+        let (octets, more) = split_octets(rest, note.len);
+        let _ended = recorder.note(journals, note.at, octets);
+        rest = more;
+    }
+}
+
+/// Whether nothing came, or was given, that could not be noted, as far as who notes knows, who has to be here.
+fn has_noted_all<R: Wait + Drop>(noter: &NoterPlace<R>) -> bool {
+    match noter {
+        NoterPlace::Unused(_) => true,
+        NoterPlace::Given => false,
+        NoterPlace::Back(noter) => !noter.is_over(),
+    }
 }
 
 impl<J: Journals> Track<J> {
-    // Has the entries of a batch in its recording.
-    fn note(&mut self, journals: &mut J, batch: &Batch) {
-        let mut rest = batch.octets();
-        for note in batch.notes() {
-            let (octets, more) = rest.split_at(note.len.min(rest.len()));
-            let _ended = self.recorder.note(journals, note.at, octets);
-            rest = more;
-        }
+    // Has what waits on its shelf in the recording.
+    fn take_in<R: Wait>(&mut self, rt: &R, journals: &mut J, waiting: &WaitingRecords)
+        ensures named { (self.new.recorder.stem ≡ self.old.recorder.stem) × (self.new.recorder.start ≡ self.old.recorder.start) }
+        ensures others { J.tells → TouchesOwn J.contents journals.old journals.new self.old.recorder.stem }
+        ensures taken { J.tells → HasTakenStill J.File.Sink (J.contents journals.old) (J.contents journals.new) self.old.recorder self.new.recorder
+            (taken self.old.pass) (taken self.new.pass) }
+    {
+        let Some(batch) = self.shelf.take(rt, &mut self.pass) else {
+            return;
+        };
+        note_each(&mut self.recorder, journals, batch.notes(), batch.octets());
+        waiting.uncount(batch.size());
+        self.shelf.give_back(rt, batch);
     }
 
     /// Writes what waits on its shelf.
     pub(crate) fn write<R: Wait>(&mut self, rt: &R, journals: &mut J, waiting: &WaitingRecords)
         ensures written { IfSome self.new.recorder.file (λ _. self.new.recorder.pending ≡ []) }
+        ensures named { (self.new.recorder.stem ≡ self.old.recorder.stem) × (self.new.recorder.start ≡ self.old.recorder.start) }
+        ensures others { J.tells → TouchesOwn J.contents journals.old journals.new self.old.recorder.stem }
+        ensures taken { J.tells → HasTakenStill J.File.Sink (J.contents journals.old) (J.contents journals.new) self.old.recorder self.new.recorder
+            (taken self.old.pass) (taken self.new.pass) }
     {
-        let spare = mem::replace(&mut self.spare, Batch::empty(self.alloc));
-        let mut batch = exchange(rt, &self.shelf, spare);
-        self.note(journals, &batch);
+        self.take_in(rt, journals, waiting);
         let _ended = self.recorder.flush(journals);
-        waiting.uncount(batch.size());
-        batch.clear();
-        self.spare = batch;
+    }
+
+    /// Writes what waits on its shelf, where this round takes it and something came of these legs.
+    fn write_in<R: Wait>(
+        &mut self,
+        rt: &R,
+        journals: &mut J,
+        waiting: &WaitingRecords,
+        round: Round,
+        came: Legs,
+    )
+        ensures named { (self.new.recorder.stem ≡ self.old.recorder.stem) × (self.new.recorder.start ≡ self.old.recorder.start) }
+        ensures others { J.tells → TouchesOwn J.contents journals.old journals.new self.old.recorder.stem }
+        ensures taken { J.tells → HasTakenStill J.File.Sink (J.contents journals.old) (J.contents journals.new) self.old.recorder self.new.recorder
+            (taken self.old.pass) (taken self.new.pass) }
+    {
+        if round.takes(self.way, self.leg, came) {
+            self.write(rt, journals, waiting);
+        }
     }
 
     /// Ends it. The answer is whether all was written that came, or was given.
-    fn end<R: Wait + Drop>(&mut self, journals: &mut J, noter: Option<Noter<R>>) -> bool {
+    fn end<R: Wait + Drop>(&mut self, journals: &mut J, noter: &NoterPlace<R>) -> bool {
         let whole = self.recorder.end(journals) == Ok(true);
-        whole && noter.is_some_and(|noter| !noter.is_over())
+        whole && has_noted_all(noter)
     }
 }
 
@@ -57,11 +122,11 @@ impl<J: Journals> Track<J> {
 pub(crate) fn end_all<J: Journals, R: Wait + Drop>(
     journals: &mut J,
     tracks: Vec<Track<J>>,
-    noters: Vec<Option<Noter<R>>>,
+    noters: Vec<NoterPlace<R>>,
 ) -> Result<Option<String>, NoMemory> {
     let mut failed = None;
     for (mut track, noter) in tracks.into_iter().zip(noters) {
-        let is_whole = track.end(journals, noter);
+        let is_whole = track.end(journals, &noter);
         if !is_whole && failed.is_none() {
             failed = Some(track.recorder.last_name()?);
         }
@@ -96,14 +161,40 @@ pub(crate) struct Tracks<J: Journals> {
     pub(crate) tracks: Vec<Track<J>>,
 }
 
+/// Writes what waits in each of these recordings in turn that a round takes, where something came of these legs.
+fn write_each<J: Journals, R: Wait>(
+    rt: &R,
+    journals: &mut J,
+    waiting: &WaitingRecords,
+    tracks: &mut Vec<Track<J>>,
+    round: Round,
+    came: Legs,
+)
+    ensures names { SameNames tracks.old.items tracks.new.items (λ t. t.recorder) }
+    ensures have { J.tells → AllHaveStill J.File.Sink (J.contents journals.old) (J.contents journals.new) tracks.old.items tracks.new.items
+        (λ t. t.recorder) (λ t. taken t.pass) }
+{
+    for number in 0..tracks.len() {
+        let track = &mut tracks[number];
+        track.write_in(rt, journals, waiting, round, came);
+    }
+}
+
 impl<J: Journals> Tracks<J> {
     /// Writes what waits in each recording in turn that this round takes.
-    pub(crate) fn write<R: Wait>(&mut self, rt: &R, round: Round) {
+    pub(crate) fn write<R: Wait>(&mut self, rt: &R, round: Round)
+        ensures names { SameNames self.old.tracks.items self.new.tracks.items (λ t. t.recorder) }
+        ensures have { J.tells → AllHaveStill J.File.Sink (J.contents self.old.journals) (J.contents self.new.journals) self.old.tracks.items self.new.tracks.items
+            (λ t. t.recorder) (λ t. taken t.pass) }
+    {
         let came = self.waiting.legs();
-        for track in &mut self.tracks {
-            if round.takes(track.way, track.leg, came) {
-                track.write(rt, &mut self.journals, &self.waiting);
-            }
-        }
+        write_each(
+            rt,
+            &mut self.journals,
+            &self.waiting,
+            &mut self.tracks,
+            round,
+            came,
+        );
     }
 }

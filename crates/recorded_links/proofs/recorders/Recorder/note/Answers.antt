@@ -1,10 +1,9 @@
-use Rattle.std.proofs.Common.{rules, ◌≡◌, ◌≢◌, ◌<◌, ◌^◌, ◌+◌, ◌-◌, ◌++◌, ℕ, List, Some, IfSome, IsSome, string_bytes, refl, ap, subst, ◌∙◌}
-use Rattle.live_spec.specs.Recorded.{entry_written, head_written, record_in}
-use Rattle.recorded_links.specs.Names.{numbered}
+use Rattle.std.proofs.Common.{rules, ◌≡◌, ◌<◌, ◌^◌, ◌+◌, Some, IfSome, string_bytes, refl, ap, subst, ◌∙◌}
+use Rattle.live_spec.specs.Recorded.{record_in}
 use Rattle.recorded_links.specs.Places.{entry}
 use Rattle.recorded_links.specs.Standing.{IsFresh}
 use Rattle.recorded_links.proofs.Pieces.{at_err}
-use Rattle.recorded_links.proofs.Noting.{left_done, left_more, left_next, left_pending, noted_more, noted_next}
+use Rattle.recorded_links.proofs.Noting.{left_done, left_more, left_next, left_pending, noted_more, noted_next, touches, touches_both}
 use Rattle.recorded_links.proofs.recorders.Recorder.note.Goals as goal
 
 pub returns-then-has_room-clause-notes : goal.returns-then-has_room-clause-notes
@@ -83,3 +82,54 @@ returns-in_err-file-2-clause-keeps g c = λ tells.
     c.self.view_is is next small (ap g.J.Journals.contents same) (λ told. search (rules, c.write_pending.ensures.took told)) (named ∙ fresh.1)
     (λ there other. search (rules, c.in_err-file-2.ensures.kept tells))
     (λ n one other. search (rules, c.in_err-file-2.ensures.others tells n one)))
+
+pub returns-in_default-write_pending-clause-others : goal.returns-in_default-write_pending-clause-others
+returns-in_default-write_pending-clause-others g c = λ tells.
+    let sink = g.J.File.Sink in
+    let file = c.in-Some.file in
+    let is : c.self.inside.file ≡ Some file = search rules in
+    let fresh = subst (λ o. IfSome o (λ f. IsFresh sink (string_bytes c.self.inside.stem) c.self.inside.number f)) is c.self.invariant.1 in
+    touches sink (g.J.Journals.contents c.args.journals.now) (g.J.Journals.contents c.write_pending.new.journals) c.args.self.now _ (sink.name file) c.self.view_is fresh.1 (c.write_pending.ensures.others tells)
+
+pub returns-in_err-file-clause-others : goal.returns-in_err-file-clause-others
+returns-in_err-file-clause-others g c = λ tells.
+    let sink = g.J.File.Sink in
+    let file = c.in-Some.file in
+    let is : c.self.inside.file ≡ Some file = search rules in
+    let fresh = subst (λ o. IfSome o (λ f. IsFresh sink (string_bytes c.self.inside.stem) c.self.inside.number f)) is c.self.invariant.1 in
+    touches sink (g.J.Journals.contents c.args.journals.now) (g.J.Journals.contents c.add_record.new.journals) c.args.self.now _ (sink.name file) c.self.view_is fresh.1 (λ n other. search (rules, c.in_err-file.ensures.others tells n other))
+
+pub returns-in_default-checked_add-clause-others : goal.returns-in_default-checked_add-clause-others
+returns-in_default-checked_add-clause-others g c = λ tells.
+    let sink = g.J.File.Sink in
+    let file = c.in-Some.file in
+    let is : c.self.inside.file ≡ Some file = search rules in
+    let fresh = subst (λ o. IfSome o (λ f. IsFresh sink (string_bytes c.self.inside.stem) c.self.inside.number f)) is c.self.invariant.1 in
+    let written = c.in-Some-write_pending.file in
+    let named : sink.name written ≡ sink.name file = search rules in
+    let same : c.write_pending.new.journals ≡ c.args.journals.now = search rules in
+    touches sink (g.J.Journals.contents c.args.journals.now) (g.J.Journals.contents c.done.new.self) c.args.self.now _ (sink.name written) c.self.view_is (named ∙ fresh.1) (λ n other. c.done.ensures.other_contents tells n other ∙ ap (λ j. g.J.Journals.contents j n) same)
+
+pub returns-in_err-file-2-clause-others : goal.returns-in_err-file-2-clause-others
+returns-in_err-file-2-clause-others g c = λ tells.
+    let sink = g.J.File.Sink in
+    let file = c.in-Some.file in
+    let is : c.self.inside.file ≡ Some file = search rules in
+    let fresh = subst (λ o. IfSome o (λ f. IsFresh sink (string_bytes c.self.inside.stem) c.self.inside.number f)) is c.self.invariant.1 in
+    let written = c.in-Some-write_pending.file in
+    let named : sink.name written ≡ sink.name file = search rules in
+    let same : c.write_pending.new.journals ≡ c.args.journals.now = search rules in
+    touches_both sink (g.J.Journals.contents c.args.journals.now) (g.J.Journals.contents c.write_pending.new.journals) (g.J.Journals.contents c.next_file.new.journals) c.args.self.now _ (sink.name written) c.in-Some-checked_add.number
+    c.self.view_is (ap g.J.Journals.contents same) (named ∙ fresh.1) (λ n one other. search (rules, c.in_err-file-2.ensures.others tells n one))
+
+pub returns-clause-others : goal.returns-clause-others
+returns-clause-others g c = λ tells.
+    let sink = g.J.File.Sink in
+    let file = c.in-Some.file in
+    let is : c.self.inside.file ≡ Some file = search rules in
+    let fresh = subst (λ o. IfSome o (λ f. IsFresh sink (string_bytes c.self.inside.stem) c.self.inside.number f)) is c.self.invariant.1 in
+    let written = c.in-Some-write_pending.file in
+    let named : sink.name written ≡ sink.name file = search rules in
+    let same : c.write_pending.new.journals ≡ c.args.journals.now = search rules in
+    touches_both sink (g.J.Journals.contents c.args.journals.now) (g.J.Journals.contents c.write_pending.new.journals) (g.J.Journals.contents c.next_file.new.journals) c.args.self.now _ (sink.name written) c.in-Some-checked_add.number
+    c.self.view_is (ap g.J.Journals.contents same) (named ∙ fresh.1) (λ n one other. search (rules, c.in_ok-file-2.ensures.others tells n one))
