@@ -82,19 +82,23 @@ pub record IsBroken (Told : Type 0) (Object : List ℕ → Type 0) (held : Conte
   pub is_input : IsInputBehind Told held (cascades file ssrc c) input name
   pub read : is_of_source fault.kind ≡ true → Object name
   pub lowest : Told → SplitsAreWhole held file ssrc c → RefusesNoneBefore input (outcome_behind held file ssrc c)
-  pub refused : is_of_source fault.kind ≡ false → Told → outcome_behind held file ssrc c ≡ Refused input (AtByte fault.offset fault.kind)
+  pub refused : is_of_source fault.kind ≡ false → Told
+      → outcome_behind held file ssrc c ≡ Refused input (AtByte fault.offset fault.kind)
 
 -- Why nothing is made; `Call` and `Object` tell of which names a call or an object failed. Want of memory is free.
-abbrev pub Stops : (Told : Type 0) → (Call Object : List ℕ → Type 0) → Contents → List ℕ → ℕ → Conference → CascadeFault → Type 0
+abbrev pub Stops : (Told : Type 0) → (Call Object : List ℕ → Type 0) → Contents → List ℕ → ℕ → Conference
+    → CascadeFault → Type 0
 Stops Told Call Object held file ssrc c (Open input) =
     IsInputBehind Told held (cascades file ssrc c) input (input_name file c.legs input) × Call (input_name file c.legs input)
 Stops Told Call Object held file ssrc c (Dump input fault) = IsBroken Told Object held file ssrc c input (input_name file c.legs input) fault
-Stops Told Call Object held file ssrc c TooLong = Told → outcome_behind held file ssrc c ≡ Refused 0 (AfterTurns c.turns)
+Stops Told Call Object held file ssrc c TooLong = Told
+    → outcome_behind held file ssrc c ≡ Refused 0 (AfterTurns c.turns)
 Stops Told Call Object held file ssrc c NoMemory = Unit {0}
 
 -- Which readings did not fail: none did but where an input has a fault, or memory ran out. Where one has a fault, none of a name did
 -- that neither that input nor a later one has, as far as counts are told of each name.
-abbrev pub NoneFailed : Type 0 → Contents → List ℕ → ℕ → Conference → (List ℕ → ℕ) → (List ℕ → ℕ) → Result Mixed CascadeFault → Type 0
+abbrev pub NoneFailed : Type 0 → Contents → List ℕ → ℕ → Conference → (List ℕ → ℕ) → (List ℕ → ℕ)
+    → Result Mixed CascadeFault → Type 0
 NoneFailed Told held file ssrc c old new (Ok mixed) = AllKept old new
 NoneFailed Told held file ssrc c old new (Err (Open input)) = AllKept old new
 NoneFailed Told held file ssrc c old new (Err (Dump input fault)) =
@@ -112,7 +116,8 @@ IsFirst Told held file legs old new NoMemory = Unit {0}
 
 -- ---- by the counts of a world, before and after
 module _ {W : Type 0} where
-  abbrev pub IsFirstIn : Type 0 → (W → Contents) → (W → List ℕ → ℕ) → W → W → List ℕ → List LegLine → CascadeFault → Type 0
+  abbrev pub IsFirstIn : Type 0 → (W → Contents) → (W → List ℕ → ℕ) → W → W → List ℕ → List LegLine
+      → CascadeFault → Type 0
   IsFirstIn Told contents own old new file legs fault = IsFirst Told (contents old) file legs (own old) (own new) fault
 
   -- Why the recording was not split. No call for another input failed.
@@ -124,10 +129,12 @@ module _ {W : Type 0} where
   OthersKeptIn Told objects old new file result = OthersKept Told file (objects old) (objects new) result
 
   -- why nothing is made
-  abbrev pub StopsIn : Type 0 → (W → Contents) → (W → List ℕ → ℕ) → (W → List ℕ → ℕ) → W → W → List ℕ → ℕ → Conference → CascadeFault → Type 0
+  abbrev pub StopsIn : Type 0 → (W → Contents) → (W → List ℕ → ℕ) → (W → List ℕ → ℕ) → W → W → List ℕ → ℕ
+      → Conference → CascadeFault → Type 0
   StopsIn Told contents own objects old new file ssrc c =
       Stops Told (RoseAt (own old) (own new)) (RoseAt (objects old) (objects new)) (contents old) file ssrc c
 
-  abbrev pub NoneFailedIn : Type 0 → (W → Contents) → (W → List ℕ → ℕ) → W → W → List ℕ → ℕ → Conference → Result Mixed CascadeFault → Type 0
+  abbrev pub NoneFailedIn : Type 0 → (W → Contents) → (W → List ℕ → ℕ) → W → W → List ℕ → ℕ → Conference
+      → Result Mixed CascadeFault → Type 0
   NoneFailedIn Told contents objects old new file ssrc c result =
       NoneFailed Told (contents old) file ssrc c (objects old) (objects new) result

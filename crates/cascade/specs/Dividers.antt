@@ -53,24 +53,29 @@ ClosesAll old new = (length new ≡ length old) × ((k : ℕ) (d : SourceRecordi
 
 -- all that is ready was given
 abbrev pub Gathers : Demux → Demux → Type 0
-Gathers old new = (t : Trunk) (sources : List ℕ) (story : Story) → Hears old t sources story → Hears new t sources (all_given story)
+Gathers old new = (t : Trunk) (sources : List ℕ) (story : Story) → Hears old t sources story
+    → Hears new t sources (all_given story)
 
 -- the octets came at `now`
 abbrev pub Takes : Demux → Demux → ℕ → List ℕ → Type 0
 Takes old new now octets =
-    (t : Trunk) (sources : List ℕ) (past : List Arrival) → Listens old t sources past → Listens new t sources (arrived now (text_of octets (Some t.ssrc) t.payload_types) past)
+    (t : Trunk) (sources : List ℕ) (past : List Arrival) → Listens old t sources past
+    → Listens new t sources (arrived now (text_of octets (Some t.ssrc) t.payload_types) past)
 
 -- to the recording of each source all was added that is heard of it by these arrivals, but for keep-alives
 pub record AreAdded (t : Trunk) (sources : List ℕ) (past : List Arrival) (splitters : List SourceRecording) : Type 0 where
   pub t140 : t.payload_types.t140 < 2 ^ 7
   pub each : length splitters ≡ length sources
-  pub splits : (k : ℕ) (d : SourceRecording) → k < length sources → Splits (slice_index_or splitters k d) t.payload_types (slice_index sources k) (chunks_of t.wait past (slice_index sources k))
+  pub splits : (k : ℕ) (d : SourceRecording) → k < length sources
+      → Splits (slice_index_or splitters k d) t.payload_types (slice_index sources k) (chunks_of t.wait past (slice_index sources k))
 
 -- nothing comes any more: what is heard of each source was added
 abbrev pub Ends : Demux → Demux → Type 0
 Ends old new =
-    (t : Trunk) (sources : List ℕ) (past : List Arrival) → Listens old t sources past → AreAdded t sources past new.splitters.items
+    (t : Trunk) (sources : List ℕ) (past : List Arrival) → Listens old t sources past
+    → AreAdded t sources past new.splitters.items
 
 abbrev pub SplitsAll : Demux → List SourceRecording → Type 0
 SplitsAll d splitters =
-    (t : Trunk) (sources : List ℕ) (past : List Arrival) → Listens d t sources past → map (λ s. s.octets) splitters ≡ map (split t.payload_types t.wait past) sources
+    (t : Trunk) (sources : List ℕ) (past : List Arrival) → Listens d t sources past
+    → map (λ s. s.octets) splitters ≡ map (split t.payload_types t.wait past) sources

@@ -15,7 +15,8 @@ use Rattle.cascade.specs.Splitters.{Splits}
 -- these texts were added, all ready at one moment, but for keep-alives
 abbrev pub AddsTexts : SourceRecording → SourceRecording → ℕ → List (List ℕ) → Type 0
 AddsTexts old new ready texts =
-    (payload_types : PayloadTypes) (s : ℕ) (cs : List Chunk) → Splits old payload_types s cs → Splits new payload_types s (cs ++ filter is_lively_chunk (map (chunk 0 ready) texts))
+    (payload_types : PayloadTypes) (s : ℕ) (cs : List Chunk) → Splits old payload_types s cs
+    → Splits new payload_types s (cs ++ filter is_lively_chunk (map (chunk 0 ready) texts))
 
 -- what is heard of the source by these used packets, which bear the moments at which they are ready, but for keep-alives
 abbrev pub lively_by : List Numbered → ℕ → List Chunk
@@ -24,7 +25,8 @@ lively_by us s = filter is_lively_chunk (chunks_by 0 us s)
 -- there is a recording for each of the sources, of what is heard of it by these used packets
 pub record AreSplit (payload_types : PayloadTypes) (sources : List ℕ) (us : List Numbered) (splitters : List SourceRecording) : Type 0 where
   pub each : length splitters ≡ length sources
-  pub splits : (k : ℕ) (d : SourceRecording) → k < length sources → Splits (slice_index_or splitters k d) payload_types (slice_index sources k) (lively_by us (slice_index sources k))
+  pub splits : (k : ℕ) (d : SourceRecording) → k < length sources
+      → Splits (slice_index_or splitters k d) payload_types (slice_index sources k) (lively_by us (slice_index sources k))
 
 -- the packet that was due, where it is used
 abbrev pub due_packet : Due → TextPacket → Numbered
@@ -32,9 +34,11 @@ due_packet due p = used_packet due.ready due.number p
 
 -- the receiver took it
 abbrev pub TakesDue : Receiver → Receiver → Due → TextPacket → Type 0
-TakesDue old new due p = (sources : List ℕ) (us : List Numbered) → Stands old sources us → Stands new sources (us ++ due_packet due p ∷ [])
+TakesDue old new due p = (sources : List ℕ) (us : List Numbered) → Stands old sources us
+    → Stands new sources (us ++ due_packet due p ∷ [])
 
 -- what is heard of it was added
 abbrev pub Divides : Receiver → List SourceRecording → List SourceRecording → Due → TextPacket → Type 0
 Divides old before after due p =
-    (payload_types : PayloadTypes) (sources : List ℕ) (us : List Numbered) → Stands old sources us → AreSplit payload_types sources us before → AreSplit payload_types sources (us ++ due_packet due p ∷ []) after
+    (payload_types : PayloadTypes) (sources : List ℕ) (us : List Numbered) → Stands old sources us
+    → AreSplit payload_types sources us before → AreSplit payload_types sources (us ++ due_packet due p ∷ []) after

@@ -40,12 +40,15 @@ module _ {S : Type 0} where
     pub told : Told → Tells → Stands left i.leg (begins (ear_of wait leg) limit (text_of held recording leg))
 
   -- these legs, in order, over these recordings or their inputs
-  abbrev pub AllFed : (Told Tells : Type 0) → (S → List ℕ) → (S → ℕ) → (S → List ℕ) → Contents → ℕ → ℕ → List LegLine → List (List ℕ) → List (LegInlet S) → Type 0
-  AllFed Told Tells left faults name held wait limit lines recordings legs = (j : ℕ) (i : LegInlet S) → slice_get legs j ≡ Some i
+  abbrev pub AllFed : (Told Tells : Type 0) → (S → List ℕ) → (S → ℕ) → (S → List ℕ) → Contents → ℕ → ℕ
+      → List LegLine → List (List ℕ) → List (LegInlet S) → Type 0
+  AllFed Told Tells left faults name held wait limit lines recordings legs = (j : ℕ) (i : LegInlet S)
+      → slice_get legs j ≡ Some i
       → (leg : LegLine) × (leg_at lines j ≡ Some leg) × IsFedLeg Told Tells left faults name held wait limit leg (input_at recordings j) i
 
   -- the same of a whole list of legs
-  abbrev pub AreFed : (Told Tells : Type 0) → (S → List ℕ) → (S → ℕ) → (S → List ℕ) → Contents → ℕ → ℕ → List LegLine → List (List ℕ) → Vec (LegInlet S) → Type 0
+  abbrev pub AreFed : (Told Tells : Type 0) → (S → List ℕ) → (S → ℕ) → (S → List ℕ) → Contents → ℕ → ℕ
+      → List LegLine → List (List ℕ) → Vec (LegInlet S) → Type 0
   AreFed Told Tells left faults name held wait limit lines recordings legs = AllFed Told Tells left faults name held wait limit lines recordings legs.items
 
   -- this holds of each of these sources
@@ -109,6 +112,7 @@ module _ {W : Type 0} where
   FaultsRose {S} faults name objects legs old new = EachSource (RisesFor faults name (objects old) (objects new)) legs
 
   -- a name's count is the old one, where each of the sources leaves it
-  abbrev pub CountsLeft : {S : Type 0} → (S → ℕ) → (S → List ℕ) → (W → Contents) → (W → List ℕ → ℕ) → List (LegInlet S) → W → W → Type 0
+  abbrev pub CountsLeft : {S : Type 0} → (S → ℕ) → (S → List ℕ) → (W → Contents) → (W → List ℕ → ℕ)
+      → List (LegInlet S) → W → W → Type 0
   CountsLeft {S} faults name contents objects legs old new =
       (n : List ℕ) → EachSource (LeavesCount faults name (contents old) n) legs → objects new n ≡ objects old n

@@ -33,7 +33,8 @@ IsCaused Call Object legs (Err NoMemory) = Unit {0}
 
 -- no leg from number n on has this input
 abbrev pub NoneReads : ℕ → List LegLine → List ℕ → Type 0
-NoneReads n legs name = (k : ℕ) (leg : LegLine) → n ≤ k → leg_at legs k ≡ Some leg → is_on_trunk leg ≡ false → leg.input ≡ name → ⊥
+NoneReads n legs name = (k : ℕ) (leg : LegLine) → n ≤ k → leg_at legs k ≡ Some leg → is_on_trunk leg ≡ false
+    → leg.input ≡ name → ⊥
 
 -- each name has its old count
 abbrev pub AllKept : (List ℕ → ℕ) → (List ℕ → ℕ) → Type 0

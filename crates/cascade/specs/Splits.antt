@@ -20,12 +20,14 @@ trunk_of ssrc c = record { ssrc = ssrc; payload_types = c.payload_types; wait = 
 -- this record came
 abbrev pub TakesItem : Demux → Demux → Item → Type 0
 TakesItem old new item =
-    (t : Trunk) (sources : List ℕ) (past : List Arrival) → Listens old t sources past → Listens new t sources (arrivals_with t.ssrc t.payload_types item past)
+    (t : Trunk) (sources : List ℕ) (past : List Arrival) → Listens old t sources past
+    → Listens new t sources (arrivals_with t.ssrc t.payload_types item past)
 
 -- these records came, oldest first
 abbrev pub TakesItems : Demux → Demux → List Item → Type 0
 TakesItems old new items =
-    (t : Trunk) (sources : List ℕ) (past : List Arrival) → Listens old t sources past → Listens new t sources (arrivals_after t.ssrc t.payload_types past items)
+    (t : Trunk) (sources : List ℕ) (past : List Arrival) → Listens old t sources past
+    → Listens new t sources (arrivals_after t.ssrc t.payload_types past items)
 
 -- some records came; those of this recording, which has no fault, where this tells it
 abbrev pub HearsAll : Type 0 → Recording → Demux → Demux → Type 0

@@ -29,11 +29,13 @@ pub record Splits (sp : SourceRecording) (payload_types : PayloadTypes) (s : ℕ
 
 -- one chunk was added
 abbrev pub AddsChunk : SourceRecording → SourceRecording → Chunk → Type 0
-AddsChunk old new c = (payload_types : PayloadTypes) (s : ℕ) (cs : List Chunk) → Splits old payload_types s cs → Splits new payload_types s (cs ++ c ∷ [])
+AddsChunk old new c = (payload_types : PayloadTypes) (s : ℕ) (cs : List Chunk) → Splits old payload_types s cs
+    → Splits new payload_types s (cs ++ c ∷ [])
 
 -- the recording is whole
 abbrev pub Closes : SourceRecording → SourceRecording → Type 0
-Closes old new = (payload_types : PayloadTypes) (s : ℕ) (cs : List Chunk) → Splits old payload_types s cs → new.octets ≡ recorded payload_types (packets_in s (groups cs))
+Closes old new = (payload_types : PayloadTypes) (s : ℕ) (cs : List Chunk) → Splits old payload_types s cs
+    → new.octets ≡ recorded payload_types (packets_in s (groups cs))
 
 -- ---- the steps
 

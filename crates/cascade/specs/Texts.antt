@@ -23,7 +23,8 @@ texts_of held (leg ∷ legs) (recording ∷ more) = text_of held recording leg �
 
 -- something lies under the input of each of the first n legs that don't stand behind the other mixer
 abbrev pub OwnLieBelow : ℕ → Contents → List LegLine → Type 0
-OwnLieBelow n held legs = (k : ℕ) (leg : LegLine) → k < n → leg_at legs k ≡ Some leg → is_on_trunk leg ≡ false → IsSome (held leg.input)
+OwnLieBelow n held legs = (k : ℕ) (leg : LegLine) → k < n → leg_at legs k ≡ Some leg → is_on_trunk leg ≡ false
+    → IsSome (held leg.input)
 
 -- and under that of each
 abbrev pub AllOwnLie : Contents → List LegLine → Type 0
@@ -32,8 +33,10 @@ AllOwnLie held legs = OwnLieBelow (length legs) held legs
 -- each split of the recording that lies there is read to its end
 abbrev pub SplitsAreWhole : Contents → List ℕ → ℕ → Conference → Type 0
 SplitsAreWhole held file ssrc c = (octets : List ℕ) → held file ≡ Some octets
-    → (k : ℕ) (leg : LegLine) → leg_at c.legs k ≡ Some leg → (dump (input_limit c) (split_of (trunk_of c ssrc) octets leg.ssrc)).fault ≡ None
+    → (k : ℕ) (leg : LegLine) → leg_at c.legs k ≡ Some leg
+    → (dump (input_limit c) (split_of (trunk_of c ssrc) octets leg.ssrc)).fault ≡ None
 
 -- so it is of each recording, whatever lies there, for a conference that was read
 abbrev pub AllSplitsAreWhole : Type 0
-AllSplitsAreWhole = (read : List ℕ) (c : Conference) → conference_from Files read ≡ Ok c → (held : Contents) (file : List ℕ) (ssrc : ℕ) → SplitsAreWhole held file ssrc c
+AllSplitsAreWhole = (read : List ℕ) (c : Conference) → conference_from Files read ≡ Ok c
+    → (held : Contents) (file : List ℕ) (ssrc : ℕ) → SplitsAreWhole held file ssrc c

@@ -27,7 +27,8 @@ abbrev pub AllWhole : ℕ → (ℕ → Asked) → Type 0
 AllWhole n asked = (j : ℕ) → j < n → (recording_asked (asked j)).fault ≡ None
 
 -- Plain mixing of these chunks, where each recording can be read; else the fault of the lowest leg whose recording can't be.
-abbrev pub IsAnswer : {T : Type 0} → MixEnd DumpFault T → Setup → ℕ → ℕ → (ℕ → Asked) → (ℕ → List Chunk) → Table → Type 0
+abbrev pub IsAnswer : {T : Type 0} → MixEnd DumpFault T → Setup → ℕ → ℕ → (ℕ → Asked) → (ℕ → List Chunk)
+    → Table → Type 0
 IsAnswer mixing.Over s tick turns asked chunks table = (plain s tick turns chunks ≡ Some table) × AllWhole s.legs asked
 IsAnswer mixing.TooLong s tick turns asked chunks table = (plain s tick turns chunks ≡ None) × AllWhole s.legs asked
 IsAnswer (mixing.Stopped why) s tick turns asked chunks table = Unit {0}
@@ -66,13 +67,15 @@ module _ {S : Type 0} where
 
   -- each leg is asked for this, and gave nothing yet
   abbrev pub AllAsked : (S → List ℕ) → (ℕ → Asked) → List (LegInlet S) → Type 0
-  AllAsked left asked legs = (j : ℕ) (i : LegInlet S) → slice_get legs j ≡ Some i → Stands left i.leg (past_of (asked j) [])
+  AllAsked left asked legs = (j : ℕ) (i : LegInlet S) → slice_get legs j ≡ Some i
+      → Stands left i.leg (past_of (asked j) [])
 
   -- The source of the leg j is the one that it was. Where its reading failed, its count rose; where none did, it is the old one.
   pub record SourceKept {T : Type 0} (faults : S → ℕ) (name : S → List ℕ) (answer : MixEnd DumpFault T) (j : ℕ) (old new : S) : Type 0 where
     pub never_falls : faults old ≤ faults new
     pub same_name : name new ≡ name old
-    pub read : (fault : DumpFault) → answer ≡ mixing.Faulted j fault → fault.kind ≡ Read → Rose (faults old) (faults new)
+    pub read : (fault : DumpFault) → answer ≡ mixing.Faulted j fault → fault.kind ≡ Read
+        → Rose (faults old) (faults new)
     pub calm : IsReadWell answer j → faults new ≡ faults old
 
   -- Unless it could not send, the mixer has come to this table. All sources are there still. Where they tell what they hold, the
@@ -82,11 +85,16 @@ module _ {S : Type 0} where
     pub table : Table
     pub mixed : UnlessUnsent answer (At mixes m s table)
     pub within : (leg : ℕ) (fault : DumpFault) → answer ≡ mixing.Faulted leg fault → leg < s.legs
-    pub sources : (j : ℕ) (i k : LegInlet S) → slice_get old j ≡ Some i → slice_get new j ≡ Some k → SourceKept faults name answer j (source_in i) (source_in k)
-    pub is : tells → (asked : ℕ → Asked) (chunks : ℕ → List Chunk) → AllAsked left asked old → AreChunks s asked chunks → IsAnswer answer s tick turns asked chunks table
+    pub sources : (j : ℕ) (i k : LegInlet S) → slice_get old j ≡ Some i → slice_get new j ≡ Some k
+        → SourceKept faults name answer j (source_in i) (source_in k)
+    pub is : tells → (asked : ℕ → Asked) (chunks : ℕ → List Chunk) → AllAsked left asked old
+        → AreChunks s asked chunks → IsAnswer answer s tick turns asked chunks table
 
   -- In a mixing of such legs, by a mixer of which nothing was called, this was answered.
-  abbrev pub PlainMixes : {M T : Type 0} → (M → Setup → (ℕ → PayloadTypes) → List Call → Type 0) → Type 0 → (S → List ℕ) → (S → ℕ) → (S → List ℕ) → ℕ → ℕ → List LegLine → MixEnd DumpFault T → List (LegInlet S) → List (LegInlet S) → M → M → Type 0
+  abbrev pub PlainMixes : {M T : Type 0} → (M → Setup → (ℕ → PayloadTypes) → List Call → Type 0) → Type 0
+      → (S → List ℕ) → (S → ℕ) → (S → List ℕ) → ℕ → ℕ → List LegLine → MixEnd DumpFault T → List (LegInlet S)
+      → List (LegInlet S) → M → M → Type 0
   PlainMixes mixes tells left faults name tick turns lines answer legs legs' m m' =
-      (s : Setup) (payload_types : ℕ → PayloadTypes) → mixes m s payload_types [] → s.legs ≡ length legs → StayAs s lines
+      (s : Setup) (payload_types : ℕ → PayloadTypes) → mixes m s payload_types [] → s.legs ≡ length legs
+      → StayAs s lines
       → PlainMixed (Of mixes payload_types) tells left faults name s tick turns answer legs legs' m'

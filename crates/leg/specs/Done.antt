@@ -26,11 +26,13 @@ module _ {S : Type 0} where
   is_leg_done f = is_done (λ i. is_over i.leg) f
 
   -- from this leg on, it gave what was pushed and what is in hand
-  abbrev pub LegStands : Type 0 → (S → List ℕ) → (S → ℕ) → (S → List ℕ) → LegInlet S → Feed (Answer DumpFault) (LegInlet S) → Type 0
+  abbrev pub LegStands : Type 0 → (S → List ℕ) → (S → ℕ) → (S → List ℕ) → LegInlet S
+      → Feed (Answer DumpFault) (LegInlet S) → Type 0
   LegStands tells left faults name = FeedStands (GaveAs (λ first now gave. Fed tells left faults name first now gave))
 
   -- Where the last answer was pushed, all was pushed.
   abbrev pub DoneIsAll : Type 0 → (S → List ℕ) → (S → ℕ) → (S → List ℕ) → Type 0
   DoneIsAll tells left faults name =
-      (first : LegInlet S) (f : Feed (Answer DumpFault) (LegInlet S)) (a : Asked) → tells → LegStands tells left faults name first f → Stands left first.leg (past_of a []) → is_leg_done f ≡ true
+      (first : LegInlet S) (f : Feed (Answer DumpFault) (LegInlet S)) (a : Asked) → tells
+      → LegStands tells left faults name first f → Stands left first.leg (past_of a []) → is_leg_done f ≡ true
       → IsWhole a (gave_of (pushed f.pass)).chunks (gave_of (pushed f.pass)).ended

@@ -67,9 +67,11 @@ module _ {S : Type 0} where
   -- From `first` on, which gave nothing, this was given, and now it is `now`.
   pub record Fed (tells : Type 0) (left : S → List ℕ) (faults : S → ℕ) (name : S → List ℕ) (first now : LegInlet S) (gave : Gave DumpFault) : Type 0 where
     pub open_still : is_open gave.ended ≡ not (is_over now.leg)
-    pub gives : tells → (a : Asked) → Stands left first.leg (past_of a []) → GivesAs left now.leg a gave.chunks gave.ended
+    pub gives : tells → (a : Asked) → Stands left first.leg (past_of a [])
+        → GivesAs left now.leg a gave.chunks gave.ended
     pub never_falls : faults (source_of first.leg) ≤ faults (source_of now.leg)
-    pub read : (fault : DumpFault) → gave.ended ≡ AtFault fault → fault.kind ≡ Read → Rose (faults (source_of first.leg)) (faults (source_of now.leg))
+    pub read : (fault : DumpFault) → gave.ended ≡ AtFault fault → fault.kind ≡ Read
+        → Rose (faults (source_of first.leg)) (faults (source_of now.leg))
     pub calm : is_source_fault gave.ended ≡ false → faults (source_of now.leg) ≡ faults (source_of first.leg)
     pub same_name : name (source_of now.leg) ≡ name (source_of first.leg)
 

@@ -20,4 +20,6 @@ after_item settings story End octets = ended story
 -- the record was told, and these chunks were given
 abbrev pub GivesItem : Ear → Ear → DumpItem → List ℕ → List Chunk → Type 0
 GivesItem old new item octets more =
-    (settings : EarSettings) (source : ℕ) (story : Story) (gave : List Chunk) → Gave old settings source story gave → GaveSome new settings source (after_item settings story item octets) (gave ++ more)
+    (settings : EarSettings) (source : ℕ) (story : Story) (gave : List Chunk)
+    → Gave old settings source story gave
+    → GaveSome new settings source (after_item settings story item octets) (gave ++ more)

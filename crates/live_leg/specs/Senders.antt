@@ -42,10 +42,12 @@ pub record IsMet (old new : Senders) (t : ℕ) (r : Hearing → Result Packet Te
   pub sent_is : sent ≡ sent_of h d t (r h)
 
 abbrev pub MeetsText : Senders → Senders → ℕ → ℕ → DatagramSender → Type 0
-MeetsText old new t ssrc sent = (p : Packet) → p.ssrc ≡ ssrc → (h : Hearing) (d : Told) → Knows old h d → IsMet old new t (λ _. Ok p) sent h d
+MeetsText old new t ssrc sent = (p : Packet) → p.ssrc ≡ ssrc → (h : Hearing) (d : Told) → Knows old h d
+    → IsMet old new t (λ _. Ok p) sent h d
 
 abbrev pub Meets : Senders → Senders → ℕ → List ℕ → DatagramSender → Type 0
-Meets old new t octets sent = (h : Hearing) (d : Told) → Knows old h d → IsMet old new t (λ g. text_of octets None g.payload_types) sent h d
+Meets old new t octets sent = (h : Hearing) (d : Told) → Knows old h d
+    → IsMet old new t (λ g. text_of octets None g.payload_types) sent h d
 
 -- ---- inside
 -- one more sender before: the last 64 are known

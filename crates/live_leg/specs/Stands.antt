@@ -164,11 +164,13 @@ module _ {A F : Type 0} (g : arrivals.Ghosts A F) where
 
   -- these items were given
   abbrev pub GivesThen : Leg A → Leg A → List (Item F) → Type 0
-  GivesThen old new xs = (first : Leg A) (items : List (Item F)) → LegStands first old items → LegStands first new (items ++ xs)
+  GivesThen old new xs = (first : Leg A) (items : List (Item F)) → LegStands first old items
+      → LegStands first new (items ++ xs)
 
   -- these items were given, of what was taken just now
   abbrev pub GivesOf : Leg A → Leg A → List (Item F) → Type 0
-  GivesOf old new xs = (first : Leg A) (items : List (Item F)) → Nearly first old items → LegStands first new (items ++ xs)
+  GivesOf old new xs = (first : Leg A) (items : List (Item F)) → Nearly first old items
+      → LegStands first new (items ++ xs)
 
 module _ {A : Type 0} where
   -- where nothing was given: it has more to give, or it heard all that an ear hears

@@ -25,7 +25,8 @@ pub record HearsMore (old new : Ear) (now : ℕ) (octets : List ℕ) : Type 0 wh
 
 -- whatever it heard before, it hears the packets of this SSRC now, of which this is the first
 pub record BeginsWith (old new : Ear) (ssrc now : ℕ) (octets : List ℕ) : Type 0 where
-  pub begins : (settings : EarSettings) (source : ℕ) (story : Story) (gave : List Chunk) → Gave old settings source story gave
+  pub begins : (settings : EarSettings) (source : ℕ) (story : Story) (gave : List Chunk)
+      → Gave old settings source story gave
       → Gave new (record settings { ssrc = ssrc }) ssrc (told (begun settings.wait) now (text_for (record settings { ssrc = ssrc }) octets)) []
   pub settings : settings_of new ≡ record (settings_of old) { ssrc = ssrc }
 

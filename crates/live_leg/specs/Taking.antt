@@ -27,4 +27,5 @@ pub record Follows (old new : Ear) (before after : Senders) (t : ℕ) (c : Came)
   pub hears : HearsCame c (sent_of h d t (text_of octets None h.payload_types)) old new after t octets state
 
 abbrev pub HearsTaken : (old new : Ear) → Senders → Senders → LinkTake → List ℕ → State → Type 0
-HearsTaken old new before after taken octets state = (h : Hearing) (d : Told) → Knows before h d → Follows old new before after taken.at taken.came octets state h d
+HearsTaken old new before after taken octets state = (h : Hearing) (d : Told) → Knows before h d
+    → Follows old new before after taken.at taken.came octets state h d

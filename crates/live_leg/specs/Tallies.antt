@@ -33,4 +33,5 @@ counts_sent Other y = with_sender y
 
 -- what a take counts as of a leg that is heard so, and of which that was told before
 abbrev pub CountsTaken : Senders → LegTally → LegTally → LinkTake → List ℕ → Type 0
-CountsTaken senders old new taken octets = (h : Hearing) (d : Told) → Knows senders h d → CountsWith (tally_came h d taken.at (came_of taken.came octets)) old new
+CountsTaken senders old new taken octets = (h : Hearing) (d : Told) → Knows senders h d
+    → CountsWith (tally_came h d taken.at (came_of taken.came octets)) old new

@@ -32,7 +32,8 @@ module _ {F : Type 0} where
 module _ {I F : Type 0} where
   -- whatever was given from some inlet on, this is one more answer
   abbrev pub GivesAnswer : (I → I → Gave F → Type 0) → I → I → Answer F → Type 0
-  GivesAnswer stands old new a = (first : I) (gave : Gave F) → stands first old gave → stands first new (gave_more a.item (said_in a) gave)
+  GivesAnswer stands old new a = (first : I) (gave : Gave F) → stands first old gave
+      → stands first new (gave_more a.item (said_in a) gave)
 
   -- from the first inlet to the second it gave these answers
   pub record GaveAs (stands : I → I → Gave F → Type 0) (first now : I) (answers : List (Answer F)) : Type 0 where

@@ -36,7 +36,9 @@ pub record ArePaced (tick old new : ℕ) (calls : List Call) : Type 0 where
   pub told : RiseTo new (moments_of calls)
 
 -- what is known of a mixer of which these calls were made, that, where links tell, their turns are paced, and what is known of their order
-abbrev pub StandsPaced : {M : Type 0} → (tells : Type 0) → (tick old new : ℕ) → (order stands : M → Setup → (ℕ → PayloadTypes) → List Call → Type 0) → M → Setup → (ℕ → PayloadTypes) → List Call → Type 0
+abbrev pub StandsPaced : {M : Type 0} → (tells : Type 0) → (tick old new : ℕ)
+    → (order stands : M → Setup → (ℕ → PayloadTypes) → List Call → Type 0) → M → Setup → (ℕ → PayloadTypes)
+    → List Call → Type 0
 StandsPaced tells tick old new order stands m s payload_types calls = stands m s payload_types calls × (tells → ArePaced tick old new calls) × order m s payload_types calls
 
 -- ---- time

@@ -36,7 +36,8 @@ module _ {F : Type 0} where
 
   -- whatever was given from some inlet on, this is one more answer
   abbrev pub Gives : {I : Type 0} → (I → I → Gave F → Type 0) → I → I → Item F → Chunk → Type 0
-  Gives {I} stands old new item c = (first : I) (gave : Gave F) → stands first old gave → stands first new (gave_more item c gave)
+  Gives {I} stands old new item c = (first : I) (gave : Gave F) → stands first old gave
+      → stands first new (gave_more item c gave)
 
   -- more may come behind this answer
   abbrev pub goes_on : Item F → Bool

@@ -50,10 +50,12 @@ pub record IsAnswered {L G : Type 0} (g : links.Ghosts L) (first back : LinkLeg 
 
 abbrev pub ServedAreAnswered : {L : Type 0} (G : Type 0) → links.Ghosts L → Type 0
 ServedAreAnswered {L} G g =
-    (first back : LinkLeg L) (started now : Worker LinkItem (LinkLeg L) G) → IsJoined g first back started now → IsAnswered g first back now
+    (first back : LinkLeg L) (started now : Worker LinkItem (LinkLeg L) G) → IsJoined g first back started now
+    → IsAnswered g first back now
 
 -- Whatever turns were made of ports whose legs' links gave this, they are a live run.
-abbrev pub ServingIsLive : {I M : Type 0} → (I → List Item) → (M → Setup → (ℕ → PayloadTypes) → List Call → Type 0) → Type 0
+abbrev pub ServingIsLive : {I M : Type 0} → (I → List Item)
+    → (M → Setup → (ℕ → PayloadTypes) → List Call → Type 0) → Type 0
 ServingIsLive {I} {M} popped stands =
     (s : Setup) (payload_types : ℕ → PayloadTypes) (turns : ℕ) (ps : List (LivePort I)) (m : M) (v : IsServing popped stands s payload_types turns ps m) (hears : ℕ → Hearing) (takes : ℕ → Takes)
     → s.legs ≡ length ps

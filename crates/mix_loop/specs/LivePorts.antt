@@ -120,15 +120,19 @@ module _ {I : Type 0} where
     pub fresh : p.failed ≡ false → PortAt popped s (with_offers offers calls) i (IsEnough (is_blocked_after s i (with_offers offers calls)) n) p
 
   -- whatever calls were made before
-  abbrev pub Gathered : {M : Type 0} → (I → List Item) → (M → Setup → (ℕ → PayloadTypes) → List Call → Type 0) → LivePort I → LivePort I → M → M → Type 0
+  abbrev pub Gathered : {M : Type 0} → (I → List Item) → (M → Setup → (ℕ → PayloadTypes) → List Call → Type 0)
+      → LivePort I → LivePort I → M → M → Type 0
   Gathered popped stands p p' m m' =
-      (s : Setup) (payload_types : ℕ → PayloadTypes) (calls : List Call) (n : ℕ) → stands m s payload_types calls → PortAt popped s calls p.leg (HasSignals n) p
+      (s : Setup) (payload_types : ℕ → PayloadTypes) (calls : List Call) (n : ℕ)
+      → stands m s payload_types calls → PortAt popped s calls p.leg (HasSignals n) p
       → GatheredTo popped stands s payload_types calls p.leg n p' m'
 
   -- whatever calls were made before, and however often that was said
-  abbrev pub Goes : {M : Type 0} → (ℕ → ℕ) → (I → List Item) → (M → Setup → (ℕ → PayloadTypes) → List Call → Type 0) → LivePort I → LivePort I → M → M → Type 0
+  abbrev pub Goes : {M : Type 0} → (ℕ → ℕ) → (I → List Item)
+      → (M → Setup → (ℕ → PayloadTypes) → List Call → Type 0) → LivePort I → LivePort I → M → M → Type 0
   Goes f popped stands p p' m m' =
-      (s : Setup) (payload_types : ℕ → PayloadTypes) (calls : List Call) (n : ℕ) → stands m s payload_types calls → PortAt popped s calls p.leg (HasSignals n) p
+      (s : Setup) (payload_types : ℕ → PayloadTypes) (calls : List Call) (n : ℕ)
+      → stands m s payload_types calls → PortAt popped s calls p.leg (HasSignals n) p
       → OffersTo popped stands s payload_types calls p.leg (f n) p' m'
 
   -- the last text that was offered was not taken
@@ -136,9 +140,11 @@ module _ {I : Type 0} where
     pub goes : OffersTo popped stands s payload_types calls i n p m
     pub blocked : is_blocked_after s i (with_offers goes.offers calls) ≡ true
 
-  abbrev pub Blocks : {M : Type 0} → (I → List Item) → (M → Setup → (ℕ → PayloadTypes) → List Call → Type 0) → LivePort I → LivePort I → M → M → Type 0
+  abbrev pub Blocks : {M : Type 0} → (I → List Item) → (M → Setup → (ℕ → PayloadTypes) → List Call → Type 0)
+      → LivePort I → LivePort I → M → M → Type 0
   Blocks popped stands p p' m m' =
-      (s : Setup) (payload_types : ℕ → PayloadTypes) (calls : List Call) (n : ℕ) → stands m s payload_types calls → PortAt popped s calls p.leg (HasSignals n) p
+      (s : Setup) (payload_types : ℕ → PayloadTypes) (calls : List Call) (n : ℕ)
+      → stands m s payload_types calls → PortAt popped s calls p.leg (HasSignals n) p
       → BlockedTo popped stands s payload_types calls p.leg n p' m'
 
   -- the link had nothing, and that is the last item
@@ -146,19 +152,24 @@ module _ {I : Type 0} where
     pub goes : OffersTo popped stands s payload_types calls i n p m
     pub silent : EndsSilent goes.port.before
 
-  abbrev pub Silences : {M : Type 0} → (ℕ → ℕ) → (I → List Item) → (M → Setup → (ℕ → PayloadTypes) → List Call → Type 0) → LivePort I → LivePort I → M → M → Type 0
+  abbrev pub Silences : {M : Type 0} → (ℕ → ℕ) → (I → List Item)
+      → (M → Setup → (ℕ → PayloadTypes) → List Call → Type 0) → LivePort I → LivePort I → M → M → Type 0
   Silences f popped stands p p' m m' =
-      (s : Setup) (payload_types : ℕ → PayloadTypes) (calls : List Call) (n : ℕ) → stands m s payload_types calls → PortAt popped s calls p.leg (HasSignals n) p
+      (s : Setup) (payload_types : ℕ → PayloadTypes) (calls : List Call) (n : ℕ)
+      → stands m s payload_types calls → PortAt popped s calls p.leg (HasSignals n) p
       → SilentTo popped stands s payload_types calls p.leg (f n) p' m'
 
-  abbrev pub GoesOn : {M : Type 0} → (ℕ → ℕ) → (I → List Item) → (M → Setup → (ℕ → PayloadTypes) → List Call → Type 0) → LivePort I → LivePort I → M → M → Type 0
+  abbrev pub GoesOn : {M : Type 0} → (ℕ → ℕ) → (I → List Item)
+      → (M → Setup → (ℕ → PayloadTypes) → List Call → Type 0) → LivePort I → LivePort I → M → M → Type 0
   GoesOn f popped stands p p' m m' = (p'.full ≡ false) × Goes f popped stands p p' m m'
 
-  abbrev pub Retries : {M : Type 0} → (I → List Item) → (M → Setup → (ℕ → PayloadTypes) → List Call → Type 0) → LivePort I → LivePort I → M → M → Bool → Type 0
+  abbrev pub Retries : {M : Type 0} → (I → List Item) → (M → Setup → (ℕ → PayloadTypes) → List Call → Type 0)
+      → LivePort I → LivePort I → M → M → Bool → Type 0
   Retries popped stands p p' m m' true = GoesOn (λ n. n) popped stands p p' m m'
   Retries popped stands p p' m m' false = Blocks popped stands p p' m m'
 
-  abbrev pub Advances : {M : Type 0} → (I → List Item) → (M → Setup → (ℕ → PayloadTypes) → List Call → Type 0) → LivePort I → LivePort I → M → M → StepAnswer → Type 0
+  abbrev pub Advances : {M : Type 0} → (I → List Item) → (M → Setup → (ℕ → PayloadTypes) → List Call → Type 0)
+      → LivePort I → LivePort I → M → M → StepAnswer → Type 0
   Advances popped stands p p' m m' advanced.Going = GoesOn (λ n. n) popped stands p p' m m'
   Advances popped stands p p' m m' advanced.Seen = GoesOn suc popped stands p p' m m'
   Advances popped stands p p' m m' advanced.Silent = (p'.full ≡ false) × Silences suc popped stands p p' m m'

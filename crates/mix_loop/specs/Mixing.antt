@@ -18,7 +18,8 @@ part_of s j gave = record { chunks = map (of_leg j) (in_stay s j gave.chunks); e
 
 -- each leg stays as its line says
 abbrev pub StayAs : Setup → List LegLine → Type 0
-StayAs s legs = (j : ℕ) (leg : LegLine) → slice_get legs j ≡ Some leg → (s.from j ≡ leg.stay.from) × (s.until j ≡ leg.stay.until)
+StayAs s legs = (j : ℕ) (leg : LegLine) → slice_get legs j ≡ Some leg
+    → (s.from j ≡ leg.stay.from) × (s.until j ≡ leg.stay.until)
 
 -- each may be asked
 abbrev pub AllGood : {I : Type 0} → (I → Type 0) → List I → Type 0
@@ -54,7 +55,10 @@ module _ {I F : Type 0} where
     pub tells : TellsMixing answer s tick turns (λ j. part_of s j (gave j)) table
 
   -- In a mixing of inlets that gave nothing yet, by a mixer of which nothing was called, this was answered.
-  abbrev pub MixesInlets : {M T : Type 0} → (I → I → Gave F → Type 0) → (M → Setup → (ℕ → PayloadTypes) → List Call → Type 0) → ℕ → ℕ → List LegLine → MixEnd F T → List I → List I → M → M → Type 0
+  abbrev pub MixesInlets : {M T : Type 0} → (I → I → Gave F → Type 0)
+      → (M → Setup → (ℕ → PayloadTypes) → List Call → Type 0) → ℕ → ℕ → List LegLine → MixEnd F T → List I
+      → List I → M → M → Type 0
   MixesInlets stands mixes tick turns legs answer old new m m' =
-      (s : Setup) (payload_types : ℕ → PayloadTypes) → NoneGave stands old → mixes m s payload_types [] → s.legs ≡ length old → StayAs s legs
+      (s : Setup) (payload_types : ℕ → PayloadTypes) → NoneGave stands old → mixes m s payload_types []
+      → s.legs ≡ length old → StayAs s legs
       → MixedAll stands (Of mixes payload_types) s tick turns answer old new m'

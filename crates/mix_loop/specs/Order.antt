@@ -32,4 +32,5 @@ module _ {M : Type 0} (stands : M → Setup → (ℕ → PayloadTypes) → List 
   -- So of each turn, before the pause behind it: k pauses were made since this count before the turn k, from 0 on; so long as pauses
   -- are counted.
   abbrev pub AreInTurn : (paused : ℕ) → M → Setup → (ℕ → PayloadTypes) → List Call → Type 0
-  AreInTurn paused m s payload_types calls = (k : ℕ) → k < turns_made calls → paused + k < last_count → WereGivenBy (paused + k) m s payload_types (up_to_turn (suc k) calls)
+  AreInTurn paused m s payload_types calls = (k : ℕ) → k < turns_made calls → paused + k < last_count
+      → WereGivenBy (paused + k) m s payload_types (up_to_turn (suc k) calls)

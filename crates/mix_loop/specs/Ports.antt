@@ -90,7 +90,8 @@ pub record Gathered {F : Type 0} (s : Setup) (i t : ℕ) (gave : Gave F) (hand :
 
 -- more was given
 pub record Grows {F : Type 0} (gave gave' : Gave F) : Type 0 where
-  pub goes : (rest' : List Chunk) → MayCome gave'.ended rest' → (rest : List Chunk) × MayCome gave.ended rest × (gave.chunks ++ rest ≡ gave'.chunks ++ rest')
+  pub goes : (rest' : List Chunk) → MayCome gave'.ended rest'
+      → (rest : List Chunk) × MayCome gave.ended rest × (gave.chunks ++ rest ≡ gave'.chunks ++ rest')
   pub kept : is_open gave.ended ≡ false → gave' ≡ gave
 
 module _ {I F : Type 0} where
@@ -120,7 +121,8 @@ module _ {I F : Type 0} where
 
   -- to each of these ports nothing came yet, and it stays as the line of its leg says
   abbrev pub EachNew : List LegLine → List (Port I F) → Type 0
-  EachNew legs ps = (j : ℕ) (p : Port I F) → slice_get ps j ≡ Some p → (leg : LegLine) × (slice_get legs j ≡ Some leg) × IsNew p.inlet leg.stay p
+  EachNew legs ps = (j : ℕ) (p : Port I F) → slice_get ps j ≡ Some p
+      → (leg : LegLine) × (slice_get legs j ≡ Some leg) × IsNew p.inlet leg.stay p
 
   -- so it is, and they have these inlets, in order
   pub record AreNew (inlets : List I) (legs : List LegLine) (ps : List (Port I F)) : Type 0 where
@@ -170,10 +172,12 @@ module _ {I F : Type 0} where
     pub mixed : At mixes m s table'
     pub gathers : leads gave' (hand_of p) table'
 
-  abbrev pub GatheringTo : {M : Type 0} → (I → I → Gave F → Type 0) → (M → Setup → List Call → Type 0) → Setup → ℕ → ℕ → I → Gave F → Option Chunk → Table → Port I F → M → Type 0
+  abbrev pub GatheringTo : {M : Type 0} → (I → I → Gave F → Type 0) → (M → Setup → List Call → Type 0) → Setup
+      → ℕ → ℕ → I → Gave F → Option Chunk → Table → Port I F → M → Type 0
   GatheringTo stands mixes s i t first gave hand table p m = LeadsTo stands mixes s i first (Gathers s i t gave hand table) p m
 
-  abbrev pub GatheredTo : {M : Type 0} → (I → I → Gave F → Type 0) → (M → Setup → List Call → Type 0) → Setup → ℕ → ℕ → I → Gave F → Option Chunk → Table → Port I F → M → Type 0
+  abbrev pub GatheredTo : {M : Type 0} → (I → I → Gave F → Type 0) → (M → Setup → List Call → Type 0) → Setup
+      → ℕ → ℕ → I → Gave F → Option Chunk → Table → Port I F → M → Type 0
   GatheredTo stands mixes s i t first gave hand table p m = LeadsTo stands mixes s i first (Gathered s i t gave hand table) p m
 
   pub record DrainedTo (stands : I → I → Gave F → Type 0) (j : ℕ) (first : I) (gave : Gave F) (p : Port I F) : Type 0 where

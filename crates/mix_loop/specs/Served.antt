@@ -18,10 +18,12 @@ pub record IsOfConference {I : Type 0} (popped : I → List Item) (c : Conferenc
   pub legs : length c.legs ≡ length ps
   pub none : (i : ℕ) → length c.legs ≤ i → takes i ≡ []
   pub covers : (j : ℕ) (p : LivePort I) → slice_get ps j ≡ Some p → Covers (hearing_at c j) (takes j) (popped p.inlet)
-  pub gave : (j : ℕ) (leg : LegLine) → leg_at c.legs j ≡ Some leg → given j ≡ given_to c (after_calls (setup c) calls) j leg
+  pub gave : (j : ℕ) (leg : LegLine) → leg_at c.legs j ≡ Some leg
+      → given j ≡ given_to c (after_calls (setup c) calls) j leg
 
 -- Where all turns of the conference were made and something is left, that is a live call of it.
-abbrev pub DoneIsServed : {I M : Type 0} → (I → List Item) → (M → Setup → (ℕ → PayloadTypes) → List Call → Type 0) → Type 0
+abbrev pub DoneIsServed : {I M : Type 0} → (I → List Item)
+    → (M → Setup → (ℕ → PayloadTypes) → List Call → Type 0) → Type 0
 DoneIsServed {I} {M} popped stands =
     (c : Conference) (payload_types : ℕ → PayloadTypes) (ps : List (LivePort I)) (m : M) (takes : ℕ → Takes) (given : ℕ → List (List ℕ))
     → (v : DoneTo popped stands (setup c) payload_types c.turns ps m)
@@ -29,7 +31,8 @@ DoneIsServed {I} {M} popped stands =
     → IsServed c takes given Done (live_printed c takes given Done)
 
 -- So it is where all links are closed and nothing is left.
-abbrev pub ClosedIsServed : {I M : Type 0} → (I → List Item) → (M → Setup → (ℕ → PayloadTypes) → List Call → Type 0) → Type 0
+abbrev pub ClosedIsServed : {I M : Type 0} → (I → List Item)
+    → (M → Setup → (ℕ → PayloadTypes) → List Call → Type 0) → Type 0
 ClosedIsServed {I} {M} popped stands =
     (c : Conference) (payload_types : ℕ → PayloadTypes) (ps : List (LivePort I)) (m : M) (takes : ℕ → Takes) (given : ℕ → List (List ℕ))
     → (w : ClosedTo popped stands (setup c) payload_types c.turns ps m)
@@ -37,7 +40,8 @@ ClosedIsServed {I} {M} popped stands =
     → IsServed c takes given Closed (live_printed c takes given Closed)
 
 -- So it is where it broke off before.
-abbrev pub BrokenIsServed : {I M : Type 0} → (I → List Item) → (M → Setup → (ℕ → PayloadTypes) → List Call → Type 0) → Type 0
+abbrev pub BrokenIsServed : {I M : Type 0} → (I → List Item)
+    → (M → Setup → (ℕ → PayloadTypes) → List Call → Type 0) → Type 0
 BrokenIsServed {I} {M} popped stands =
     (c : Conference) (payload_types : ℕ → PayloadTypes) (ps : List (LivePort I)) (m : M) (takes : ℕ → Takes) (given : ℕ → List (List ℕ))
     → (w : BrokenTo popped stands (setup c) payload_types c.turns ps m)

@@ -23,7 +23,8 @@ are_empty ps = list_all (λ p. not p.full) ps
 module _ {I F : Type 0} (stands : I → I → Gave F → Type 0) where
   -- it was asked for its next chunk
   abbrev pub Pulled : ℕ → Port I F → Port I F → Type 0
-  Pulled j p p' = (first : I) (gave : Gave F) → PortHolds stands j first p gave → PulledTo stands j first (hand_of p) gave p'
+  Pulled j p p' = (first : I) (gave : Gave F) → PortHolds stands j first p gave
+      → PulledTo stands j first (hand_of p) gave p'
 
   -- it was read to its end
   abbrev pub Drained : ℕ → Port I F → Port I F → Type 0
@@ -80,7 +81,8 @@ module _ {I F M : Type 0} (stands : I → I → Gave F → Type 0) (mixes : M �
       → GatheredTo stands (Of mixes payload_types) s i t first gave (hand_of p) table p' m'
 
   -- whatever is known of the ports, and whichever table the mixer has
-  abbrev pub Whatever : List (Port I F) → M → (Setup → (ℕ → PayloadTypes) → List I → (ℕ → Known F) → Table → Type 0) → Type 0
+  abbrev pub Whatever : List (Port I F) → M
+      → (Setup → (ℕ → PayloadTypes) → List I → (ℕ → Known F) → Table → Type 0) → Type 0
   Whatever ps m P =
       (s : Setup) (payload_types : ℕ → PayloadTypes) (firsts : List I) (kn : ℕ → Known F) (table : Table)
       → IsNow stands (Of mixes payload_types) s firsts kn table ps m → P s payload_types firsts kn table

@@ -76,7 +76,8 @@ turn_from s tick n k v = elim (is_over s v) as (λ b. Option Table) [
 
 -- before the turn k, where at most `turns` are made
 pub record IsBefore {F : Type 0} (s : Setup) (tick turns k : ℕ) (kn : ℕ → Known F) (table : Table) : Type 0 where
-  pub goes : (rest : ℕ → List Chunk) → MayComeAll kn rest → plain s tick turns (all_of kn rest) ≡ plain_from s tick (turns - k) k (desk_of kn rest table)
+  pub goes : (rest : ℕ → List Chunk) → MayComeAll kn rest
+      → plain s tick turns (all_of kn rest) ≡ plain_from s tick (turns - k) k (desk_of kn rest table)
   pub settled : Settled kn
 
 -- plain mixing has this answer
@@ -120,7 +121,8 @@ WasStopped unsent turned.Faulted m = Unit {0}
 
 -- each leg may have given more
 pub record GrowsAll {F : Type 0} (kn kn' : ℕ → Known F) : Type 0 where
-  pub goes : (rest' : ℕ → List Chunk) → MayComeAll kn' rest' → (rest : ℕ → List Chunk) × MayComeAll kn rest × (all_of kn rest ≡ all_of kn' rest')
+  pub goes : (rest' : ℕ → List Chunk) → MayComeAll kn' rest'
+      → (rest : ℕ → List Chunk) × MayComeAll kn rest × (all_of kn rest ≡ all_of kn' rest')
   pub kept : (j : ℕ) → is_open (kn j).gave.ended ≡ false → (kn' j).gave ≡ (kn j).gave
 
 -- ---- what is answered in the end
@@ -281,7 +283,10 @@ module _ {I F : Type 0} where
   AllFresh stands s firsts ps = (j : ℕ) (p : Port I F) → slice_get ps j ≡ Some p → IsFresh stands s firsts j p
 
   -- In a mixing of ports to which nothing came, by a mixer of which nothing was called, this was answered.
-  abbrev pub IsMixing : {M T : Type 0} → (I → I → Gave F → Type 0) → (M → Setup → (ℕ → PayloadTypes) → List Call → Type 0) → ℕ → ℕ → MixEnd F T → List (Port I F) → List (Port I F) → M → M → Type 0
+  abbrev pub IsMixing : {M T : Type 0} → (I → I → Gave F → Type 0)
+      → (M → Setup → (ℕ → PayloadTypes) → List Call → Type 0) → ℕ → ℕ → MixEnd F T → List (Port I F)
+      → List (Port I F) → M → M → Type 0
   IsMixing stands mixes tick turns answer ps ps' m m' =
-      (s : Setup) (payload_types : ℕ → PayloadTypes) (firsts : List I) → AllFresh stands s firsts ps → At (Of mixes payload_types) m s empty → s.legs ≡ length ps
+      (s : Setup) (payload_types : ℕ → PayloadTypes) (firsts : List I) → AllFresh stands s firsts ps
+      → At (Of mixes payload_types) m s empty → s.legs ≡ length ps
       → MixedAs stands (Of mixes payload_types) s firsts tick turns answer ps' m'

@@ -63,26 +63,30 @@ WasStopped unsent (Faulted leg) m = Unit {0}
 WasStopped unsent (Stopped why) m = unsent m why
 
 -- these calls were made, and then a turn, at some moment, that was not sent to its end
-abbrev pub HaltsThen : {M : Type 0} → (M → Setup → (ℕ → PayloadTypes) → List Call → ℕ → Type 0) → M → Setup → (ℕ → PayloadTypes) → List Call → Type 0
+abbrev pub HaltsThen : {M : Type 0} → (M → Setup → (ℕ → PayloadTypes) → List Call → ℕ → Type 0) → M → Setup
+    → (ℕ → PayloadTypes) → List Call → Type 0
 HaltsThen halted m s payload_types calls = (now : ℕ) × halted m s payload_types calls now
 
 module _ {I : Type 0} (popped : I → List Item) where
   -- these items begin with those that were popped of each leg
   abbrev pub AreOf : List (LivePort I) → (ℕ → List Item) → Type 0
-  AreOf ps items = (j : ℕ) (p : LivePort I) → slice_get ps j ≡ Some p → (more : List Item) × (items j ≡ popped p.inlet ++ more)
+  AreOf ps items = (j : ℕ) (p : LivePort I) → slice_get ps j ≡ Some p
+      → (more : List Item) × (items j ≡ popped p.inlet ++ more)
 
   -- of the first `done` legs what was popped is enough for the turn that comes, where that all was given was said so often before
   pub record WalkedTo {M : Type 0} (stands : M → Setup → (ℕ → PayloadTypes) → List Call → Type 0) (s : Setup) (payload_types : ℕ → PayloadTypes) (calls : List Call) (before : ℕ → ℕ) (done : ℕ) (ps : List (LivePort I)) (m : M) : Type 0 where
     pub offers : List Chunk
     pub next : AllNext s offers calls
     pub made : stands m s payload_types (with_offers offers calls)
-    pub at : (j : ℕ) (p : LivePort I) → slice_get ps j ≡ Some p → PortAt popped s (with_offers offers calls) j (HasSignals (before j)) p
+    pub at : (j : ℕ) (p : LivePort I) → slice_get ps j ≡ Some p
+        → PortAt popped s (with_offers offers calls) j (HasSignals (before j)) p
     pub fresh : (j : ℕ) (p : LivePort I) → j < done → slice_get ps j ≡ Some p → p.failed ≡ false
         → PortAt popped s (with_offers offers calls) j (IsEnough (is_blocked_after s j (with_offers offers calls)) (before j)) p
 
   -- what was popped of each leg, and maybe more
   abbrev pub AllGrew : (I → I → Type 0) → List (LivePort I) → List (LivePort I) → Type 0
-  AllGrew began old new = (j : ℕ) (p : LivePort I) → slice_get old j ≡ Some p → (q : LivePort I) × (slice_get new j ≡ Some q) × Grew popped began p q
+  AllGrew began old new = (j : ℕ) (p : LivePort I) → slice_get old j ≡ Some p
+      → (q : LivePort I) × (slice_get new j ≡ Some q) × Grew popped began p q
 
   -- In this conference these calls were made, in a live run of what was popped.
   pub record IsServing {M : Type 0} (stands : M → Setup → (ℕ → PayloadTypes) → List Call → Type 0) (s : Setup) (payload_types : ℕ → PayloadTypes) (turns : ℕ) (ps : List (LivePort I)) (m : M) : Type 0 where
@@ -92,7 +96,8 @@ module _ {I : Type 0} (popped : I → List Item) where
     pub live : (items : ℕ → List Item) → AreOf ps items → AreLiveCalls s items counts calls
     pub turned : turns_made calls ≡ turns
     pub seated : AllSeated s (after_calls s calls)
-    pub at : (j : ℕ) (p : LivePort I) → slice_get ps j ≡ Some p → PortAt popped s calls j (HasSignals (at_last counts j)) p
+    pub at : (j : ℕ) (p : LivePort I) → slice_get ps j ≡ Some p
+        → PortAt popped s calls j (HasSignals (at_last counts j)) p
 
   -- and it is enough for the turn that comes
   pub record MayBeTurned {M : Type 0} (stands : M → Setup → (ℕ → PayloadTypes) → List Call → Type 0) (s : Setup) (payload_types : ℕ → PayloadTypes) (turns : ℕ) (ps : List (LivePort I)) (m : M) : Type 0 where
@@ -101,9 +106,11 @@ module _ {I : Type 0} (popped : I → List Item) where
         → PortAt popped s serving.calls j (IsEnough (is_blocked_after s j serving.calls) (at_last serving.counts j)) p
 
   -- each leg offered what it could
-  abbrev pub AllGathered : {M : Type 0} → (M → Setup → (ℕ → PayloadTypes) → List Call → Type 0) → List (LivePort I) → List (LivePort I) → M → M → Type 0
+  abbrev pub AllGathered : {M : Type 0} → (M → Setup → (ℕ → PayloadTypes) → List Call → Type 0)
+      → List (LivePort I) → List (LivePort I) → M → M → Type 0
   AllGathered stands ps ps' m m' =
-      (s : Setup) (payload_types : ℕ → PayloadTypes) (turns : ℕ) → s.legs ≡ length ps → (v : IsServing stands s payload_types turns ps m)
+      (s : Setup) (payload_types : ℕ → PayloadTypes) (turns : ℕ) → s.legs ≡ length ps
+      → (v : IsServing stands s payload_types turns ps m)
       → (w : MayBeTurned stands s payload_types turns ps' m') × SameTurns v.calls w.serving.calls
 
   -- the mixer is idle, and each leg's end was popped
@@ -130,13 +137,18 @@ module _ {I : Type 0} (popped : I → List Item) where
     pub serving : IsServing stands s payload_types turns ps m
 
   -- how the turns ended, of a mixer that stands so then, or of which the last turn was not sent to its end
-  abbrev pub RanTo : {M T : Type 0} → TurnsEnd T → (stands halts : M → Setup → (ℕ → PayloadTypes) → List Call → Type 0) → Setup → (ℕ → PayloadTypes) → ℕ → List (LivePort I) → M → Type 0
+  abbrev pub RanTo : {M T : Type 0} → TurnsEnd T
+      → (stands halts : M → Setup → (ℕ → PayloadTypes) → List Call → Type 0) → Setup → (ℕ → PayloadTypes) → ℕ
+      → List (LivePort I) → M → Type 0
   RanTo Done stands halts s payload_types turns ps m = DoneTo stands s payload_types turns ps m
   RanTo Closed stands halts s payload_types turns ps m = ClosedTo stands s payload_types turns ps m
   RanTo (Faulted leg) stands halts s payload_types turns ps m = BrokenTo stands s payload_types turns ps m
   RanTo (Stopped why) stands halts s payload_types turns ps m = BrokenTo halts s payload_types turns ps m
 
   -- the turns were made, and ended so, of a mixer that stood so
-  abbrev pub Ran : {M T : Type 0} → TurnsEnd T → (stands then halts : M → Setup → (ℕ → PayloadTypes) → List Call → Type 0) → ℕ → List (LivePort I) → List (LivePort I) → M → M → Type 0
+  abbrev pub Ran : {M T : Type 0} → TurnsEnd T
+      → (stands then halts : M → Setup → (ℕ → PayloadTypes) → List Call → Type 0) → ℕ → List (LivePort I)
+      → List (LivePort I) → M → M → Type 0
   Ran ended stands then halts turns ps ps' m m' =
-      (s : Setup) (payload_types : ℕ → PayloadTypes) → s.legs ≡ length ps → IsServing stands s payload_types 0 ps m → RanTo ended then halts s payload_types turns ps' m'
+      (s : Setup) (payload_types : ℕ → PayloadTypes) → s.legs ≡ length ps
+      → IsServing stands s payload_types 0 ps m → RanTo ended then halts s payload_types turns ps' m'

@@ -34,7 +34,8 @@ sents_to sources j (x ∷ sent) = (if x.1.terminal == j then (x.0, sent_of_post 
 
 -- each of these posts may be sent after those before it
 abbrev pub AreNext : Setup → List (ℕ × Post) → Type 0
-AreNext s sent = (j : ℕ) (sources : List ℕ) → j < s.legs → AreSourcesAt s j sources → EachIsNext (stream s j) (map (λ x. x.1) (sents_to sources j sent))
+AreNext s sent = (j : ℕ) (sources : List ℕ) → j < s.legs → AreSourcesAt s j sources
+    → EachIsNext (stream s j) (map (λ x. x.1) (sents_to sources j sent))
 
 module _ {O : Type 0} (took : O → Setup → (ℕ → PayloadTypes) → List (ℕ × Post) → Type 0) where
   -- a post that may be sent was taken, behind what was sent before
@@ -43,14 +44,16 @@ module _ {O : Type 0} (took : O → Setup → (ℕ → PayloadTypes) → List (�
       → AreNext s ((now, p) ∷ sent) → took old s payload_types sent → took new s payload_types ((now, p) ∷ sent)
 
   -- it may have been taken or not, behind what was sent before
-  abbrev pub TakesSome : (O → Setup → (ℕ → PayloadTypes) → List (ℕ × Post) → ℕ → Post → Type 0) → O → O → ℕ → Post → Type 0
+  abbrev pub TakesSome : (O → Setup → (ℕ → PayloadTypes) → List (ℕ × Post) → ℕ → Post → Type 0) → O → O → ℕ
+      → Post → Type 0
   TakesSome halted old new now p = (s : Setup) (payload_types : ℕ → PayloadTypes) (sent : List (ℕ × Post))
       → AreNext s ((now, p) ∷ sent) → took old s payload_types sent → halted new s payload_types sent now p
 
   -- these posts were taken
   abbrev pub TakesAll : O → O → ℕ → List Post → Type 0
   TakesAll old new now posts = (s : Setup) (payload_types : ℕ → PayloadTypes) (sent : List (ℕ × Post))
-      → AreNext s (with_posts now posts sent) → took old s payload_types sent → took new s payload_types (with_posts now posts sent)
+      → AreNext s (with_posts now posts sent) → took old s payload_types sent
+      → took new s payload_types (with_posts now posts sent)
 
 module _ {O : Type 0} (halted : O → Setup → (ℕ → PayloadTypes) → List (ℕ × Post) → ℕ → Post → Type 0) where
   -- Of these posts, behind what was sent before, some first ones were taken, and maybe the next one.
@@ -64,4 +67,5 @@ module _ {O : Type 0} (halted : O → Setup → (ℕ → PayloadTypes) → List 
   -- so it is
   abbrev pub TakesFirst : (O → Setup → (ℕ → PayloadTypes) → List (ℕ × Post) → Type 0) → O → O → ℕ → List Post → Type 0
   TakesFirst took old new now posts = (s : Setup) (payload_types : ℕ → PayloadTypes) (sent : List (ℕ × Post))
-      → AreNext s (with_posts now posts sent) → took old s payload_types sent → IsHaltedIn new s payload_types sent now posts
+      → AreNext s (with_posts now posts sent) → took old s payload_types sent
+      → IsHaltedIn new s payload_types sent now posts

@@ -30,5 +30,6 @@ pub record SendsFor {O : Type 0} (took : O → Setup → (ℕ → PayloadTypes) 
 
 -- These calls were made of it, and what they send was taken; then a turn was made at this moment, of which some first posts were taken, and
 -- maybe the next one.
-abbrev pub HaltsFor : {O : Type 0} → (O → Setup → (ℕ → PayloadTypes) → List (ℕ × Post) → ℕ → Post → Type 0) → SendingState O → Setup → (ℕ → PayloadTypes) → List Call → ℕ → Type 0
+abbrev pub HaltsFor : {O : Type 0} → (O → Setup → (ℕ → PayloadTypes) → List (ℕ × Post) → ℕ → Post → Type 0)
+    → SendingState O → Setup → (ℕ → PayloadTypes) → List Call → ℕ → Type 0
 HaltsFor halted m s payload_types calls now = IsHaltedIn halted m.outbound s payload_types (sent_by s calls) now (posts_at s now (after_calls s calls))

@@ -25,23 +25,27 @@ HearsSent old plan number new x = Hears old (came plan number (records_of x.sett
 
 -- what comes of these records by the plan came
 abbrev pub HearsByPlan : Terminal → List ℕ → List PlanLine → ℕ → Terminal → Type 0
-HearsByPlan old octets plan number new = (c : TerminalSettings) (sources : List ℕ) (all : List (ℕ × List ℕ)) → AreRecords octets all → Listens old c sources [] → Listens new c sources (came plan number all)
+HearsByPlan old octets plan number new = (c : TerminalSettings) (sources : List ℕ) (all : List (ℕ × List ℕ))
+    → AreRecords octets all → Listens old c sources [] → Listens new c sources (came plan number all)
 
 -- these copies came, of records that were found
 abbrev pub HearsCopies : Terminal → List ℕ → RecordIndex → List Arrival → Terminal → Type 0
 HearsCopies old octets found copies new =
-    (c : TerminalSettings) (sources : List ℕ) (all : List (ℕ × List ℕ)) → AreRecords octets all → Finds found octets all → Listens old c sources []
+    (c : TerminalSettings) (sources : List ℕ) (all : List (ℕ × List ℕ)) → AreRecords octets all
+    → Finds found octets all → Listens old c sources []
     → Listens new c sources (flat_map (item_of all) (copies_of copies))
 
 -- behind whatever came, this copy came
 abbrev pub HearsCopy : Terminal → List ℕ → RecordIndex → Arrival → Terminal → Type 0
 HearsCopy old octets found copy new =
-    (c : TerminalSettings) (sources : List ℕ) (heard : List Item) (all : List (ℕ × List ℕ)) → AreRecords octets all → Finds found octets all → Listens old c sources heard
+    (c : TerminalSettings) (sources : List ℕ) (heard : List Item) (all : List (ℕ × List ℕ))
+    → AreRecords octets all → Finds found octets all → Listens old c sources heard
     → Listens new c sources (heard ++ item_of all (copy_of copy))
 
 -- what comes by the plan of the records of this recording was heard to its end
 abbrev pub HeardByPlan : TerminalSettings → List ℕ → List ℕ → List PlanLine → ℕ → Terminal → Type 0
-HeardByPlan settings sources recording plan number terminal = (records : List (ℕ × List ℕ)) → IsWrittenOf recording records → Heard terminal settings sources (came plan number records)
+HeardByPlan settings sources recording plan number terminal = (records : List (ℕ × List ℕ))
+    → IsWrittenOf recording records → Heard terminal settings sources (came plan number records)
 
 -- all that was sent comes as it was sent, and is a stream that is heard
 pub record HearsAll (settings : TerminalSettings) (log : State) (terminal : ℕ) (plan : List PlanLine) : Type 0 where
@@ -51,4 +55,5 @@ pub record HearsAll (settings : TerminalSettings) (log : State) (terminal : ℕ)
 -- what comes by the plan of the records of this recording is heard as this was sent
 abbrev pub HearsAsSent : TerminalSettings → List ℕ → List PlanLine → ℕ → List Sent → Type 0
 HearsAsSent settings recording plan number past =
-    (records : List (ℕ × List ℕ)) → IsWrittenOf recording records → IsHeardAsSent (reception settings) past (came plan number records)
+    (records : List (ℕ × List ℕ)) → IsWrittenOf recording records
+    → IsHeardAsSent (reception settings) past (came plan number records)

@@ -16,11 +16,13 @@ pub record IsSaid (s : ℕ) (past : List Sent) (t : SourceText) : Type 0 where
 -- so it is of each source
 pub record AreSaid (sources : List ℕ) (past : List Sent) (texts : List SourceText) : Type 0 where
   pub each : length texts ≡ length sources
-  pub are : (k : ℕ) (d : SourceText) → k < length sources → IsSaid (slice_index sources k) past (slice_index_or texts k d)
+  pub are : (k : ℕ) (d : SourceText) → k < length sources
+      → IsSaid (slice_index sources k) past (slice_index_or texts k d)
 
 -- a text of the source with this SSRC was added to its own, where it is one of these
 abbrev pub SaysMore : List ℕ → ℕ → List ℕ → List SourceText → List SourceText → Type 0
-SaysMore sources ssrc text old new = (past : List Sent) (media : ℕ) → AreSaid sources past old → AreSaid sources (record { source = ssrc; media = media; text = text } ∷ past) new
+SaysMore sources ssrc text old new = (past : List Sent) (media : ℕ) → AreSaid sources past old
+    → AreSaid sources (record { source = ssrc; media = media; text = text } ∷ past) new
 
 -- Of each source what was sent is what is heard in these items, without a marker, and each packet is used.
 pub record IsHeardAsSent (r : Reception) (past : List Sent) (items : List Item) : Type 0 where

@@ -16,8 +16,10 @@ abbrev pub IsBegun : ℕ → FilePosition → Type 0
 IsBegun begins place = (start : ℕ) → IsPlaceOf start (record { begins = begins; entries = [] }) place
 
 abbrev pub TellsRoom : FilePosition → ℕ → List ℕ → Bool → Type 0
-TellsRoom place at octets told = (start : ℕ) (p : Part) → IsPlaceOf start p place → told ≡ has_room start p (entry at octets)
+TellsRoom place at octets told = (start : ℕ) (p : Part) → IsPlaceOf start p place
+    → told ≡ has_room start p (entry at octets)
 
 -- the one is that behind one record more
 abbrev pub IsAfter : FilePosition → List ℕ → FilePosition → Type 0
-IsAfter old octets new = (start at : ℕ) (p : Part) → IsPlaceOf start p old → IsPlaceOf start (with_entry p (entry at octets)) new
+IsAfter old octets new = (start at : ℕ) (p : Part) → IsPlaceOf start p old
+    → IsPlaceOf start (with_entry p (entry at octets)) new

@@ -13,19 +13,25 @@ StemsDiffer one other = (k l : ℕ) → numbered one k ≢ numbered other l
 module _ {F T : Type 0} where
   -- no two have a name in common
   abbrev pub AreApart : List T → (T → Keeping F) → Type 0
-  AreApart ts recorder = (i j : ℕ) (t u : T) → slice_get ts i ≡ Some t → slice_get ts j ≡ Some u → i ≢ j → StemsDiffer (recorder t).stem (recorder u).stem
+  AreApart ts recorder = (i j : ℕ) (t u : T) → slice_get ts i ≡ Some t → slice_get ts j ≡ Some u → i ≢ j
+      → StemsDiffer (recorder t).stem (recorder u).stem
 
   -- as many, each with the names and the start that it had
   pub record SameNames (old new : List T) (recorder : T → Keeping F) : Type 0 where
     pub many : length new ≡ length old
-    pub stems : (j : ℕ) (t u : T) → slice_get old j ≡ Some t → slice_get new j ≡ Some u → (recorder u).stem ≡ (recorder t).stem
-    pub starts : (j : ℕ) (t u : T) → slice_get old j ≡ Some t → slice_get new j ≡ Some u → (recorder u).start ≡ (recorder t).start
+    pub stems : (j : ℕ) (t u : T) → slice_get old j ≡ Some t → slice_get new j ≡ Some u
+        → (recorder u).stem ≡ (recorder t).stem
+    pub starts : (j : ℕ) (t u : T) → slice_get old j ≡ Some t → slice_get new j ≡ Some u
+        → (recorder u).start ≡ (recorder t).start
 
 module _ {F T : Type 0} (g : sinks.Ghosts F) where
   -- each has all that was taken away from its shelf
   abbrev pub AllHave : (List ℕ → Option (List ℕ)) → List T → (T → Keeping F) → (T → List NotedEntry) → Type 0
-  AllHave contents ts recorder taken = (j : ℕ) (t : T) → slice_get ts j ≡ Some t → HasTaken g contents (recorder t) (taken t)
+  AllHave contents ts recorder taken = (j : ℕ) (t : T) → slice_get ts j ≡ Some t
+      → HasTaken g contents (recorder t) (taken t)
 
   -- where no two have a name in common, and each had all that was taken away from its shelf, each has
-  abbrev pub AllHaveStill : (before after : List ℕ → Option (List ℕ)) → (old new : List T) → (T → Keeping F) → (T → List NotedEntry) → Type 0
-  AllHaveStill before after old new recorder taken = AreApart old recorder → AllHave before old recorder taken → AllHave after new recorder taken
+  abbrev pub AllHaveStill : (before after : List ℕ → Option (List ℕ)) → (old new : List T) → (T → Keeping F)
+      → (T → List NotedEntry) → Type 0
+  AllHaveStill before after old new recorder taken = AreApart old recorder → AllHave before old recorder taken
+      → AllHave after new recorder taken

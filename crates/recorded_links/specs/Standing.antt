@@ -56,7 +56,8 @@ module _ {F : Type 0} (g : sinks.Ghosts F) where
 
   -- whatever were its files, an entry more was noted
   abbrev pub NotesMore : (before after : List ℕ → Option (List ℕ)) → (old new : Keeping F) → Entry → Type 0
-  NotesMore before after old new e = (ps : Parts) → RecorderStandsFor before old ps → RecorderStandsFor after new (noted old.start ps e)
+  NotesMore before after old new e = (ps : Parts) → RecorderStandsFor before old ps
+      → RecorderStandsFor after new (noted old.start ps e)
 
   -- whatever are its files, they stay that
   abbrev pub StaysAll : (before after : List ℕ → Option (List ℕ)) → (old new : Keeping F) → Type 0
@@ -64,12 +65,15 @@ module _ {F : Type 0} (g : sinks.Ghosts F) where
 
   -- whatever are its files, all that stands in them lies under their names
   abbrev pub LiesThere : (before after : List ℕ → Option (List ℕ)) → Keeping F → Type 0
-  LiesThere before after k = (ps : Parts) → RecorderStandsFor before k ps → AreUnder k.stem after (files_written k.start ps)
+  LiesThere before after k = (ps : Parts) → RecorderStandsFor before k ps
+      → AreUnder k.stem after (files_written k.start ps)
 
   -- whatever were its files, all that was not pending lies there, and a front of what was
   abbrev pub KeepsWritten : (before after : List ℕ → Option (List ℕ)) → Keeping F → Type 0
-  KeepsWritten before after k = (ps : Parts) → RecorderStandsFor before k ps → StillHolds k.stem k.start after (length k.pending) ps []
+  KeepsWritten before after k = (ps : Parts) → RecorderStandsFor before k ps
+      → StillHolds k.stem k.start after (length k.pending) ps []
 
   -- the same, where this entry was to be noted: where all that was pending lies there, so may a front of its record
   abbrev pub KeepsNoted : (before after : List ℕ → Option (List ℕ)) → Keeping F → Entry → Type 0
-  KeepsNoted before after k e = (ps : Parts) → RecorderStandsFor before k ps → StillHolds k.stem k.start after (length k.pending) ps (record_in ps.last.begins e)
+  KeepsNoted before after k e = (ps : Parts) → RecorderStandsFor before k ps
+      → StillHolds k.stem k.start after (length k.pending) ps (record_in ps.last.begins e)

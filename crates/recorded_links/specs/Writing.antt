@@ -21,7 +21,8 @@ module _ {J : Type 0} where
 
   -- where something was under the name, what the file took lies there now, and a front of these octets
   abbrev pub LeavesFront : (J → List ℕ → Option (List ℕ)) → J → J → (name took octets : List ℕ) → Type 0
-  LeavesFront contents old new name took octets = IsSome (contents old name) → (n : ℕ) × (contents new name ≡ Some (took ++ take n octets))
+  LeavesFront contents old new name took octets = IsSome (contents old name)
+      → (n : ℕ) × (contents new name ≡ Some (took ++ take n octets))
 
   -- what lies under names other than these two stays
   abbrev pub SameButBoth : (name other : List ℕ) → (J → List ℕ → Option (List ℕ)) → J → J → Type 0

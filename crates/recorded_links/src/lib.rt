@@ -1,6 +1,7 @@
 //! Links whose datagrams and packets are recorded as the call runs: each becomes a record of a file that grows.
 #![tactic(auto)]
 
+mod backlogs;
 mod batches;
 mod ends;
 mod journals;
@@ -20,7 +21,6 @@ mod rule;
 mod shelves;
 mod starts;
 mod tracks;
-mod waiting;
 mod writers;
 
 pub use ends::{RecordedIn, RecordedOut};

@@ -6,9 +6,9 @@ ghost use Rattle.recorded_links.specs.Rule.{noted_of};
 ghost use Rattle.recorded_links.specs.Shelves.{IsNoteOf, hand, noted};
 
 use crate::Way;
+use crate::backlogs::{Legs, WaitingRecords};
 use crate::batches::entry_size;
 use crate::passes::{NotePass, Shelf};
-use crate::waiting::{Legs, WaitingRecords};
 use rtt_base::limits::MOST_PACKET_OCTETS;
 use std::alloc::Global;
 use std::sync::atomic::{AtomicU64, Ordering};

@@ -2,12 +2,12 @@
 ghost use Rattle.std.specs.Prelude.{◌≡◌, ℕ, [], IfOk};
 ghost use Rattle.recorded_links.specs.Shelves.{noted};
 
+use crate::backlogs::{Legs, WaitingRecords};
 use crate::links::RecordedLinks;
 use crate::noter_places::{FreshNoter, NoterPlace};
 use crate::noters::Noter;
 use crate::passes::Shelf;
 use crate::tracks::{Track, Tracks};
-use crate::waiting::{Legs, WaitingRecords};
 use crate::writers::{StartFault, Writer};
 use crate::{Journals, RecordFault, Recorder, Way, file_name, stem_of};
 use file_spec::LegLine;

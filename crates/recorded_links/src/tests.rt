@@ -1,8 +1,8 @@
+use crate::backlogs::WaitingRecords;
 use crate::batches::Batch;
 use crate::noters::Noter;
 use crate::starts::begin_track;
 use crate::tracks::Track;
-use crate::waiting::WaitingRecords;
 use crate::{BeginFault, LinksReturn, MemJournals, RecordedLinks, Way, stem_of};
 use conf_text::{Form, read_conf};
 use file_spec::Conference;

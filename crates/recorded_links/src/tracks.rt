@@ -7,10 +7,10 @@ ghost use Rattle.recorded_links.specs.Writing.{TouchesOwn};
 ghost use Rattle.recorded_links.specs.Written.{HasTakenStill, NotesAll};
 ghost use Rattle.recorded_links.specs.Recordings.{AllHaveStill, SameNames};
 
+use crate::backlogs::{Legs, WaitingRecords};
 use crate::noter_places::NoterPlace;
 use crate::notes::Note;
 use crate::passes::{Shelf, TakePass};
-use crate::waiting::{Legs, WaitingRecords};
 use crate::{Journals, Recorder, Way};
 use rtt_base::NoMemory;
 use std::alloc::Global;

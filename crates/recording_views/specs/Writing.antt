@@ -30,17 +30,20 @@ Printed ear printed settings source story = (gave : List Chunk) × GaveSome ear 
 -- ---- what calls make of it
 -- it was told nothing, and what is ready was printed
 abbrev pub PrintsReady : Ear → List ℕ → Ear → List ℕ → Type 0
-PrintsReady before old after new = (settings : EarSettings) (source : ℕ) (story : Story) → Printed before old settings source story
+PrintsReady before old after new = (settings : EarSettings) (source : ℕ) (story : Story)
+    → Printed before old settings source story
     → Printed after new settings source story × (new ≡ lines_of (ready_chunks settings source story))
 
 -- these octets came at this moment, and some of what is ready was printed
 abbrev pub PrintsPacket : ℕ → List ℕ → Ear → List ℕ → Ear → List ℕ → Type 0
-PrintsPacket at octets before old after new = (settings : EarSettings) (source : ℕ) (story : Story) → Printed before old settings source story
+PrintsPacket at octets before old after new = (settings : EarSettings) (source : ℕ) (story : Story)
+    → Printed before old settings source story
     → Printed after new settings source (told story at (text_for settings octets))
 
 -- it was told of the end, and everything was printed
 abbrev pub PrintsEnd : Ear → List ℕ → List ℕ → Type 0
-PrintsEnd before old new = (settings : EarSettings) (source : ℕ) (story : Story) → Printed before old settings source story
+PrintsEnd before old new = (settings : EarSettings) (source : ℕ) (story : Story)
+    → Printed before old settings source story
     → new ≡ lines_of (story_chunks settings source story)
 
 -- ---- the records of a recording
@@ -60,4 +63,5 @@ PrintsAll tells recording before old after new = (r : ReadRequest) (past : List 
 
 -- this is what is printed of the recording
 abbrev pub IsTranscript : ReadRequest → Recording → List ℕ → Type 0
-IsTranscript r recording printed = (octets : List ℕ) → recording ≡ dump usual_limit octets → printed ≡ transcript_view r octets
+IsTranscript r recording printed = (octets : List ℕ) → recording ≡ dump usual_limit octets
+    → printed ≡ transcript_view r octets

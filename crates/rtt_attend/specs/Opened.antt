@@ -44,7 +44,8 @@ HearsLeg limit held legs k result = Hears limit (heard_as (leg_at legs k)) (inpu
 
 -- and this of the legs, in order
 abbrev pub AreHeard : ℕ → Contents → List LegLine → List SenderReport → Type 0
-AreHeard limit held legs all = (k : ℕ) (said : SenderReport) → slice_get all k ≡ Some said → HearsLeg limit held legs k (Ok said)
+AreHeard limit held legs all = (k : ℕ) (said : SenderReport) → slice_get all k ≡ Some said
+    → HearsLeg limit held legs k (Ok said)
 
 -- The input of the leg with this number has this fault, or its source failed. Those of the legs before it can be read to
 -- their ends.

@@ -38,7 +38,8 @@ use Rattle.rtt_live.specs.Taps.{Notice, Shows, chunks_of, notices_by}
 -- no two legs have one port
 abbrev pub HaveApartPorts : Conference → Type 0
 HaveApartPorts c =
-    (j k : ℕ) (a b : LegLine) (p : ℕ) → leg_at c.legs j ≡ Some a → leg_at c.legs k ≡ Some b → port a.input ≡ Some p → port b.input ≡ Some p → j ≡ k
+    (j k : ℕ) (a b : LegLine) (p : ℕ) → leg_at c.legs j ≡ Some a → leg_at c.legs k ≡ Some b
+    → port a.input ≡ Some p → port b.input ≡ Some p → j ≡ k
 
 -- A conference of links: each leg's input is a port of its own. Each has a place, and none comes later or goes.
 pub record IsOfLinks (c : Conference) : Type 0 where
@@ -52,11 +53,13 @@ LinksAreApart = (octets : List ℕ) (c : Conference) → conference_from Links o
 
 -- under the port of each leg is what is that leg's
 abbrev pub AtPorts : {K : Type 0} → Conference → (ℕ → K) → (ℕ → K) → Type 0
-AtPorts c under of = (j : ℕ) (line : LegLine) (p : ℕ) → leg_at c.legs j ≡ Some line → port line.input ≡ Some p → under p ≡ of j
+AtPorts c under of = (j : ℕ) (line : LegLine) (p : ℕ) → leg_at c.legs j ≡ Some line → port line.input ≡ Some p
+    → under p ≡ of j
 
 -- under the port of each leg is what was there before, or nothing
 abbrev pub GaveNothing : {K : Type 0} → Conference → (ℕ → List K) → (ℕ → List K) → Type 0
-GaveNothing c old new = (j : ℕ) (line : LegLine) (p : ℕ) → leg_at c.legs j ≡ Some line → port line.input ≡ Some p → (new p ≡ old p) ⊎ (new p ≡ [])
+GaveNothing c old new = (j : ℕ) (line : LegLine) (p : ℕ) → leg_at c.legs j ≡ Some line
+    → port line.input ≡ Some p → (new p ≡ old p) ⊎ (new p ≡ [])
 
 -- ---- behind the last turn
 -- the link of this number failed
@@ -65,7 +68,8 @@ FailedAt {X} faults xs j = (x : X) × (slice_get xs j ≡ Some x) × Rose 0 (fau
 
 -- each of these has the port of its leg
 abbrev pub AreAtPorts : {X : Type 0} → (X → ℕ) → Conference → List X → Type 0
-AreAtPorts {X} port_of c xs = (j : ℕ) (x : X) (line : LegLine) → slice_get xs j ≡ Some x → leg_at c.legs j ≡ Some line → port line.input ≡ Some (port_of x)
+AreAtPorts {X} port_of c xs = (j : ℕ) (x : X) (line : LegLine) → slice_get xs j ≡ Some x
+    → leg_at c.legs j ≡ Some line → port line.input ≡ Some (port_of x)
 
 -- these chunks were taken, all legs' in order
 abbrev pub AreTaken : Table → List Chunk → Type 0
@@ -196,7 +200,8 @@ pub record WasBroken (tells : Type 0) (span : Span) (taken_at : ℕ → Takes) (
   pub takes : ℕ → Takes
   pub given : ℕ → List (List ℕ)
   pub served : IsServed c takes given Broken (live_printed c takes given Broken)
-  pub keeps : (octets : List ℕ) → conference_from Links octets ≡ Ok c → HeadLive c takes given Broken (live_printed c takes given Broken)
+  pub keeps : (octets : List ℕ) → conference_from Links octets ≡ Ok c
+      → HeadLive c takes given Broken (live_printed c takes given Broken)
   pub now : ℕ
   pub taken : tells → AtPorts c taken_at takes
   pub gave : tells → (j : ℕ) (line : LegLine) (p : ℕ) → leg_at c.legs j ≡ Some line → port line.input ≡ Some p
@@ -204,7 +209,8 @@ pub record WasBroken (tells : Type 0) (span : Span) (taken_at : ℕ → Takes) (
   pub paced : tells → WasPaced c served.table span (at_ports_of c given_at)
 
 -- What became of a live call of the conference that was given up: it broke off so, or nothing was given.
-abbrev pub BrokeOff : (tells : Type 0) → (span : Span) → (given_before : ℕ → List (ℕ × List ℕ)) → (taken_at : ℕ → Takes) → (given_at : ℕ → List (ℕ × List ℕ)) → Conference → Type 0
+abbrev pub BrokeOff : (tells : Type 0) → (span : Span) → (given_before : ℕ → List (ℕ × List ℕ))
+    → (taken_at : ℕ → Takes) → (given_at : ℕ → List (ℕ × List ℕ)) → Conference → Type 0
 BrokeOff tells span given_before taken_at given_at c = WasBroken tells span taken_at given_at c ⊎ (tells → GaveNothing c given_before given_at)
 
 -- The link of the leg j failed: a count of its port rose, of the calls that open it or of its ends.

@@ -53,9 +53,12 @@ module _ {O : Type 0} (tells : Type 0) (given : O → List (List ℕ)) (faults :
   pub record WasSent (outputs : List State) (links : List O) (listeners : List Listening) (s : Setup) (payload_types : PayloadTypes) (j : ℕ) (sent : List (ℕ × Post)) : Type 0 where
     pub sources : List ℕ
     pub are : AreSourcesAt s j sources
-    pub wrote : (o : State) → slice_get outputs j ≡ Some o → PacketizerStandsFor (settings_at s payload_types j) sources o (texts_in (sents_to sources j sent))
-    pub gave : (link : O) → slice_get links j ≡ Some link → WasGiven link (packets_of (settings_at s payload_types j) (sents_to sources j sent))
-    pub heard : (l : Listening) → slice_get listeners j ≡ Some l → HasHeard l (packets_of (settings_at s payload_types j) (sents_to sources j sent))
+    pub wrote : (o : State) → slice_get outputs j ≡ Some o
+        → PacketizerStandsFor (settings_at s payload_types j) sources o (texts_in (sents_to sources j sent))
+    pub gave : (link : O) → slice_get links j ≡ Some link
+        → WasGiven link (packets_of (settings_at s payload_types j) (sents_to sources j sent))
+    pub heard : (l : Listening) → slice_get listeners j ≡ Some l
+        → HasHeard l (packets_of (settings_at s payload_types j) (sents_to sources j sent))
 
   -- so of each terminal of the setup
   pub record WereGiven (ends : FarEnds O) (s : Setup) (payload_types : ℕ → PayloadTypes) (sent : List (ℕ × Post)) : Type 0 where

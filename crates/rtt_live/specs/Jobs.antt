@@ -89,20 +89,29 @@ module _ {L M C G : Type 0} where
     pub addresses_are : ports_of (addresses ended.mixer) ≡ ports_of (addresses job.mixer)
     pub ports : List (LivePort (Worker LinkItem (LinkLeg L) G))
     pub each : length ports ≡ length job.legs.items
-    pub legs : (j : ℕ) (p : LivePort (Worker LinkItem (LinkLeg L) G)) (first back : LinkLeg L) → slice_get ports j ≡ Some p
-        → slice_get job.legs.items j ≡ Some first → slice_get ended.legs.items j ≡ Some back → GaveFirst g first back (popped_in p.inlet)
-    pub ran : (s : Setup) (payload_types : ℕ → PayloadTypes) → s.legs ≡ length job.legs.items → AllStay s → stands job.mixer s payload_types (all_admitted s.legs)
+    pub legs : (j : ℕ) (p : LivePort (Worker LinkItem (LinkLeg L) G)) (first back : LinkLeg L)
+        → slice_get ports j ≡ Some p
+        → slice_get job.legs.items j ≡ Some first → slice_get ended.legs.items j ≡ Some back
+        → GaveFirst g first back (popped_in p.inlet)
+    pub ran : (s : Setup) (payload_types : ℕ → PayloadTypes) → s.legs ≡ length job.legs.items → AllStay s
+        → stands job.mixer s payload_types (all_admitted s.legs)
         → RanTo popped_in ended.turned (StandsPaced k.tells job.tick (k.moment job.clock.now) (k.moment ended.clock.now) (AreInTurn stands addresses (k.pauses job.clock.now)) stands)
         (StandsPaced k.tells job.tick (k.moment job.clock.now) (k.moment ended.clock.now) (AreInTurn stands addresses (k.pauses job.clock.now)) (HaltsThen halted)) s payload_types job.turns ports ended.mixer
     pub faulted : WasFaulted ended.turned ports
-    pub failed : (j : ℕ) (p : LivePort (Worker LinkItem (LinkLeg L) G)) → slice_get ports j ≡ Some p → p.failed ≡ true → has_fault (popped_in p.inlet) ≡ true
+    pub failed : (j : ℕ) (p : LivePort (Worker LinkItem (LinkLeg L) G)) → slice_get ports j ≡ Some p
+        → p.failed ≡ true → has_fault (popped_in p.inlet) ≡ true
     pub stopped : WasStopped unsent ended.turned ended.mixer
-    pub paced : k.tells → ended.turned ≡ Done → IsPaced job.turns job.tick (k.moment job.clock.now) (k.moment ended.clock.now)
+    pub paced : k.tells → ended.turned ≡ Done
+        → IsPaced job.turns job.tick (k.moment job.clock.now) (k.moment ended.clock.now)
     pub paused : ended.turned ≡ Done → IsPaused job.turns (k.pauses job.clock.now) (k.pauses ended.clock.now)
 
   -- the same of one that is lent
-  abbrev pub LentCanRun : {K : Type 0} → links.Ghosts L → clocks.Ghosts C K → (M → ℕ) → (M → ℕ) → (M → List Address) → ℕ → ManuallyDrop (CallJob L M C G) → Type 0
+  abbrev pub LentCanRun : {K : Type 0} → links.Ghosts L → clocks.Ghosts C K → (M → ℕ) → (M → ℕ)
+      → (M → List Address) → ℕ → ManuallyDrop (CallJob L M C G) → Type 0
   LentCanRun g k legs_of turns_of addresses horizon lent = CanRun g k legs_of turns_of addresses horizon (manually_drop_value lent)
 
-  abbrev pub LentRanAs : {K : Type 0} → links.Ghosts L → clocks.Ghosts C K → (M → Setup → (ℕ → PayloadTypes) → List Call → Type 0) → (M → Setup → (ℕ → PayloadTypes) → List Call → ℕ → Type 0) → (M → List Address) → (M → LiveFault → Type 0) → ManuallyDrop (CallJob L M C G) → JobReturn L M C → Type 0
+  abbrev pub LentRanAs : {K : Type 0} → links.Ghosts L → clocks.Ghosts C K
+      → (M → Setup → (ℕ → PayloadTypes) → List Call → Type 0)
+      → (M → Setup → (ℕ → PayloadTypes) → List Call → ℕ → Type 0) → (M → List Address) → (M → LiveFault → Type 0)
+      → ManuallyDrop (CallJob L M C G) → JobReturn L M C → Type 0
   LentRanAs g k stands halted addresses unsent lent ended = RanAs g k stands halted addresses unsent (manually_drop_value lent) ended

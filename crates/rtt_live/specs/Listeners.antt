@@ -37,17 +37,20 @@ NoneHeard listeners = (j : ℕ) (l : Listening) → slice_get listeners j ≡ So
 
 -- all that was given was heard to its end
 abbrev pub HearsOut : Listening → TerminalSettings → List ℕ → Terminal → Type 0
-HearsOut l settings sources t = (given : List (List ℕ)) → HasHeard l given → Heard t settings sources (came_at_once given)
+HearsOut l settings sources t = (given : List (List ℕ)) → HasHeard l given
+    → Heard t settings sources (came_at_once given)
 
 -- what the terminal of the leg j shows of whatever was given was appended
 abbrev pub AppendsView : Conference → ℕ → Listening → List ℕ → List ℕ → Type 0
 AppendsView c j l old new =
-    (leg : LegLine) (given : List (List ℕ)) → leg_at c.legs j ≡ Some leg → HasHeard l given → new ≡ old ++ live_view c j leg given
+    (leg : LegLine) (given : List (List ℕ)) → leg_at c.legs j ≡ Some leg → HasHeard l given
+    → new ≡ old ++ live_view c j leg given
 
 -- the same where the terminal is aware, or where it is not
 abbrev pub AppendsViewTo : Bool → Conference → ℕ → Listening → List ℕ → List ℕ → Type 0
 AppendsViewTo aware c j l old new =
-    (leg : LegLine) (given : List (List ℕ)) → leg_at c.legs j ≡ Some leg → leg.aware ≡ aware → HasHeard l given → new ≡ old ++ live_view c j leg given
+    (leg : LegLine) (given : List (List ℕ)) → leg_at c.legs j ≡ Some leg → leg.aware ≡ aware → HasHeard l given
+    → new ≡ old ++ live_view c j leg given
 
 -- this is what the terminals show of whatever each was given
 abbrev pub AreViewsOf : Conference → List Listening → List ℕ → Type 0
@@ -58,4 +61,5 @@ AreViewsOf c listeners views =
 abbrev pub ArePrintedOf : Conference → List Listening → List LegTally → End → List ℕ → Type 0
 ArePrintedOf c listeners tallies end printed =
     (takes : ℕ → Takes) (given : ℕ → List (List ℕ)) → AreTallies c takes tallies
-    → ((j : ℕ) (l : Listening) → slice_get listeners j ≡ Some l → HasHeard l (given j)) → printed ≡ live_printed c takes given end
+    → ((j : ℕ) (l : Listening) → slice_get listeners j ≡ Some l → HasHeard l (given j))
+    → printed ≡ live_printed c takes given end

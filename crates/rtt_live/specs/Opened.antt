@@ -67,7 +67,8 @@ AreUnused {O} given faults ends = (j : ℕ) (end : O) → slice_get ends j ≡ S
 
 -- each of these was given nothing, and a link was opened at its port
 abbrev pub AreEmptyAt : {O K : Type 0} → (O → List K) → (O → ℕ) → (ℕ → Bool) → List O → Type 0
-AreEmptyAt {O} given port_of opened ends = (j : ℕ) (end : O) → slice_get ends j ≡ Some end → (given end ≡ []) × (opened (port_of end) ≡ true)
+AreEmptyAt {O} given port_of opened ends = (j : ℕ) (end : O) → slice_get ends j ≡ Some end
+    → (given end ≡ []) × (opened (port_of end) ≡ true)
 
 -- under each port is what was there before, or nothing
 abbrev pub GivesNothing : {K : Type 0} → (ℕ → List K) → (ℕ → List K) → Type 0
@@ -80,24 +81,28 @@ LinkIsRefused before after j line NoMemory = Unit {0}
 
 -- the same of the leg with this number
 abbrev pub OpensLeg : {I : Type 0} → ins.Ghosts I → Type 0 → (ℕ → Bool) → Conference → ℕ → LinkLeg I → Type 0
-OpensLeg g tells opened c j leg = (line : LegLine) → leg_at c.legs j ≡ Some line → IsOpenedLeg g tells opened c j line leg
+OpensLeg g tells opened c j leg = (line : LegLine) → leg_at c.legs j ≡ Some line
+    → IsOpenedLeg g tells opened c j line leg
 
 abbrev pub OpensEnd : {O K : Type 0} → outs.Ghosts O K → Type 0 → Conference → ℕ → O → Type 0
 OpensEnd g tells c j end = (line : LegLine) → leg_at c.legs j ≡ Some line → IsOpenedEnd g tells line end
 
 abbrev pub IsRefusedAt : (ℕ → ℕ) → (ℕ → ℕ) → Conference → ℕ → LiveFault → Type 0
-IsRefusedAt before after c j fault = (line : LegLine) → leg_at c.legs j ≡ Some line → LinkIsRefused before after j line fault
+IsRefusedAt before after c j fault = (line : LegLine) → leg_at c.legs j ≡ Some line
+    → LinkIsRefused before after j line fault
 
 -- those of all legs, in leg order
 abbrev pub OpenLegs : {I : Type 0} → ins.Ghosts I → Type 0 → (ℕ → Bool) → Conference → List (LinkLeg I) → Type 0
-OpenLegs {I} g tells opened c legs = (j : ℕ) (leg : LinkLeg I) → slice_get legs j ≡ Some leg → OpensLeg g tells opened c j leg
+OpenLegs {I} g tells opened c legs = (j : ℕ) (leg : LinkLeg I) → slice_get legs j ≡ Some leg
+    → OpensLeg g tells opened c j leg
 
 abbrev pub OpenEnds : {O K : Type 0} → outs.Ghosts O K → Type 0 → Conference → List O → Type 0
 OpenEnds {O} g tells c ends = (j : ℕ) (end : O) → slice_get ends j ≡ Some end → OpensEnd g tells c j end
 
 -- a link was opened at the port of each leg below n
 abbrev pub AreOpenBelow : ℕ → (ℕ → Bool) → Conference → Type 0
-AreOpenBelow n opened c = (j : ℕ) (line : LegLine) (p : ℕ) → j < n → leg_at c.legs j ≡ Some line → port line.input ≡ Some p → opened p ≡ true
+AreOpenBelow n opened c = (j : ℕ) (line : LegLine) (p : ℕ) → j < n → leg_at c.legs j ≡ Some line
+    → port line.input ≡ Some p → opened p ≡ true
 
 -- Why not all links were opened: the count of the port of a leg rose, and those of the legs before it were opened; or memory ran out.
 abbrev pub IsNotOpened : Type 0 → (ℕ → Bool) → (ℕ → ℕ) → (ℕ → ℕ) → Conference → LiveFault → Type 0
@@ -117,13 +122,16 @@ module _ {X : Type 0} where
 
   -- where one of these failed, the count of its port rose
   abbrev pub FaultsRose : (X → ℕ) → (X → ℕ) → (ℕ → ℕ) → (ℕ → ℕ) → List X → Type 0
-  FaultsRose faults port_of before after xs = (j : ℕ) (x : X) → slice_get xs j ≡ Some x → Rose 0 (faults x) → Rose (before (port_of x)) (after (port_of x))
+  FaultsRose faults port_of before after xs = (j : ℕ) (x : X) → slice_get xs j ≡ Some x → Rose 0 (faults x)
+      → Rose (before (port_of x)) (after (port_of x))
 
   -- no two of these are of one port
   abbrev pub HaveOwnPorts : (X → ℕ) → List X → Type 0
-  HaveOwnPorts port_of xs = (j k : ℕ) (x y : X) → slice_get xs j ≡ Some x → slice_get xs k ≡ Some y → port_of x ≡ port_of y → j ≡ k
+  HaveOwnPorts port_of xs = (j k : ℕ) (x y : X) → slice_get xs j ≡ Some x → slice_get xs k ≡ Some y
+      → port_of x ≡ port_of y → j ≡ k
 
   -- where a link was opened at the port of one of these, what it has is stored there
   abbrev pub AreStored : {K : Type 0} → (X → K) → (X → ℕ) → (ℕ → Bool) → (ℕ → K) → List X → Type 0
   AreStored has port_of opened stored xs =
-      HaveOwnPorts port_of xs → (j : ℕ) (x : X) → slice_get xs j ≡ Some x → opened (port_of x) ≡ true → stored (port_of x) ≡ has x
+      HaveOwnPorts port_of xs → (j : ℕ) (x : X) → slice_get xs j ≡ Some x → opened (port_of x) ≡ true
+      → stored (port_of x) ≡ has x

@@ -13,7 +13,8 @@ use Rattle.live_spec.specs.Served.{hearing_at}
 
 -- what each of these legs counted is what came of its link
 abbrev pub AreTallies : Conference → (ℕ → Takes) → List LegTally → Type 0
-AreTallies c takes tallies = (j : ℕ) (kept : LegTally) → slice_get tallies j ≡ Some kept → IsTally kept (tally_by (hearing_at c j) (takes j))
+AreTallies c takes tallies = (j : ℕ) (kept : LegTally) → slice_get tallies j ≡ Some kept
+    → IsTally kept (tally_by (hearing_at c j) (takes j))
 
 -- what each leg counted
 abbrev pub tallies_in : {I : Type 0} → List (LinkLeg I) → List LegTally

@@ -51,7 +51,9 @@ pub record TellsFor {M T : Type 0} (mixes : M → Setup → (ℕ → PayloadType
   pub told : m.short ≡ false → stands m.tap (notices_by s calls)
 
 -- a turn at this moment was made behind these calls, or was not sent to its end
-abbrev pub HaltsTold : {M T : Type 0} → (M → Setup → (ℕ → PayloadTypes) → List Call → Type 0) → (M → Setup → (ℕ → PayloadTypes) → List Call → ℕ → Type 0) → TappedMixer M T → Setup → (ℕ → PayloadTypes) → List Call → ℕ → Type 0
+abbrev pub HaltsTold : {M T : Type 0} → (M → Setup → (ℕ → PayloadTypes) → List Call → Type 0)
+    → (M → Setup → (ℕ → PayloadTypes) → List Call → ℕ → Type 0) → TappedMixer M T → Setup → (ℕ → PayloadTypes)
+    → List Call → ℕ → Type 0
 HaltsTold mixes halted m s payload_types calls now = halted m.mixer s payload_types calls now ⊎ mixes m.mixer s payload_types (Turn now ∷ calls)
 
 -- why a turn was the last: the mixer could not send, or memory ran out

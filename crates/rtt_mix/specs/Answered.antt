@@ -71,17 +71,20 @@ module _ {S : Type 0} where
   -- it is what the conference comes to by the octets of its inputs, whatever they are, where these legs are asked for them
   abbrev pub MixesAsked : (S → List ℕ) → Conference → List (LegInlet S) → Result Mixed MixFault → Type 0
   MixesAsked left c legs result =
-      (inputs : List (List ℕ)) → length inputs ≡ length c.legs → AllAsked left (asked_of c inputs) legs → MixesTo c inputs result
+      (inputs : List (List ℕ)) → length inputs ≡ length c.legs → AllAsked left (asked_of c inputs) legs
+      → MixesTo c inputs result
 
   -- The source of the leg j is still the one that it was. Where its reading failed, its count rose; where none did, it is the old
   -- one.
   pub record IsKept (faults : S → ℕ) (name : S → List ℕ) (result : Result Mixed MixFault) (j : ℕ) (old new : S) : Type 0 where
     pub never_falls : faults old ≤ faults new
     pub same_name : name new ≡ name old
-    pub read : (fault : DumpFault) → result ≡ Err (Dump j fault) → is_of_source fault.kind ≡ true → Rose (faults old) (faults new)
+    pub read : (fault : DumpFault) → result ≡ Err (Dump j fault) → is_of_source fault.kind ≡ true
+        → Rose (faults old) (faults new)
     pub calm : WasReadWell result j → faults new ≡ faults old
 
   -- and so is that of each leg
   abbrev pub AreKept : (S → ℕ) → (S → List ℕ) → Result Mixed MixFault → List (LegInlet S) → List (LegInlet S) → Type 0
   AreKept faults name result old new =
-      (j : ℕ) (i k : LegInlet S) → slice_get old j ≡ Some i → slice_get new j ≡ Some k → IsKept faults name result j (source_in i) (source_in k)
+      (j : ℕ) (i k : LegInlet S) → slice_get old j ≡ Some i → slice_get new j ≡ Some k
+      → IsKept faults name result j (source_in i) (source_in k)

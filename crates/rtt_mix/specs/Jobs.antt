@@ -34,5 +34,6 @@ module _ {S M G : Type 0} where
   LentCanRun legs_of turns_of horizon lent = CanRun legs_of turns_of horizon (manually_drop_value lent)
 
   -- a job that is lent was run
-  abbrev pub LentRanAs : (M → Setup → (ℕ → PayloadTypes) → List Call → Type 0) → Type 0 → (S → List ℕ) → (S → ℕ) → (S → List ℕ) → ManuallyDrop (MixJob S M G) → LegReturn S M → Type 0
+  abbrev pub LentRanAs : (M → Setup → (ℕ → PayloadTypes) → List Call → Type 0) → Type 0 → (S → List ℕ)
+      → (S → ℕ) → (S → List ℕ) → ManuallyDrop (MixJob S M G) → LegReturn S M → Type 0
   LentRanAs mixes tells left faults name lent ran = RanAs mixes tells left faults name (manually_drop_value lent).task ran

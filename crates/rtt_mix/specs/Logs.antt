@@ -30,7 +30,8 @@ records_to payload_types s table j = records (payload_types j) (packets (stream 
 
 -- the recording to each terminal has what was sent to it
 abbrev pub LogOf : (ℕ → PayloadTypes) → Setup → Table → List (List ℕ) → Type 0
-LogOf payload_types s table log = (j : ℕ) → j < s.legs → out_at log j ≡ dump_written (records_to payload_types s table j)
+LogOf payload_types s table log = (j : ℕ) → j < s.legs
+    → out_at log j ≡ dump_written (records_to payload_types s table j)
 
 -- ---- as it is sent
 -- how many sources each terminal has

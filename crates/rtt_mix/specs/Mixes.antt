@@ -51,7 +51,8 @@ pub record IsBroken (Told : Type 0) (Object : List ℕ → Type 0) (held : Conte
   pub lie : Told → AllLie held c.legs
   pub read : is_of_source fault.kind ≡ true → Object leg.input
   pub lowest : Told → WholeBelow number c (inputs_under held c.legs)
-  pub refused : is_of_source fault.kind ≡ false → Told → steps_of held c ≡ Refuses (number + 1) (AtByte fault.offset fault.kind)
+  pub refused : is_of_source fault.kind ≡ false → Told
+      → steps_of held c ≡ Refuses (number + 1) (AtByte fault.offset fault.kind)
 
 -- Why nothing is made; `Call` and `Object` tell of which names a call or an object failed. Want of memory is free.
 abbrev pub Stops : (Told : Type 0) → (Call Object : List ℕ → Type 0) → Contents → Conference → MixFault → Type 0
@@ -99,5 +100,6 @@ module _ {W : Type 0} where
   NoneFailedIn Told objects old new c result = NoneFailed Told c.legs (objects old) (objects new) result
 
   -- why nothing is made, by what lay in a world before, and by the counts that rose in it
-  abbrev pub StopsIn : Type 0 → (W → Contents) → (W → List ℕ → ℕ) → (W → List ℕ → ℕ) → W → W → Conference → MixFault → Type 0
+  abbrev pub StopsIn : Type 0 → (W → Contents) → (W → List ℕ → ℕ) → (W → List ℕ → ℕ) → W → W → Conference
+      → MixFault → Type 0
   StopsIn Told contents own objects old new c = Stops Told (RoseAt (own old) (own new)) (RoseAt (objects old) (objects new)) (contents old) c

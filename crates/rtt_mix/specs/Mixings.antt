@@ -24,6 +24,7 @@ module _ {S M : Type 0} where
     pub in_time : ComeBefore horizon tick turns
 
   -- this is how they were mixed, plainly, by this mixer
-  abbrev pub RanPlain : (M → Setup → (ℕ → PayloadTypes) → List Call → Type 0) → Type 0 → (S → List ℕ) → (S → ℕ) → (S → List ℕ) → ℕ → ℕ → Vec (LegInlet S) → List LegLine → M → LegReturn S M → Type 0
+  abbrev pub RanPlain : (M → Setup → (ℕ → PayloadTypes) → List Call → Type 0) → Type 0 → (S → List ℕ) → (S → ℕ)
+      → (S → List ℕ) → ℕ → ℕ → Vec (LegInlet S) → List LegLine → M → LegReturn S M → Type 0
   RanPlain mixes tells left faults name tick turns legs lines mixer ran =
       PlainMixes mixes tells left faults name tick turns lines ran.mixing legs.items ran.legs.items mixer ran.mixer

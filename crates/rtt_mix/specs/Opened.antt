@@ -52,12 +52,15 @@ module _ {S : Type 0} where
     pub told : tells → (octets : List ℕ) × (contents leg.input ≡ Some octets) × Stands left i.leg (begins (ear_of wait leg) limit octets)
 
   -- these legs, in order
-  abbrev pub AllOpened : Type 0 → (S → List ℕ) → (S → ℕ) → (S → List ℕ) → (List ℕ → Option (List ℕ)) → ℕ → ℕ → List LegLine → List (LegInlet S) → Type 0
-  AllOpened tells left faults name_of contents wait limit lines legs = (j : ℕ) (i : LegInlet S) → slice_get legs j ≡ Some i
+  abbrev pub AllOpened : Type 0 → (S → List ℕ) → (S → ℕ) → (S → List ℕ) → (List ℕ → Option (List ℕ)) → ℕ → ℕ
+      → List LegLine → List (LegInlet S) → Type 0
+  AllOpened tells left faults name_of contents wait limit lines legs = (j : ℕ) (i : LegInlet S)
+      → slice_get legs j ≡ Some i
       → (leg : LegLine) × (leg_at lines j ≡ Some leg) × IsOpened tells left faults name_of contents wait limit leg i
 
   -- the same of a whole list of legs
-  abbrev pub AreOpened : Type 0 → (S → List ℕ) → (S → ℕ) → (S → List ℕ) → (List ℕ → Option (List ℕ)) → ℕ → ℕ → List LegLine → Vec (LegInlet S) → Type 0
+  abbrev pub AreOpened : Type 0 → (S → List ℕ) → (S → ℕ) → (S → List ℕ) → (List ℕ → Option (List ℕ)) → ℕ → ℕ
+      → List LegLine → Vec (LegInlet S) → Type 0
   AreOpened tells left faults name_of contents wait limit lines legs = AllOpened tells left faults name_of contents wait limit lines legs.items
 
 -- these legs, in order, over inputs that are held in memory
@@ -73,7 +76,8 @@ OpeningIsRefused before after j leg NoMemory = Unit {0}
 
 -- Why not all legs were opened: the count of a leg's name rose, and there is something under the names of those before it; or
 -- memory ran out.
-abbrev pub IsNotOpened : Type 0 → (List ℕ → Option (List ℕ)) → (List ℕ → ℕ) → (List ℕ → ℕ) → List LegLine → MixFault → Type 0
+abbrev pub IsNotOpened : Type 0 → (List ℕ → Option (List ℕ)) → (List ℕ → ℕ) → (List ℕ → ℕ) → List LegLine
+    → MixFault → Type 0
 IsNotOpened tells contents before after legs (Open k) = (leg : LegLine) × (leg_at legs k ≡ Some leg) × Rose (before leg.input) (after leg.input)
     × (tells → LieBelow k contents legs)
 IsNotOpened tells contents before after legs (Dump k fault) = ⊥
@@ -87,7 +91,8 @@ module _ {W : Type 0} where
   RefusedIn own old new j leg fault = OpeningIsRefused (own old) (own new) j leg fault
 
   -- why not all legs were
-  abbrev pub Unopened : Type 0 → (W → List ℕ → Option (List ℕ)) → (W → List ℕ → ℕ) → W → W → List LegLine → MixFault → Type 0
+  abbrev pub Unopened : Type 0 → (W → List ℕ → Option (List ℕ)) → (W → List ℕ → ℕ) → W → W → List LegLine
+      → MixFault → Type 0
   Unopened tells contents own old new legs fault = IsNotOpened tells (contents old) (own old) (own new) legs fault
 
   -- where the reading of a source failed, the count of its name rose
@@ -95,9 +100,11 @@ module _ {W : Type 0} where
   FaultsRose {S} faults name objects legs old new = EachSource (λ s. Rose 0 (faults s) → Rose (objects old (name s)) (objects new (name s))) legs
 
   -- a name's count is the old one, where each of the sources leaves it
-  abbrev pub CountsLeft : {S : Type 0} → (S → ℕ) → (S → List ℕ) → (W → List ℕ → Option (List ℕ)) → (W → List ℕ → ℕ) → List (LegInlet S) → W → W → Type 0
+  abbrev pub CountsLeft : {S : Type 0} → (S → ℕ) → (S → List ℕ) → (W → List ℕ → Option (List ℕ))
+      → (W → List ℕ → ℕ) → List (LegInlet S) → W → W → Type 0
   CountsLeft {S} faults name_of contents objects legs old new =
-      (name : List ℕ) → EachSource (LeavesCount faults name_of (contents old) name) legs → objects new name ≡ objects old name
+      (name : List ℕ) → EachSource (LeavesCount faults name_of (contents old) name) legs
+      → objects new name ≡ objects old name
 
   -- Legs were handed back. Where no reading failed, all counts are the old ones.
   pub record HandsBack {S : Type 0} (tells : Type 0) (faults : S → ℕ) (name_of : S → List ℕ) (contents : W → List ℕ → Option (List ℕ)) (objects : W → List ℕ → ℕ) (legs : List (LegInlet S)) (old new : W) : Type 0 where

@@ -24,7 +24,8 @@ use Rattle.rtt_base.specs.declared.limits.TheConstants.{MOST_ARRIVALS}
 
 -- these are what was sent to each terminal
 abbrev pub AreSent : Conference → Table → List (List ℕ) → Type 0
-AreSent c table outs = (j : ℕ) (d : LegLine) → j < length c.legs → IsWrittenOf (slice_index_or outs j []) (records_to c table j (slice_index_or c.legs j d))
+AreSent c table outs = (j : ℕ) (d : LegLine) → j < length c.legs
+    → IsWrittenOf (slice_index_or outs j []) (records_to c table j (slice_index_or c.legs j d))
 
 -- this is seen at the terminals to which this was sent
 abbrev pub AreViewsOf : Conference → List (List ℕ) → List ℕ → Type 0
@@ -72,7 +73,8 @@ pub record AddsTerminalView (c : Conference) (j : ℕ) (leg : LegLine) (records 
 -- so was that of the terminal of the leg j, to which this recording was sent
 abbrev pub AddsSent : Conference → ℕ → List ℕ → Views → Views → Type 0
 AddsSent c j recording old new =
-    (records : List (ℕ × List ℕ)) (d : LegLine) → IsWrittenOf recording records → AddsTerminalView c j (slice_index_or c.legs j d) records old new
+    (records : List (ℕ × List ℕ)) (d : LegLine) → IsWrittenOf recording records
+    → AddsTerminalView c j (slice_index_or c.legs j d) records old new
 
 -- What came to the terminal of the leg j, where these records were sent to it, was heard by a terminal of these sources; what this
 -- view shows of it was added, and its numbers.
@@ -89,7 +91,8 @@ pub record IsSeenAs (c : Conference) (j : ℕ) (leg : LegLine) (sources : List �
 -- so it was of the terminal of the leg j, to which this recording was sent
 abbrev pub AddsSeenAs : Conference → ℕ → List ℕ → List ℕ → View → Views → Views → Type 0
 AddsSeenAs c j recording sources view old new =
-    (records : List (ℕ × List ℕ)) (d : LegLine) → IsWrittenOf recording records → IsSeenAs c j (slice_index_or c.legs j d) sources view records old new
+    (records : List (ℕ × List ℕ)) (d : LegLine) → IsWrittenOf recording records
+    → IsSeenAs c j (slice_index_or c.legs j d) sources view records old new
 
 -- ---- the numbers
 -- A terminal's numbers were added.
@@ -159,7 +162,8 @@ pub record IsPartOf (c : Conference) (outs : List (List ℕ)) (size number : ℕ
 
 -- these are what is seen at the terminals of each part, where memory was there
 abbrev pub ArePartsOf : Conference → List (List ℕ) → ℕ → List (Result Views NoMemory) → Type 0
-ArePartsOf c outs size parts = (k : ℕ) (d : Result Views NoMemory) → k < MOST_PARTS → IfOk (slice_index_or parts k d) (IsPartOf c outs size k)
+ArePartsOf c outs size parts = (k : ℕ) (d : Result Views NoMemory) → k < MOST_PARTS
+    → IfOk (slice_index_or parts k d) (IsPartOf c outs size k)
 
 -- what is seen at more terminals was added
 pub record AddsSeen (part old new : Views) : Type 0 where

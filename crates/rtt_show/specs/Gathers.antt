@@ -21,5 +21,6 @@ pub record Gathered (tells : Type 0) (recording : Recording) (found : Findings) 
 
 -- there is no recording, where the fault is none of the source
 abbrev pub RecordingIsRefused : Recording → RecordingFault → Type 0
-RecordingIsRefused recording (Dump fault) = is_of_source fault.kind ≡ false → if_no_recording recording.fault ≡ Some (record { byte = fault.offset; kind = fault.kind })
+RecordingIsRefused recording (Dump fault) = is_of_source fault.kind ≡ false
+    → if_no_recording recording.fault ≡ Some (record { byte = fault.offset; kind = fault.kind })
 RecordingIsRefused recording NoMemory = Unit {0}

@@ -17,4 +17,5 @@ pub record IsMissed (payload_types : PayloadTypes) (ssrc : ℕ) (m : Losses) (ca
 -- where these are the numbers, and so many packets were used
 abbrev pub IsMissedOf : PayloadTypes → ℕ → Spread → ℕ → Losses → List Item → Type 0
 IsMissedOf payload_types ssrc spread n m came =
-    IsSpread spread (numbers_of payload_types ssrc came) → n ≡ length (used usual_wait (numbers_of payload_types ssrc came)) → IsMissed payload_types ssrc m came
+    IsSpread spread (numbers_of payload_types ssrc came)
+    → n ≡ length (used usual_wait (numbers_of payload_types ssrc came)) → IsMissed payload_types ssrc m came

@@ -16,7 +16,8 @@ use Rattle.rtt_show.specs.Surveys.{IsSurvey}
 
 -- if the octets are a packet of text, it is from there
 abbrev pub IsOrigin : Origin → List ℕ → Type 0
-IsOrigin o octets = (asked : Option ℕ) (payload_types : PayloadTypes) (p : Packet) → text_of octets asked payload_types ≡ Ok p → (p.source ≡ o.source) × (p.seq ≡ o.seq)
+IsOrigin o octets = (asked : Option ℕ) (payload_types : PayloadTypes) (p : Packet)
+    → text_of octets asked payload_types ≡ Ok p → (p.source ≡ o.source) × (p.seq ≡ o.seq)
 
 -- where the row begins: at a packet from there, if none came yet
 abbrev pub begin_of : Row → Origin → Origin
@@ -57,8 +58,10 @@ pub record IsRow (row : Row) (came : List Item) : Type 0 where
   pub packets : row.packets ≡ length came
   pub from : row.from ≡ least_time came
   pub to : row.to ≡ greatest_time came
-  pub straight : (ssrc : ℕ) (payload_types : PayloadTypes) → AreTexts ssrc payload_types came → IsStraight row ssrc payload_types came
+  pub straight : (ssrc : ℕ) (payload_types : PayloadTypes) → AreTexts ssrc payload_types came
+      → IsStraight row ssrc payload_types came
 
 -- this is what is found out of packets that come in the row, if each is one of text of the stream
 abbrev pub SurveysRow : Row → Survey → Type 0
-SurveysRow row s = (payload_types : PayloadTypes) (ssrc : ℕ) (came : List Item) → IsRow row came → AreTexts ssrc payload_types came → IsSurvey payload_types ssrc s came
+SurveysRow row s = (payload_types : PayloadTypes) (ssrc : ℕ) (came : List Item) → IsRow row came
+    → AreTexts ssrc payload_types came → IsSurvey payload_types ssrc s came

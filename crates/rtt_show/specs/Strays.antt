@@ -114,5 +114,6 @@ IsBound n f s = IsShort n f × IsFewStrays n s
 
 -- what these octets are came besides
 abbrev pub StrayedMore : Follower → Strays → ℕ → Result Packet TextFault → Follower → Strays → Type 0
-StrayedMore f s at (Ok packet) g t = (past : List Arrival) → Strayed f s past → Strayed g t (arriving past at packet ∷ past)
+StrayedMore f s at (Ok packet) g t = (past : List Arrival) → Strayed f s past
+    → Strayed g t (arriving past at packet ∷ past)
 StrayedMore f s at (Err fault) g t = (past : List Arrival) → Strayed f s past → Strayed g t past

@@ -53,7 +53,8 @@ sources_of payload_types items ssrcs = map (λ ssrc. sources ssrc payload_types 
 
 -- the records are these, and the streams have their packets
 abbrev pub ForItems : PayloadTypes → List Group → (List Item → Type 0) → Type 0
-ForItems payload_types streams P = (items : List Item) → length items < 2 ^ 32 → All (GroupHolds (stream_of payload_types) items) streams → P items
+ForItems payload_types streams P = (items : List Item) → length items < 2 ^ 32
+    → All (GroupHolds (stream_of payload_types) items) streams → P items
 
 abbrev pub all_numbers : PayloadTypes → List Item → List ℕ → List Line
 all_numbers payload_types items ssrcs = map written (flat_map (λ ssrc. number_lines ssrc (numbered (arrivals_in payload_types items ssrc))) ssrcs)

@@ -76,7 +76,8 @@ with_given story given = record story { given = given }
 
 -- all that is ready was given, and is kept
 abbrev pub Drains : State → List Due → State → List Due → Type 0
-Drains old used new more = (story : Story) → Tracks old story → used ≡ map due_in story.given → Tracks new (with_given story (ready_dues story)) × (more ≡ map due_in (ready_dues story))
+Drains old used new more = (story : Story) → Tracks old story → used ≡ map due_in story.given
+    → Tracks new (with_given story (ready_dues story)) × (more ≡ map due_in (ready_dues story))
 
 -- this packet came at the moment
 abbrev pub HearsPacket : ℕ → Packet → State → StreamPackets → State → StreamPackets → Type 0
@@ -99,11 +100,13 @@ pub record Listening (ssrc : ℕ) (payload_types : PayloadTypes) (t : State) (h 
 
 -- a packet with these octets came
 abbrev pub HearsOctets : ℕ → PayloadTypes → ℕ → List ℕ → State → StreamPackets → State → StreamPackets → Type 0
-HearsOctets ssrc payload_types at octets t old u new = (items : List Item) → Listening ssrc payload_types t old items → Listening ssrc payload_types u new (items ++ sent_item (at, octets) ∷ [])
+HearsOctets ssrc payload_types at octets t old u new = (items : List Item)
+    → Listening ssrc payload_types t old items → Listening ssrc payload_types u new (items ++ sent_item (at, octets) ∷ [])
 
 -- nothing came before, and then these records
 abbrev pub HearsRecords : ℕ → PayloadTypes → List ℕ → State → StreamPackets → State → StreamPackets → Type 0
-HearsRecords ssrc payload_types octets t old u new = Listening ssrc payload_types t old [] → OfRecords octets (Listening ssrc payload_types u new)
+HearsRecords ssrc payload_types octets t old u new = Listening ssrc payload_types t old []
+    → OfRecords octets (Listening ssrc payload_types u new)
 
 -- ---- once all is heard
 

@@ -38,7 +38,8 @@ IsLate h came = (past : List Numbered) → HasNumbers h past → came ≡ map ca
 
 -- numbers rise
 abbrev pub AreAbove : List Due → Type 0
-AreAbove used = (k : ℕ) (d : Due) → k + 1 < length used → due_number (slice_index_or used k d) < due_number (slice_index_or used (k + 1) d)
+AreAbove used = (k : ℕ) (d : Due) → k + 1 < length used
+    → due_number (slice_index_or used k d) < due_number (slice_index_or used (k + 1) d)
 
 -- this part has the same numbers from one up to, but without, another
 abbrev pub IsPart : ℕ → ℕ → List ℕ → List ℕ → Type 0
@@ -79,4 +80,5 @@ abbrev pub late_lines : ℕ → List TimedPacket → List Line
 late_lines ssrc came = map (came_line ssrc) came
 
 abbrev pub AddsNumbers : ℕ → StreamPackets → Lines → Lines → Type 0
-AddsNumbers ssrc h old new = (past : List Numbered) → HasNumbers h past → AddsLines old (map written (number_lines ssrc past)) new
+AddsNumbers ssrc h old new = (past : List Numbered) → HasNumbers h past
+    → AddsLines old (map written (number_lines ssrc past)) new

@@ -29,7 +29,8 @@ Written r first ear lines settings source story = (gave : List Chunk) × GaveSom
 -- ---- what calls make of it
 -- it was told nothing, and what is ready was written
 abbrev pub WritesReady : ReadRequest → Ear → Lines → Ear → Lines → Type 0
-WritesReady r before old after new = (first : Lines) (settings : EarSettings) (source : ℕ) (story : Story) → Written r first before old settings source story
+WritesReady r before old after new = (first : Lines) (settings : EarSettings) (source : ℕ) (story : Story)
+    → Written r first before old settings source story
     → Written r first after new settings source story × AddsLines first (lines_of r (ready_chunks settings source story)) new
 
 -- these octets came at this moment, and some of what is ready was written
@@ -39,7 +40,8 @@ WritesPacket r at octets before old after new = (first : Lines) (settings : EarS
 
 -- it was told of the end, and everything was written
 abbrev pub WritesEnd : ReadRequest → Ear → Lines → Lines → Type 0
-WritesEnd r before old new = (first : Lines) (settings : EarSettings) (source : ℕ) (story : Story) → Written r first before old settings source story
+WritesEnd r before old new = (first : Lines) (settings : EarSettings) (source : ℕ) (story : Story)
+    → Written r first before old settings source story
     → AddsLines first (lines_of r (story_chunks settings source story)) new
 
 -- ---- the records of a stream
@@ -57,7 +59,8 @@ BeginsWriting r ear = (first : Lines) → HasWritten r first [] ear first
 
 -- nothing came before, and then these records
 abbrev pub WritesRecords : ReadRequest → List ℕ → Ear → Lines → Ear → Lines → Type 0
-WritesRecords r octets before old after new = (first : Lines) → HasWrittenOf r first before old [] → OfRecords octets (HasWrittenOf r first after new)
+WritesRecords r octets before old after new = (first : Lines) → HasWrittenOf r first before old []
+    → OfRecords octets (HasWrittenOf r first after new)
 
 -- the lines of the source were added, of the stream with these records
 abbrev pub AddsSource : ReadRequest → List ℕ → Lines → Lines → Type 0

@@ -119,15 +119,19 @@ pub record ComesToMixing (WorldTells : Type 0) (held : Contents) (command : Comm
   pub recordings : (k : ℕ) → is_recording command (suc k) ≡ true
   pub input : (k : ℕ) (leg : LegLine) → leg_at c.legs k ≡ Some leg → (WorldTells → LieBelow k held c.legs)
       → IsInput WorldTells held (work command).steps (suc k) leg.input
-  pub output : (WorldTells → AllLie held c.legs) → (WorldTells → (printed : List ℕ) × (files : List Made) × (steps_of held c ≡ Makes printed files))
-      → (n : ℕ) (leg : LegLine) → leg_at c.legs n ≡ Some leg → IsOutput WorldTells held (work command).steps n leg.output
-  pub comes : WorldTells → AllLie held c.legs → outcome held (work command).steps ≡ outcome_from (length c.legs + 1) held (steps_counted held c)
+  pub output : (WorldTells → AllLie held c.legs)
+      → (WorldTells → (printed : List ℕ) × (files : List Made) × (steps_of held c ≡ Makes printed files))
+      → (n : ℕ) (leg : LegLine) → leg_at c.legs n ≡ Some leg
+      → IsOutput WorldTells held (work command).steps n leg.output
+  pub comes : WorldTells → AllLie held c.legs
+      → outcome held (work command).steps ≡ outcome_from (length c.legs + 1) held (steps_counted held c)
 
 -- By what lies in files, a command makes these outputs of legs, and prints this.
 pub record MakesOutputs (WorldTells : Type 0) (held : Contents) (command : Command) (legs : List LegLine) (printed : List ℕ) (files : List Made) : Type 0 where
   pub reads : WhereRead (work command).steps WorldTells → WorldTells
   pub prints : (work command).prints ≡ true
-  pub output : (n : ℕ) (leg : LegLine) → leg_at legs n ≡ Some leg → IsOutput WorldTells held (work command).steps n leg.output
+  pub output : (n : ℕ) (leg : LegLine) → leg_at legs n ≡ Some leg
+      → IsOutput WorldTells held (work command).steps n leg.output
   pub comes : WorldTells → outcome held (work command).steps ≡ Done printed files
 
 -- a live call of it is served
@@ -160,6 +164,7 @@ module _ {W S D K : Type 0} (w : worlds.Ghosts W S D) (k : sinks.Ghosts K) where
   -- `cascade` ends so where the file of any name has this conference, behind a mixer of this SSRC, which is recorded in this file.
   abbrev pub CascadingEnds : W → K → W → K → List ℕ → ℕ → Conference → Ending → Type 0
   CascadingEnds old out new out_then file ssrc c ending =
-      (conference octets : List ℕ) → (w.tells → w.contents old conference ≡ Some octets) → conference_from Files octets ≡ Ok c
+      (conference octets : List ℕ) → (w.tells → w.contents old conference ≡ Some octets)
+      → conference_from Files octets ≡ Ok c
       → EndsAcross w k (Cascade (record { file = file; ssrc = ssrc; conference = conference })) old out new out_then
       (ending_behind conference file c.legs ending) ending

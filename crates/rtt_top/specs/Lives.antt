@@ -68,15 +68,18 @@ served_by Alone c LinksTell old new = IsServedTo c LinksTell old new
 served_by Watched c LinksTell old new = IsWatchedTo c LinksTell old new
 
 -- a conference that some file of its form describes was served, as S says
-abbrev pub ServedAs : (S : Conference → Type 0 → LinksLeft → LinksLeft → End → List ℕ → Type 0) → Type 0 → LinksLeft → LinksLeft → Conference → End → List ℕ → Type 0
-ServedAs S LinksTell old new c end printed = (octets : List ℕ) → conference_from Links octets ≡ Ok c → S c LinksTell old new end printed
+abbrev pub ServedAs : (S : Conference → Type 0 → LinksLeft → LinksLeft → End → List ℕ → Type 0) → Type 0
+    → LinksLeft → LinksLeft → Conference → End → List ℕ → Type 0
+ServedAs S LinksTell old new c end printed = (octets : List ℕ) → conference_from Links octets ≡ Ok c
+    → S c LinksTell old new end printed
 
 -- it was served to some end, as S says, and this holds of what was printed of it
 abbrev pub IsServedWith : (S : End → List ℕ → Type 0) → (List ℕ → Type 0) → Type 0
 IsServedWith S P = (end : End) × (printed : List ℕ) × S end printed × P printed
 
 -- how a live call of a conference ends, by what links and the output left
-abbrev pub LiveEnds : (S : End → List ℕ → Type 0) (OutTells : Type 0) → (old new : LinksLeft) → (before after : Output) → Conference → Ending → Type 0
+abbrev pub LiveEnds : (S : End → List ℕ → Type 0) (OutTells : Type 0) → (old new : LinksLeft)
+    → (before after : Output) → Conference → Ending → Type 0
 LiveEnds S OutTells old new before after c (Ok done) =
     IsServedWith S (λ printed. OutTells → after.octets ≡ before.octets ++ printed)
 LiveEnds S OutTells old new before after c (Err WrongWords) = ⊥
@@ -91,7 +94,8 @@ LiveEnds S OutTells old new before after c (Err (LinkFailed leg)) = (after ≡ b
 LiveEnds S OutTells old new before after c (Err NoMemory) = after ≡ before
 
 -- the same of a conference that some file of its form describes
-abbrev pub ServingEnds : (S : End → List ℕ → Type 0) (OutTells : Type 0) → (old new : LinksLeft) → (before after : Output) → Conference → Ending → Type 0
+abbrev pub ServingEnds : (S : End → List ℕ → Type 0) (OutTells : Type 0) → (old new : LinksLeft)
+    → (before after : Output) → Conference → Ending → Type 0
 ServingEnds S OutTells old new before after c ending =
     (octets : List ℕ) → conference_from Links octets ≡ Ok c → LiveEnds S OutTells old new before after c ending
 

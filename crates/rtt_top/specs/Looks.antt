@@ -63,16 +63,19 @@ module _ {W S D : Type 0} (w : worlds.Ghosts W S D) where
 
   -- so of the input of this number, whatever was before where nothing was changed since
   abbrev pub IsUnreadAt : ℕ → W → W → List ℕ → Fault → Type 0
-  IsUnreadAt input old new name fault = (before : W) → SameIn before old → IsUnreadWhere (λ n. n ≡ input) before new name fault
+  IsUnreadAt input old new name fault = (before : W) → SameIn before old
+      → IsUnreadWhere (λ n. n ≡ input) before new name fault
 
   -- so of the IN of one of these legs
   abbrev pub IsUnreadAmong : ℕ → List ℕ → List LegLine → ℕ → W → W → List ℕ → Fault → Type 0
-  IsUnreadAmong limit conference legs first old new name fault = (before : W) → SameIn before old → (told : checking.Report)
+  IsUnreadAmong limit conference legs first old new name fault = (before : W) → SameIn before old
+      → (told : checking.Report)
       → IsUnreadWhere (IsInputFrom w.tells (w.contents before) (steps_of (looks_at limit conference legs told)) first name) before new name fault
 
   -- this is told of the IN of a leg
   abbrev pub LooksAtIn : ℕ → List ℕ → LegLine → W → Option Report → Type 0
-  LooksAtIn limit conference leg old found = (before : W) → SameIn before old → LooksAt w.tells (w.contents before) limit conference leg found
+  LooksAtIn limit conference leg old found = (before : W) → SameIn before old
+      → LooksAt w.tells (w.contents before) limit conference leg found
 
   -- this is told of those of all these legs, and of the file where there is nothing to tell of them
   abbrev pub LooksAmongIn : ℕ → List ℕ → List LegLine → W → Option Report → Type 0

@@ -6,7 +6,8 @@ use Rattle.command_spec.specs.Work.{Contents, Made, IsNth}
 use Rattle.rtt_top.specs.Runs.{PartlyStored}
 
 -- One of the files could not be written: those before it are whole, and those behind it as before.
-abbrev pub IsUnwritten : (WorldTells : Type 0) → (Call Object : List ℕ → Type 0) → List Made → Contents → Contents → Fault → Type 0
+abbrev pub IsUnwritten : (WorldTells : Type 0) → (Call Object : List ℕ → Type 0) → List Made → Contents
+    → Contents → Fault → Type 0
 IsUnwritten WorldTells Call Object files old new WrongWords = ⊥
 IsUnwritten WorldTells Call Object files old new (CannotOpen input) = ⊥
 IsUnwritten WorldTells Call Object files old new (CannotRead input) = ⊥

@@ -69,7 +69,8 @@ abbrev pub with_links : Outside → LinksLeft → Outside
 with_links o left = record o { links = left }
 
 -- what lies outside, where this is the world, this the output and these the links
-abbrev pub outside_over : {W S D K L I O C : Type 0} → worlds.Ghosts W S D → sinks.Ghosts K → links.Ghosts L I O C → W → K → L → Outside
+abbrev pub outside_over : {W S D K L I O C : Type 0} → worlds.Ghosts W S D → sinks.Ghosts K
+    → links.Ghosts L I O C → W → K → L → Outside
 outside_over w k l world out left = with_links (outside_at w k world out) (left_by l left)
 
 -- the count of this name rose

@@ -30,7 +30,8 @@ IsViewOf view recording printed = (octets : List ℕ) → recording ≡ dump usu
 
 -- the same, where they tell this start
 abbrev pub IsViewFrom : (List ℕ → List ℕ) → Option ℕ → Recording → List ℕ → Type 0
-IsViewFrom view start recording printed = (octets : List ℕ) → recording ≡ dump usual_limit octets → start ≡ start_of octets → printed ≡ view octets
+IsViewFrom view start recording printed = (octets : List ℕ) → recording ≡ dump usual_limit octets
+    → start ≡ start_of octets → printed ≡ view octets
 
 -- a recording is refused so, and this is the fault of its reading, where that is none of the source
 abbrev pub IsRefusal : Option dumps.Fault → RecordingFault → Type 0

@@ -16,8 +16,10 @@ pub record IsTold (told : Report) (OutTells : Type 0) (before after : Output) (s
   pub front : status ≡ 7 → OutTells → (n : ℕ) × (after.octets ≡ before.octets ++ take n told.text)
 
 -- where `check` is asked for, what it tells is what lies there and what ports answer, as far as both are told
-abbrev pub RunsLook : Option Command → (WorldTells OutTells PortsTell : Type 0) → Answers → Contents → Output → Output → ℕ → Type 0
-RunsLook (Some (Check w)) WorldTells OutTells PortsTell answers held before after status = WorldTells → PortsTell → (told : Report)
+abbrev pub RunsLook : Option Command → (WorldTells OutTells PortsTell : Type 0) → Answers → Contents → Output
+    → Output → ℕ → Type 0
+RunsLook (Some (Check w)) WorldTells OutTells PortsTell answers held before after status = WorldTells
+    → PortsTell → (told : Report)
     → told_over answers held (look w.file) ≡ Some told → IsTold told OutTells before after status
 RunsLook _ WorldTells OutTells PortsTell answers held before after status = Unit {0}
 

@@ -15,4 +15,5 @@ recording_at log terminal = slice_index_or (recordings_of log) terminal []
 -- for each terminal a pen to it
 pub record ArePensTo (log : State) (pens : List Pen) : Type 0 where
   pub each : length pens ≡ length log
-  pub stand : (terminal : ℕ) (x : Sending) (p : Pen) → slice_get log terminal ≡ Some x → slice_get pens terminal ≡ Some p → IsPenTo x p
+  pub stand : (terminal : ℕ) (x : Sending) (p : Pen) → slice_get log terminal ≡ Some x
+      → slice_get pens terminal ≡ Some p → IsPenTo x p

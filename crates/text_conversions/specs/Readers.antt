@@ -13,11 +13,13 @@ after fs r = record { frames = fs ++ r.frames; fault = r.fault }
 
 -- whatever follows, octets at one place are read as these frames and then what is at another place
 abbrev pub LeadsFrames : frames.Place → List ℕ → List ℕ → List Frame → frames.Place → List ℕ → Type 0
-LeadsFrames p held given fs q left = (more : List ℕ) → reading_from p (held ++ (given ++ more)) ≡ after fs (reading_from q (left ++ more))
+LeadsFrames p held given fs q left = (more : List ℕ)
+    → reading_from p (held ++ (given ++ more)) ≡ after fs (reading_from q (left ++ more))
 
 -- whatever follows, octets have this fault, and no frame in front of it
 abbrev pub Fails : frames.Place → List ℕ → List ℕ → FrameRefusal → Type 0
-Fails p held given fault = (more : List ℕ) → reading_from p (held ++ (given ++ more)) ≡ record { frames = []; fault = Some fault }
+Fails p held given fault = (more : List ℕ)
+    → reading_from p (held ++ (given ++ more)) ≡ record { frames = []; fault = Some fault }
 
 -- ---- a reader that was given these octets
 -- the frames of octets, whatever follows them
@@ -26,7 +28,8 @@ given_by octets = (read_frames octets).frames
 
 -- with no fault, what follows is read behind what is held; a fault is that of the octets, whatever follows them
 abbrev pub Goes : frames.Place → List ℕ → Option FrameRefusal → List ℕ → Type 0
-Goes p held None octets = (more : List ℕ) → read_frames (octets ++ more) ≡ after (given_by octets) (reading_from p (held ++ more))
+Goes p held None octets = (more : List ℕ)
+    → read_frames (octets ++ more) ≡ after (given_by octets) (reading_from p (held ++ more))
 Goes p held (Some fault) octets = (lasting (Some fault) ≡ Some fault) × ((more : List ℕ) → read_frames (octets ++ more) ≡ record { frames = given_by octets; fault = Some fault })
 
 abbrev pub Stands : FrameReader → List ℕ → Type 0
@@ -45,8 +48,10 @@ pub record IsFed (r : FrameReader) (before behind : List ℕ) (out : List Frame)
 
 -- Whatever octets it was given before.
 abbrev pub Feeds : FrameReader → FrameReader → List ℕ → List Frame → Result ℕ FrameRefusal → Type 0
-Feeds old new piece out (Ok taken) = (octets : List ℕ) → Stands old octets → IsFed new octets (octets ++ take taken piece) out None
-Feeds old new piece out (Err fault) = (octets : List ℕ) → Stands old octets → IsFed new octets (octets ++ piece) out (Some fault)
+Feeds old new piece out (Ok taken) = (octets : List ℕ) → Stands old octets
+    → IsFed new octets (octets ++ take taken piece) out None
+Feeds old new piece out (Err fault) = (octets : List ℕ) → Stands old octets
+    → IsFed new octets (octets ++ piece) out (Some fault)
 
 -- the frames of one step, behind those that were there
 pub record IsTaken (old new : FrameReader) (piece : List ℕ) (before out : List Frame) (taken : ℕ) : Type 0 where

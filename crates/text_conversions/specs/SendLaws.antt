@@ -29,29 +29,37 @@ abbrev pub AcceptedAreLines : Type 0
 AcceptedAreLines = (octets : List ℕ) (lines : List ScriptLine) → script octets ≡ Ok lines → AreLines lines
 
 abbrev pub EndsAgree : Type 0
-EndsAgree = (settings : SenderSettings) (lines : List ScriptLine) (t u : ℕ) → IsEnd settings lines t → IsEnd settings lines u → recording_sent settings lines t ≡ recording_sent settings lines u
+EndsAgree = (settings : SenderSettings) (lines : List ScriptLine) (t u : ℕ) → IsEnd settings lines t
+    → IsEnd settings lines u → recording_sent settings lines t ≡ recording_sent settings lines u
 
 abbrev pub ScriptsEnd : Type 0
-ScriptsEnd = (settings : SenderSettings) (lines : List ScriptLine) → AreSettings settings → AreLines lines → full_line settings lines ≡ None → IsEnd settings lines (first_end settings lines)
+ScriptsEnd = (settings : SenderSettings) (lines : List ScriptLine) → AreSettings settings → AreLines lines
+    → full_line settings lines ≡ None → IsEnd settings lines (first_end settings lines)
 
 abbrev pub EndsComeEarly : Type 0
-EndsComeEarly = (settings : SenderSettings) (lines : List ScriptLine) → AreSettings settings → AreLines lines → full_line settings lines ≡ None → first_end settings lines < 80000000
+EndsComeEarly = (settings : SenderSettings) (lines : List ScriptLine) → AreSettings settings → AreLines lines
+    → full_line settings lines ≡ None → first_end settings lines < 80000000
 
 abbrev pub FirstIsFirst : Type 0
-FirstIsFirst = (settings : SenderSettings) (lines : List ScriptLine) (t : ℕ) → t < 2 ^ 31 → IsEnd settings lines t → first_end settings lines ≤ t
+FirstIsFirst = (settings : SenderSettings) (lines : List ScriptLine) (t : ℕ) → t < 2 ^ 31
+    → IsEnd settings lines t → first_end settings lines ≤ t
 
 -- ---- the history
 abbrev pub SentIsLawful : Type 0
-SentIsLawful = (settings : SenderSettings) (lines : List ScriptLine) (t : ℕ) → AreSettings settings → AreLines lines → t < 2 ^ 31 → Lawful (history_of settings lines t)
+SentIsLawful = (settings : SenderSettings) (lines : List ScriptLine) (t : ℕ) → AreSettings settings
+    → AreLines lines → t < 2 ^ 31 → Lawful (history_of settings lines t)
 
 abbrev pub SentIsOwn : Type 0
-SentIsOwn = (settings : SenderSettings) (lines : List ScriptLine) (t : ℕ) → Own settings.generations (history_of settings lines t)
+SentIsOwn = (settings : SenderSettings) (lines : List ScriptLine) (t : ℕ)
+    → Own settings.generations (history_of settings lines t)
 
 abbrev pub SentIsClosed : Type 0
-SentIsClosed = (settings : SenderSettings) (lines : List ScriptLine) (t : ℕ) → AreSettings settings → AreLines lines → t < 2 ^ 31 → IsEnd settings lines t → Closed settings.generations (history_of settings lines t)
+SentIsClosed = (settings : SenderSettings) (lines : List ScriptLine) (t : ℕ) → AreSettings settings
+    → AreLines lines → t < 2 ^ 31 → IsEnd settings lines t → Closed settings.generations (history_of settings lines t)
 
 abbrev pub AllTextIsSent : Type 0
-AllTextIsSent = (settings : SenderSettings) (lines : List ScriptLine) (t : ℕ) → AreLines lines → IsEnd settings lines t → primaries (history_of settings lines t) ≡ text_of_lines lines
+AllTextIsSent = (settings : SenderSettings) (lines : List ScriptLine) (t : ℕ) → AreLines lines
+    → IsEnd settings lines t → primaries (history_of settings lines t) ≡ text_of_lines lines
 
 -- ---- its recording
 abbrev pub RecordsAreReadBack : Type 0
@@ -61,12 +69,14 @@ RecordsAreReadBack =
 
 abbrev pub PacketsAreReadBack : Type 0
 PacketsAreReadBack =
-    (settings : SenderSettings) (lines : List ScriptLine) (t : ℕ) → AreSettings settings → settings.ssrc < 2 ^ 32 → AreLines lines → t < 2 ^ 31
+    (settings : SenderSettings) (lines : List ScriptLine) (t : ℕ) → AreSettings settings
+    → settings.ssrc < 2 ^ 32 → AreLines lines → t < 2 ^ 31
     → map (λ r. text_of r.1 (Some settings.ssrc) settings.payload_types) (records_sent settings lines t)
     ≡ map (λ x. Ok (own_packet (history_of settings lines t) x)) (placed (history_of settings lines t))
 
 abbrev pub ArrivalsMayCome : Type 0
-ArrivalsMayCome = (settings : SenderSettings) (lines : List ScriptLine) (t : ℕ) → IsReadable settings lines t → Come (history_of settings lines t) (arrivals_of settings lines t)
+ArrivalsMayCome = (settings : SenderSettings) (lines : List ScriptLine) (t : ℕ) → IsReadable settings lines t
+    → Come (history_of settings lines t) (arrivals_of settings lines t)
 
 abbrev pub AllArriveInTime : Type 0
 AllArriveInTime =
@@ -75,5 +85,6 @@ AllArriveInTime =
 
 abbrev pub AllTextIsHeard : Type 0
 AllTextIsHeard =
-    (settings : SenderSettings) (lines : List ScriptLine) (t wait : ℕ) → IsReadable settings lines t → IsEnd settings lines t
+    (settings : SenderSettings) (lines : List ScriptLine) (t wait : ℕ) → IsReadable settings lines t
+    → IsEnd settings lines t
     → concat (heard wait (arrivals_of settings lines t) settings.ssrc) ≡ text_of_lines lines
