@@ -259,6 +259,7 @@ fn size_of(batch: &Option<Batch>) -> u64 {
 fn waits<R: Wait + Copy + Drop>(rt: R, alloc: Global) -> Result<[u64; 2], BeginFault> {
     let mut journals = MemJournals::new(alloc);
     let (mut track, mut noter, _waiting) = begun(rt, alloc, &mut journals)?;
+    let track = &mut track;
     for _ in 0..300u32 {
         noter.note(0, &LARGE);
     }
