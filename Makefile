@@ -42,6 +42,7 @@ examples: $(PROGRAM)
 	examples/pictures/try $(PROGRAM)
 	examples/captures/try $(PROGRAM)
 	examples/wrong/try $(PROGRAM)
+	examples/octets/try $(PROGRAM)
 	examples/words
 	examples/columns --check
 	examples/definitions --check

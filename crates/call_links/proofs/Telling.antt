@@ -7,6 +7,7 @@ use Rattle.link_io.specs.declared.ends.LinkTake.{LinkTake}
 use Rattle.link_io.specs.Taking.{came_of, closes, taken_of}
 use Rattle.call_links.specs.declared.peers.Peer.{Peer}
 use Rattle.call_links.specs.Leaving.{after_taken, came_told, has_gone, is_farewell, peer_by, silent_since, takes_told}
+use Rattle.std.proofs.Math.Bool.{or-true as or_true}
 
 -- who has left comes not back
 pub stays : (longest : Option ℕ) (old new : Peer) (t : links.Taken) → new ≡ after_taken longest old t → old.left ≡ true → new.left ≡ true
@@ -22,10 +23,6 @@ told_closes p c = go p.left
 
 pub closes_told : (p : Peer) (came told : Came) → ((octets : List ℕ) → came_of told octets ≡ came_told p (came_of came octets)) → closes told ≡ (if p.left then true else closes came)
 closes_told p came told f = ap links.is_closing (f []) ∙ told_closes p (came_of came [])
-
-or_true : (x : Bool) → (x || true) ≡ true
-or_true true = refl
-or_true false = refl
 
 -- whether the link is closed, by what it was and what is told
 pub closed_more : (old new closed closing : Bool) → (old ≡ true → new ≡ true) → (new || (closed || closing)) ≡ ((old || closed) || (if new then true else closing))

@@ -24,7 +24,8 @@ impl<L: Links, S: Silence + Send> LeavingLinks<L, S> {
         requires { longest ≡ S.longest }
         ensures opened { (p : ℕ) → ⟦<LeavingLinks<L, S> as Links>⟧.opened result p ≡ L.opened links p }
         ensures leads { ⟦<LeavingLinks<L, S> as Links>⟧.leads result ≡ L.leads links }
-        ensures taken { (p : ℕ) → ⟦<LeavingLinks<L, S> as Links>⟧.taken_at result p ≡ takes_told S.longest (L.taken_at links p) }
+        ensures taken { (p : ℕ) → ⟦<LeavingLinks<L, S> as Links>⟧.taken_at result p
+            ≡ takes_told S.longest (L.taken_at links p) }
         ensures given { (p : ℕ) → ⟦<LeavingLinks<L, S> as Links>⟧.given_at result p ≡ L.given_at links p }
         ensures own { (p : ℕ) → ⟦<LeavingLinks<L, S> as Links>⟧.own_faults result p ≡ L.own_faults links p }
         ensures objects { (p : ℕ) → ⟦<LeavingLinks<L, S> as Links>⟧.object_faults result p ≡ L.object_faults links p }
@@ -42,7 +43,8 @@ impl<L: Links, S: Silence + Send> LeavingLinks<L, S> {
     pub fn into_links(self) -> L
         ensures opened { (p : ℕ) → ⟦<LeavingLinks<L, S> as Links>⟧.opened self p ≡ L.opened result p }
         ensures leads { ⟦<LeavingLinks<L, S> as Links>⟧.leads self ≡ L.leads result }
-        ensures taken { (p : ℕ) → ⟦<LeavingLinks<L, S> as Links>⟧.taken_at self p ≡ takes_told S.longest (L.taken_at result p) }
+        ensures taken { (p : ℕ) → ⟦<LeavingLinks<L, S> as Links>⟧.taken_at self p
+            ≡ takes_told S.longest (L.taken_at result p) }
         ensures given { (p : ℕ) → ⟦<LeavingLinks<L, S> as Links>⟧.given_at self p ≡ L.given_at result p }
         ensures own { (p : ℕ) → ⟦<LeavingLinks<L, S> as Links>⟧.own_faults self p ≡ L.own_faults result p }
         ensures objects { (p : ℕ) → ⟦<LeavingLinks<L, S> as Links>⟧.object_faults self p ≡ L.object_faults result p }

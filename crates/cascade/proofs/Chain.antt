@@ -1,6 +1,6 @@
 -- A conference behind another mixer whose inputs are read one after another.
 use Rattle.std.proofs.Common.{◌≡◌, ℕ, zero, suc, ◌+◌, ◌<◌, ◌≤◌, ◌⊎◌, inl, inr, Bool, true, false, cond, Option, Some, None, List, [], ◌∷◌, length, refl, ap, sym, subst, ◌∙◌, arith}
-use Rattle.std.specs.Prelude.{IsSome, map, unwrap_or}
+use Rattle.std.specs.Prelude.{map, unwrap_or}
 use Rattle.wire_spec.specs.Dump.{dump, dump_written, opening, records, records_within}
 use Rattle.wire_spec.specs.Dump as dumps
 use Rattle.wire_spec.specs.declared.faults.DumpKind.{DumpKind}
@@ -18,15 +18,8 @@ use Rattle.command_spec.specs.Mixing.{input_at, makes, mixes, unless_one_broken}
 use Rattle.command_spec.specs.Cascading.{cascades, is_on_trunk, mixes_over, mixes_splits, reads_others, trunk_limit, trunk_of, unless_faulty, unless_leg_faulty}
 use Rattle.cascade.specs.Inputs.{IsInputBehind, RefusesNoneBefore, input_name, input_number, number_from, own_name}
 use Rattle.cascade.specs.Texts.{AllOwnLie, OwnLieBelow, texts_of}
-
--- by whether a leg stands behind the other mixer
-pub by_trunk : (P : Bool → Type 0) (b : Bool) → (b ≡ true → P true) → (b ≡ false → P false) → P b
-by_trunk P true t f = t refl
-by_trunk P false t f = f refl
-
-some_under : (o : Option (List ℕ)) → IsSome o → o ≡ Some (unwrap_or o [])
-some_under None there = absurd (cc there)
-some_under (Some octets) there = refl
+use Rattle.command_spec.proofs.CascadeOutputs.{by_bool as by_trunk}
+use Rattle.command_spec.proofs.Outputs.{is_under as some_under}
 
 -- the splits of the legs, in leg order
 abbrev pub splits_by : (ℕ → List ℕ) → List LegLine → List (List ℕ)
@@ -320,7 +313,7 @@ broken_at limit n (o ∷ os) c table (suc k) byte kind w e =
     (omega (arith, r.0), r.1)
 
 -- ---- the whole
-length_texts : (held : Contents) (legs : List LegLine) (recordings : List (List ℕ)) → length (texts_of held legs recordings) ≡ length legs
+pub length_texts : (held : Contents) (legs : List LegLine) (recordings : List (List ℕ)) → length (texts_of held legs recordings) ≡ length legs
 length_texts held [] recordings = refl
 length_texts held (l ∷ legs) [] = ap suc (length_texts held legs [])
 length_texts held (l ∷ legs) (r ∷ rs) = ap suc (length_texts held legs rs)

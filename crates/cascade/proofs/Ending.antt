@@ -1,5 +1,5 @@
 -- How a conference behind another mixer ends, from how its recording is split and its legs are mixed.
-use Rattle.std.proofs.Common.{◌≡◌, ℕ, zero, suc, ◌<◌, ◌≤◌, true, false, cond, Option, Some, None, List, [], ◌∷◌, length, Result, Ok, Err, refl, ap, sym, subst, ◌∙◌, inl, inr, arith}
+use Rattle.std.proofs.Common.{◌≡◌, ℕ, zero, suc, ◌≤◌, true, false, cond, Option, Some, None, List, [], ◌∷◌, Result, Ok, Err, refl, ap, sym, subst, ◌∙◌, inl, inr, arith}
 use Rattle.std.specs.Prelude.{IsSome, map, unwrap_or}
 use Rattle.std.specs.List.{concat}
 use Rattle.rtt_io.specs.Counts.{Rose}
@@ -37,6 +37,7 @@ use Rattle.cascade.specs.Mixes.{AllKept, CountsKept, IsCaused, MixesFed}
 use Rattle.cascade.specs.Cascades.{AreSplits, IsBroken, IsFirst, IsMadeBehind, IsRefusedAt, IsUnsplit, NoneFailed, OthersKept, Stops, fault_of, outcome_behind, trunk_fault}
 use Rattle.cascade.proofs.Chain.{done_is, fault_at, input_named, is_input, none_before, none_first, number_rises, number_trunk, recording_refused, refused_is, some_read, splits_by, too_long_is}
 use Rattle.cascade.proofs.Mixing.{decide, text_at}
+use Rattle.command_spec.proofs.SentBack.{below_legs as leg_within}
 
 -- ---- the recording
 unsplit_input : (Told : Type 0) (held : Contents) (file : List ℕ) (ssrc : ℕ) (c : Conference) (input : ℕ) → input ≡ 1 → IsInputBehind Told held (cascades file ssrc c) input (input_name file c.legs input)
@@ -131,11 +132,6 @@ pub fed_since : (held mid : Contents) (recordings : List (List ℕ)) (c : Confer
 fed_since held mid recordings c result same m = subst (λ (h : Contents). MixesFed h recordings c result) (λ i n. same n i) m
 
 -- ---- the legs
-leg_within : (legs : List LegLine) (k : ℕ) (leg : LegLine) → leg_at legs k ≡ Some leg → k < length legs
-leg_within [] k leg at = absurd (cc at)
-leg_within (l ∷ legs) zero leg at = omega arith
-leg_within (l ∷ legs) (suc k) leg at = let below = leg_within legs k leg at in omega (arith, below)
-
 lie_below : (held : Contents) (legs : List LegLine) (n : ℕ) → AllOwnLie held legs → OwnLieBelow n held legs
 lie_below held legs n lie = λ k leg less at off. lie k leg (leg_within legs k leg at) at off
 

@@ -229,10 +229,6 @@ all_split t sources past old new a c = go sources new (c.0 ∙ a.each)
     go (s ∷ ss) (x ∷ xs) n f = λ i. f 0 x (omega arith) i ∷ go ss xs (omega (arith, n)) (λ k d b. f (suc k) d (omega (arith, b))) i
 
 -- ---- answers that are Ok
-pub on_ok : {T E P Q : Type 0} (r : Result T E) → OnOk r P → (P → Q) → OnOk r Q
-on_ok (Ok x) p f = f p
-on_ok (Err e) p f = tt
-
 pub on_ok3 : {T E P Q R S : Type 0} (r : Result T E) → OnOk r P → OnOk r Q → OnOk r R → (P → Q → R → S) → OnOk r S
 on_ok3 (Ok x) p q s f = f p q s
 on_ok3 (Err e) p q s f = tt

@@ -1,18 +1,13 @@
 -- A divider that is told of the records of a recording, one after another.
-use Rattle.std.proofs.Common.{◌≡◌, ℕ, ◌≤◌, List, [], ◌∷◌, ◌++◌, length, refl, sym, subst}
-use Rattle.rtt_base.specs.declared.text_packets.PayloadTypes.{PayloadTypes}
-use Rattle.wire_spec.specs.Packets.{Arrival}
-use Rattle.wire_spec.specs.Dump.{Item, arrivals_after, arrivals_with}
+use Rattle.std.proofs.Common.{ℕ, ◌≤◌, List, [], ◌∷◌, ◌++◌, length, sym, subst}
+use Rattle.wire_spec.specs.Dump.{Item, arrivals_after}
 use Rattle.reorder_buffer.specs.States.{arrival_count}
 use Rattle.rtpdump_io.specs.declared.readers.DumpReader.{DumpReader}
 use Rattle.rtpdump_io.proofs.Records.{ReadSome}
 use Rattle.cascade.specs.declared.dividers.Demux.{Demux}
 use Rattle.cascade.specs.Dividers.{IsListening, Listens}
 use Rattle.cascade.specs.Splits.{TakesItem, TakesItems}
-
-after_more : (ssrc : ℕ) (payload_types : PayloadTypes) (past : List Arrival) (items : List Item) (item : Item) → arrivals_after ssrc payload_types past (items ++ item ∷ []) ≡ arrivals_with ssrc payload_types item (arrivals_after ssrc payload_types past items)
-after_more ssrc payload_types past [] item = refl
-after_more ssrc payload_types past (i ∷ items) item = after_more ssrc payload_types (arrivals_with ssrc payload_types i past) items item
+use Rattle.wire_spec.proofs.Plain.{arrivals_more as after_more}
 
 -- one record more
 pub takes_more : (l m n : Demux) (items : List Item) (item : Item) → TakesItems l m items → TakesItem m n item → TakesItems l n (items ++ item ∷ [])

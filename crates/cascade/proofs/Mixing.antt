@@ -11,6 +11,7 @@ use Rattle.mixer_spec.specs.Bridged.{input_limit}
 use Rattle.command_spec.specs.Work.{Contents}
 use Rattle.command_spec.specs.Mixing.{input_at}
 use Rattle.command_spec.specs.Cascading.{is_on_trunk}
+use Rattle.receiver.specs.Cuts.{cut_within}
 use Rattle.leg.specs.Gives.{Stands, LegPast}
 use Rattle.mix_loop.proofs.Lists.{lt_or_ge}
 use Rattle.leg.specs.declared.inlets.LegInlet.{LegInlet}
@@ -19,15 +20,18 @@ use Rattle.mixer_posts.specs.Streams.{payload_types_of}
 use Rattle.cascade.specs.declared.trunk_sources.TrunkSource.{TrunkSource}
 use Rattle.cascade.specs.declared.trunk_sources.TrunkSource.TheVariants.{Split, Below}
 use Rattle.cascade.specs.TrunkSources.{below, faults_in, left_in, name_in}
+use Rattle.rtt_mix.specs.declared.hearings.LegHearing.{LegHearing}
 use Rattle.rtt_mix.specs.declared.results.MixFault.{MixFault}
 use Rattle.rtt_mix.specs.declared.results.MixFault.TheVariants.{Open, Dump, TooLong, NoMemory}
 use Rattle.rtt_mix.specs.declared.results.Mixed.{Mixed}
 use Rattle.rtt_mix.specs.Answered.{AreKept, IsOfLegs, MixesAsked, MixesTo, WasReadWell, asked_of}
-use Rattle.rtt_mix.proofs.Handing.{all_calm, by_reading, leg_before}
-use Rattle.rtt_mix.proofs.Opening.{is_there}
+use Rattle.rtt_mix.specs.Opened.{hearing_of}
+use Rattle.rtt_mix.proofs.Handing.{all_calm, by_reading, leg_before, never_rose as no_rise}
 use Rattle.cascade.specs.Texts.{AllOwnLie, text_of, texts_of}
 use Rattle.cascade.specs.Feeding.{AllFed, AreCalm, EachSource, IsNotOpened, LeavesCount, RisesFor, source_name}
 use Rattle.cascade.specs.Mixes.{CountsKept, IsCaused, MixesFed}
+use Rattle.cascade.proofs.Chain.{length_texts}
+use Rattle.stream_spec.proofs.Plain.{get_at as is_there}
 
 pub text_at : (held : Contents) (legs : List LegLine) (recordings : List (List ℕ)) (j : ℕ) (leg : LegLine) → leg_at legs j ≡ Some leg
     → input_at (texts_of held legs recordings) j ≡ text_of held (input_at recordings j) leg
@@ -37,18 +41,9 @@ text_at held (l ∷ legs) [] (suc j) leg at = text_at held legs [] j leg at
 text_at held (l ∷ legs) (r ∷ rs) zero leg at = let same : l ≡ leg = cc at in ap (text_of held r) same
 text_at held (l ∷ legs) (r ∷ rs) (suc j) leg at = text_at held legs rs j leg at
 
-length_texts : (held : Contents) (legs : List LegLine) (recordings : List (List ℕ)) → length (texts_of held legs recordings) ≡ length legs
-length_texts held [] recordings = refl
-length_texts held (l ∷ legs) [] = ap suc (length_texts held legs [])
-length_texts held (l ∷ legs) (r ∷ rs) = ap suc (length_texts held legs rs)
-
 pub decide : (b : Bool) → (b ≡ true) ⊎ (b ≡ false)
 decide true = inl refl
 decide false = inr refl
-
-no_rise : (old new : ℕ) → old ≡ 0 → new ≡ 0 → Rose old new → ⊥
-no_rise old new o n (inl l) = omega (arith, o, n, l)
-no_rise old new o n (inr e) = omega (arith, n, e)
 
 below_well : (j leg : ℕ) (fault : DumpFault) → j < leg → j < read_well leg fault
 below_well j leg fault low = go (is_of_source fault.kind)
@@ -62,15 +57,17 @@ split_calm : {S : Type 0} (faults : S → ℕ) (name : S → List ℕ) (s : Trun
 split_calm faults name (Split own) e = refl
 split_calm faults name (Below b) e = absurd (cc e)
 
-module _ {S : Type 0} (Told Tells : Type 0) (left : S → List ℕ) (faults : S → ℕ) (name : S → List ℕ) (held : Contents) (c : Conference) (recordings : List (List ℕ)) (lines : List LegLine) (limit : ℕ) (inlets : List (LegInlet (TrunkSource S)))
-    (are : lines ≡ c.legs) (fits : limit ≡ input_limit c) (count : length inlets ≡ length lines)
-    (fed_of : AllFed Told Tells (left_in left) (faults_in faults) (name_in name) held c.wait limit lines recordings inlets) where
+module _ {S : Type 0} (Told Tells : Type 0) (left : S → List ℕ) (faults : S → ℕ) (name : S → List ℕ) (held : Contents) (c : Conference) (recordings : List (List ℕ)) (lines : List LegLine) (hearing : LegHearing) (limit : ℕ) (inlets : List (LegInlet (TrunkSource S)))
+    (are : lines ≡ c.legs) (heard : hearing ≡ hearing_of c) (fits : limit ≡ input_limit c) (count : length inlets ≡ length lines)
+    (fed_of : AllFed Told Tells (left_in left) (faults_in faults) (name_in name) held hearing limit lines recordings inlets) where
   many : length inlets ≡ length c.legs
   many = count ∙ ap (λ (xs : List LegLine). length xs) are
 
-  fed : AllFed Told Tells (left_in left) (faults_in faults) (name_in name) held c.wait (input_limit c) c.legs recordings inlets
-  fed = subst (λ l. AllFed Told Tells (left_in left) (faults_in faults) (name_in name) held c.wait l c.legs recordings inlets) fits
-      (subst (λ (xs : List LegLine). AllFed Told Tells (left_in left) (faults_in faults) (name_in name) held c.wait limit xs recordings inlets) are fed_of)
+  fed : AllFed Told Tells (left_in left) (faults_in faults) (name_in name) held (hearing_of c) (input_limit c) c.legs recordings inlets
+  fed =
+      subst (λ h. AllFed Told Tells (left_in left) (faults_in faults) (name_in name) held h (input_limit c) c.legs recordings inlets) heard
+      (subst (λ l. AllFed Told Tells (left_in left) (faults_in faults) (name_in name) held hearing l c.legs recordings inlets) fits
+      (subst (λ (xs : List LegLine). AllFed Told Tells (left_in left) (faults_in faults) (name_in name) held hearing limit xs recordings inlets) are fed_of))
 
   abbrev pub texts : List (List ℕ)
   texts = texts_of held c.legs recordings
@@ -82,7 +79,7 @@ module _ {S : Type 0} (Told Tells : Type 0) (left : S → List ℕ) (faults : S 
   all_asked told tells = λ j p at.
       let o = fed j p at in
       let past : Option LegLine → List ℕ → LegPast = λ leg octets. record {
-        settings = record { ssrc = ssrc_of leg; payload_types = payload_types_of leg; wait = c.wait };
+        settings = record { ssrc = ssrc_of leg; payload_types = payload_types_of leg; wait = c.wait; cut = cut_within c.mtu };
         limit = input_limit c;
         octets = octets;
         gave = [];

@@ -15,8 +15,8 @@ use Rattle.command_spec.specs.Splitting.{Trunk}
 use Rattle.command_spec.specs.Cascading.{trunk_limit, trunk_of}
 use Rattle.rtt_mix.proofs.Opening.{rose_behind}
 use Rattle.cascade.specs.Cascades.{IsUnsplit, trunk_fault}
-use Rattle.command_spec.proofs.GroupSizes.{by_bool}
 use Rattle.cascade.proofs.Ending.{refused_at}
+use Rattle.command_spec.proofs.CascadeOutputs.{by_bool}
 
 -- the SSRCs of the legs differ
 pub ssrcs_differ : (legs : List LegLine) → AllPairs (λ a b. Differ a b) legs → AllPairs (λ a b. a ≢ b) (map (λ (leg : LegLine). leg.ssrc) legs)

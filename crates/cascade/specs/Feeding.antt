@@ -13,6 +13,7 @@ use Rattle.command_spec.specs.Mixing.{input_at}
 use Rattle.command_spec.specs.Cascading.{is_on_trunk}
 use Rattle.cascade.specs.TrunkSources.{below}
 use Rattle.rtt_mix.specs.Opened.{ear_of}
+use Rattle.rtt_mix.specs.declared.hearings.LegHearing.{LegHearing}
 use Rattle.rtt_mix.specs.declared.results.MixFault.{MixFault}
 use Rattle.rtt_mix.specs.declared.results.MixFault.TheVariants.{Open, Dump, TooLong, NoMemory}
 use Rattle.cascade.specs.Texts.{OwnLieBelow, text_of}
@@ -34,22 +35,24 @@ module _ {S : Type 0} where
     pub lies : Told → is_on_trunk leg ≡ false → IsSome (held leg.input)
 
   -- A leg over that source. Where sources tell what they hold, it hears that text.
-  pub record IsFedLeg (Told Tells : Type 0) (left : S → List ℕ) (faults : S → ℕ) (name : S → List ℕ) (held : Contents) (wait limit : ℕ) (leg : LegLine) (recording : List ℕ) (i : LegInlet S) : Type 0 where
+  pub record IsFedLeg (Told Tells : Type 0) (left : S → List ℕ) (faults : S → ℕ) (name : S → List ℕ) (held : Contents) (hearing : LegHearing) (limit : ℕ) (leg : LegLine) (recording : List ℕ) (i : LegInlet S) : Type 0 where
     pub not_over : is_over i.leg ≡ false
     pub source : IsFed Told left faults name held leg recording (source_in i)
-    pub told : Told → Tells → Stands left i.leg (begins (ear_of wait leg) limit (text_of held recording leg))
+    pub told : Told → Tells → Stands left i.leg (begins (ear_of hearing leg) limit (text_of held recording leg))
 
   -- these legs, in order, over these recordings or their inputs
-  abbrev pub AllFed : (Told Tells : Type 0) → (S → List ℕ) → (S → ℕ) → (S → List ℕ) → Contents → ℕ → ℕ
+  abbrev pub AllFed : (Told Tells : Type 0) → (S → List ℕ) → (S → ℕ) → (S → List ℕ) → Contents → LegHearing → ℕ
       → List LegLine → List (List ℕ) → List (LegInlet S) → Type 0
-  AllFed Told Tells left faults name held wait limit lines recordings legs = (j : ℕ) (i : LegInlet S)
+  AllFed Told Tells left faults name held hearing limit lines recordings legs = (j : ℕ) (i : LegInlet S)
       → slice_get legs j ≡ Some i
-      → (leg : LegLine) × (leg_at lines j ≡ Some leg) × IsFedLeg Told Tells left faults name held wait limit leg (input_at recordings j) i
+      → (leg : LegLine) × (leg_at lines j ≡ Some leg)
+      × IsFedLeg Told Tells left faults name held hearing limit leg (input_at recordings j) i
 
   -- the same of a whole list of legs
-  abbrev pub AreFed : (Told Tells : Type 0) → (S → List ℕ) → (S → ℕ) → (S → List ℕ) → Contents → ℕ → ℕ
+  abbrev pub AreFed : (Told Tells : Type 0) → (S → List ℕ) → (S → ℕ) → (S → List ℕ) → Contents → LegHearing → ℕ
       → List LegLine → List (List ℕ) → Vec (LegInlet S) → Type 0
-  AreFed Told Tells left faults name held wait limit lines recordings legs = AllFed Told Tells left faults name held wait limit lines recordings legs.items
+  AreFed Told Tells left faults name held hearing limit lines recordings legs =
+      AllFed Told Tells left faults name held hearing limit lines recordings legs.items
 
   -- this holds of each of these sources
   abbrev pub EachSource : (S → Type 0) → List (LegInlet S) → Type 0

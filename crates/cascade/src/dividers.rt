@@ -69,7 +69,8 @@ impl Demux {
         requires some { 0 < length sources.now }
         requires few { length sources.now ≤ MOST_SOURCES }
         requires differ { AllPairs (λ a b. a ≢ b) sources.now }
-        ensures listens { IfOk result (λ d. (limit : ℕ) → Listens d (record { ssrc = ssrc; payload_types = payload_types; wait = wait; limit = limit }) sources.now []) }
+        ensures listens { IfOk result (λ d. (limit : ℕ)
+            → Listens d (record { ssrc = ssrc; payload_types = payload_types; wait = wait; limit = limit }) sources.now []) }
         ensures arrivals { IfOk result (λ d. arrival_count d.buffer ≡ 0) }
     {
         Ok(Demux {

@@ -18,7 +18,9 @@ use file_spec::{Conference, LegLine};
 use leg::LegInlet;
 use rtt_base::Failed;
 use rtt_io::{Gate, World};
-use rtt_mix::{InputReturn, MixFault, Mixed, Readers, input_limit, leg_over, mix_opened};
+use rtt_mix::{
+    InputReturn, LegHearing, MixFault, Mixed, Readers, input_limit, leg_over, mix_opened,
+};
 use std::alloc::Global;
 use std::sync::Wait;
 use std::thread::Threads;
@@ -67,15 +69,15 @@ fn open_leg<'s, W: World>(
     alloc: Global,
     leg: &LegLine,
     number: u8,
-    wait: u32,
+    hearing: LegHearing,
     limit: u32,
     recording: &'s [u8],
     world: &mut W,
 ) -> Result<LegInlet<TrunkSource<'s, W::Src>>, MixFault>
-    requires wait { wait ≤ LONGEST_WAIT }
+    requires wait { hearing.wait ≤ LONGEST_WAIT }
     requires limit { limit ≤ MOST_RECORDING_OCTETS }
     ensures fed { IfOk result (IsFedLeg W.tells W.Src.tells (left_in W.Src.left) (faults_in W.Src.faults) (name_in W.Src.name)
-        (W.contents world.old) wait limit leg.now recording.now) }
+        (W.contents world.old) hearing limit leg.now recording.now) }
     ensures refused { IfErr result (IsOwnOpen W.own_faults world.old world.new number leg.now) }
     ensures no_other { W.tells → OnErr result (CountsNoOther W.contents W.own_faults leg.now.input world.old world.new) }
     ensures own_never_falls { NoneFalls W.own_faults world.old world.new }
@@ -86,7 +88,7 @@ fn open_leg<'s, W: World>(
     let Ok(source) = open_text(leg, recording, world) else {
         return Err(MixFault::Open { leg: number });
     };
-    match leg_over(alloc, leg, wait, limit, source) {
+    match leg_over(alloc, leg, hearing, limit, source) {
         Ok(inlet) => Ok(inlet),
         Err(lost) => {
             hand_back(lost.source, world);
@@ -118,18 +120,18 @@ fn close_legs<W: World>(inlets: Vec<LegInlet<TrunkSource<'_, W::Src>>>, world: &
 fn open_legs<'s, W: World>(
     alloc: Global,
     legs: &[LegLine],
-    wait: u32,
+    hearing: LegHearing,
     limit: u32,
     splits: &'s Splits,
     world: &mut W,
 ) -> Result<Vec<LegInlet<TrunkSource<'s, W::Src>>>, MixFault>
     requires few { length legs.now ≤ MOST_LEGS }
     requires each { length (recordings_of splits.now) ≡ length legs.now }
-    requires wait { wait ≤ LONGEST_WAIT }
+    requires wait { hearing.wait ≤ LONGEST_WAIT }
     requires limit { limit ≤ MOST_RECORDING_OCTETS }
     ensures legs { IfOk result (λ inlets. length inlets.items ≡ length legs.now) }
     ensures fed { IfOk result (AreFed W.tells W.Src.tells (left_in W.Src.left) (faults_in W.Src.faults) (name_in W.Src.name)
-        (W.contents world.old) wait limit legs.now (recordings_of splits.now)) }
+        (W.contents world.old) hearing limit legs.now (recordings_of splits.now)) }
     ensures refused { IfErr result (IsUnopened W.tells W.contents W.own_faults world.old world.new legs.now) }
     ensures first { IfErr result (IsFirstIn W.tells W.contents W.own_faults world.old world.new legs.now) }
     ensures calm { OnOk result (Same W.own_faults world.old world.new) }
@@ -146,7 +148,7 @@ fn open_legs<'s, W: World>(
             alloc,
             &legs[index],
             index as u8,
-            wait,
+            hearing,
             limit,
             recording,
             world,
@@ -182,11 +184,12 @@ pub(crate) fn mix_fed<R: Threads + Wait + Sync, W: World, G: Gate + Sync>(
     ensures calls_never_fall { NoneFalls W.own_faults world.old world.new }
     ensures objects_never_fall { NoneFalls W.object_faults world.old world.new }
 {
+    let hearing = LegHearing::of(conference);
     let limit = input_limit(conference);
     let legs = match open_legs(
         alloc,
         conference.legs.as_slice(),
-        conference.wait,
+        hearing,
         limit,
         splits,
         world,

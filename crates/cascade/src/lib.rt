@@ -21,8 +21,3 @@ pub use laws::all_splits_are_whole;
 pub use splits::{DemuxSettings, Splits, split};
 pub use trunk_sources::{SplitSource, TrunkSource};
 pub use trunks::odd_line;
-
-#[cfg(test)]
-mod mixed_tests;
-#[cfg(test)]
-mod tests;

@@ -124,7 +124,8 @@ pub fn split<S: Source>(
     requires some { 0 < length sources.now }
     requires few { length sources.now ≤ MOST_SOURCES }
     requires differ { AllPairs (λ a b. a ≢ b) sources.now }
-    ensures splits { S.tells → IfOk result.1 (λ s. recordings_of s ≡ splitting.splits (trunk_of ssrc settings) sources.now (S.left src)) }
+    ensures splits { S.tells → IfOk result.1
+        (λ s. recordings_of s ≡ splitting.splits (trunk_of ssrc settings) sources.now (S.left src)) }
     ensures each { IfOk result.1 (λ s. length (recordings_of s) ≡ length sources.now) }
     ensures whole { S.tells → OnOk result.1 ((dump settings.limit (S.left src)).fault ≡ None) }
     ensures fault { S.tells → IfErr result.1 (FaultOf (dump settings.limit (S.left src))) }

@@ -74,7 +74,7 @@ groups_sendable [] q = tt
 groups_sendable (c ∷ cs) q = from_sendable (alone c) cs q.0 q.1
 
 -- ---- packets
-plain_size : (payload_types : PayloadTypes) (s seq timestamp : ℕ) (text : List ℕ) → length (packet_written payload_types (packet_of s seq timestamp text)) ≡ 12 + length text
+pub plain_size : (payload_types : PayloadTypes) (s seq timestamp : ℕ) (text : List ℕ) → length (packet_written payload_types (packet_of s seq timestamp text)) ≡ 12 + length text
 plain_size payload_types s seq timestamp text = rw (eq-eqb s s refl) (omega arith)
 
 pub record IsBack (payload_types : PayloadTypes) (s : ℕ) (a : Arrival) : Type 0 where

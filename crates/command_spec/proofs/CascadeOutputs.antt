@@ -20,7 +20,7 @@ use Rattle.command_spec.specs.Cascading.{cascades, cascades_read, cascading, is_
 use Rattle.command_spec.proofs.Outputs.{each, empty_read, nth_out, silent, silent_table}
 use Rattle.command_spec.proofs.Reached.{done_parts, found}
 
-by_bool : (P : Bool → Type 0) (b : Bool) → (b ≡ true → P true) → (b ≡ false → P false) → P b
+pub by_bool : (P : Bool → Type 0) (b : Bool) → (b ≡ true → P true) → (b ≡ false → P false) → P b
 by_bool P true t f = t refl
 by_bool P false t f = f refl
 

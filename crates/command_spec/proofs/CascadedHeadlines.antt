@@ -39,6 +39,7 @@ use Rattle.command_spec.proofs.Regrouped.{groups_say}
 use Rattle.command_spec.proofs.Reached.{done_parts, found}
 use Rattle.command_spec.proofs.Ssrcs.{ssrcs_fit}
 use Rattle.command_spec.proofs.TrunkSizes.{input_fits}
+use Rattle.command_spec.proofs.CascadeOutputs.{by_bool}
 
 -- ---- what was read
 -- the texts of the legs were there
@@ -139,8 +140,8 @@ behind_of held ssrc octets b i leg lie fit at on same few plan heard_at = record
   kept_of = λ h law come.
       groups_say (heard_of b i) (map (λ c. c.text) (chunks_of b.conference.wait past leg.ssrc)) is_same
       ∙ ap concat (chunk_texts b.conference.wait 0 (still past) leg.ssrc ∙ l1 b.conference.wait (still_history h) (lawful_still h law) (still past) (come_still h past come) leg.ssrc);
-  headline = λ j pair h law come. headline_behind (trunk_of b.conference ssrc) octets b j i leg.ssrc (heard_at j pair) plan (λ k. is_recorded) h law come;
-  headline_all = λ stay j pair h law come. headline_all_behind (trunk_of b.conference ssrc) octets b j i leg.ssrc (heard_at j pair) plan (λ k. is_recorded) stay h law come;
+  headline = λ none j pair h law come. headline_behind (trunk_of b.conference ssrc) octets b j i leg.ssrc none (heard_at j pair) plan (λ k. is_recorded) h law come;
+  headline_all = λ none stay j pair h law come. headline_all_behind (trunk_of b.conference ssrc) octets b j i leg.ssrc none (heard_at j pair) plan (λ k. is_recorded) stay h law come;
 }
   where
     past : List Arrival
@@ -167,10 +168,6 @@ behind_of held ssrc octets b i leg lie fit at on same few plan heard_at = record
     is_recorded = subst (λ ts. Groups (heard_of b i) ts []) (chunk_texts b.conference.wait 0 (still past) leg.ssrc) is_same
 
 -- ---- the whole
-by_bool : (P : Bool → Type 0) (b : Bool) → (b ≡ true → P true) → (b ≡ false → P false) → P b
-by_bool P true t f = t refl
-by_bool P false t f = f refl
-
 -- where no line is odd, no leg behind the other mixer has other types
 not_odd : (legs : List LegLine) (i : ℕ) (leg : LegLine) → odd_line legs ≡ None → leg_at legs i ≡ Some leg → has_other_types leg ≡ false
 not_odd [] i leg none at = absurd (cc at)

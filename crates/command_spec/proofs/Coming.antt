@@ -17,6 +17,7 @@ use Rattle.mixer_spec.proofs.PlanOrder.{order_law}
 use Rattle.view_spec.specs.Seen.{Reception, Text, fate_of, fate_at, is_packet, is_refused, is_foreign, many}
 use Rattle.mixer_spec.specs.Arrives.{item_of, came}
 use Rattle.command_spec.proofs.SentBack.{IsBack}
+use Rattle.mixer_spec.proofs.Arriving.{length_map}
 
 abbrev record_of : PayloadTypes → Arrival → ℕ × List ℕ
 record_of payload_types a = (a.time, packet_written payload_types a.packet)
@@ -112,10 +113,6 @@ one_each zero [] payload_types = refl
 one_each (suc k) [] payload_types = refl
 one_each zero (a ∷ sent) payload_types = refl
 one_each (suc k) (a ∷ sent) payload_types = one_each k sent payload_types
-
-length_map : {X Y : Type 0} (f : X → Y) (xs : List X) → length (map f xs) ≡ length xs
-length_map f [] = refl
-length_map f (x ∷ xs) = ap suc (length_map f xs)
 
 as_many : (payload_types : PayloadTypes) (sent : List Arrival) (cs : List Copy) → length (flat_map (item_of (map (record_of payload_types) sent)) cs) ≡ length (arrivals_of_copies sent cs)
 as_many payload_types sent [] = refl

@@ -4,14 +4,14 @@ use Rattle.std.specs.Prelude.{map, filter, codes, decimal, All, AllPairs, IsUtf8
 use Rattle.std.specs.List.{range_with_len}
 use Rattle.std.specs.Char.{encode_utf8}
 use Rattle.std.proofs.Math.Nat.{mod-lt}
-use Rattle.std.proofs.lemmas.Bool.{le-leb, cases_lt}
+use Rattle.std.proofs.lemmas.Bool.{le-leb, cases_lt, not-true as not_true}
 use Rattle.std.proofs.lemmas.Fmt.{decimal_digit, decimal_step, decimal_injective}
 use Rattle.std.proofs.lemmas.List.{append_cancel_left, append_cancel_right, length-map}
 use Rattle.std.proofs.lemmas.List.Elements.{All-nil, All-cons, All-head, All-tail, All-map, All-filter, All-weaker, filter_passes}
 use Rattle.std.proofs.lemmas.List.FromFn.{get_or-map-range_with_len, length-map-range_with_len}
 use Rattle.std.proofs.lemmas.List.Kept.{AllPairs-cons, AllPairs-filter}
 use Rattle.std.proofs.lemmas.List.Sums.{count_by-le-length, length-filter}
-use Rattle.std.proofs.lemmas.Str.{IsUtf8-nil, IsUtf8-append, IsUtf8-from_ascii}
+use Rattle.std.proofs.lemmas.Str.{IsUtf8-nil, IsUtf8-append}
 use Rattle.file_spec.specs.declared.limits.TheConstants.{LAST_MOMENT}
 use Rattle.file_spec.specs.declared.conference_lines.LegLine.{LegLine}
 use Rattle.file_spec.specs.declared.conference_lines.PlanLine.{PlanLine}
@@ -23,6 +23,7 @@ use Rattle.file_spec.specs.Stays.{stays_at}
 use Rattle.command_spec.specs.Draws.{Drawing, draw, give, next, times}
 use Rattle.command_spec.specs.Generated.{Generated, Typist, behind_word, conference_of, delay, drawn, generated, leg, letter, mixer, plan_line, script_from, text, typist, what, without_repeats}
 use Rattle.command_spec.specs.Scripts.{AreLines, InOrder}
+use Rattle.file_spec.proofs.NameTexts.{one_ascii as one_letter}
 
 -- ---- whatever the state is, this holds of what is drawn
 abbrev Always : {A : Type 0} → (A → Type 0) → Drawing A → Type 0
@@ -46,9 +47,6 @@ count drawing (suc n) state = let e = count drawing n (drawing state).1 in omega
 pub record IsTyped (octets : List ℕ) : Type 0 where
   pub utf8 : IsUtf8 octets
   pub short : length octets ≤ 15
-
-one_letter : (c : ℕ) → c < 128 → IsUtf8 (c ∷ [])
-one_letter c h = IsUtf8-from_ascii (c ∷ []) (elim [ zero ↦ h | suc i ↦ omega arith ])
 
 letters : (cs : List ℕ) → All (λ c. c < 128) cs → IsUtf8 cs
 letters [] h = IsUtf8-nil
@@ -178,10 +176,6 @@ no_longer (p ∷ ps) =
     let c = no_longer ps in
     omega (arith, a, b, c)
 
-not_true : (b : Bool) → not b ≡ true → b ≡ false
-not_true false e = refl
-not_true true e = cc e
-
 other : (p : PlanLine) (ps : List PlanLine) → All (λ q. is_same_packet p q ≡ false) (filter (λ q. not (is_same_packet p q)) ps)
 other p ps =
     let keep : PlanLine → Bool = λ q. not (is_same_packet p q) in
@@ -267,6 +261,7 @@ conference_is n lines some few plan short = record {
   wait = lit≤ tt;
   turns = record { low = lit≤ tt; high = lit≤ tt };
   relabel = λ n e. absurd (cc e);
+  mtu = λ n e. absurd (cc e);
   mixer = record { seq = lit< tt; differs = legs_are (λ l. l.ssrc ≢ mixer.ssrc) n few (λ i h e. omega (arith, e)) };
   plan = record {
     most = let a = no_longer lines in omega arith;

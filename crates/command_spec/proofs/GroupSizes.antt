@@ -13,10 +13,8 @@ use Rattle.stream_spec.specs.Numbering.{Numbered}
 use Rattle.stream_spec.specs.Hearing.{is_marked, is_new, marker, new_texts, older_texts, piece, text_list}
 use Rattle.stream_spec.specs.Ready.{Chunk, chunk, chunks_over}
 use Rattle.command_spec.specs.Splitting.{Group, alone, groups, groups_from, joined, moment_of, packet_of, packets_from, record_of, recorded, timestamp_of}
-
-pub by_bool : (P : Bool → Type 0) (b : Bool) → (b ≡ true → P true) → (b ≡ false → P false) → P b
-by_bool P true t f = t refl
-by_bool P false t f = f refl
+use Rattle.command_spec.proofs.CascadeOutputs.{by_bool}
+use Rattle.command_spec.proofs.Carrying.{plain_size}
 
 -- ---- groups
 -- what the records of groups take: 8 octets, 12 of a header, and the text
@@ -169,9 +167,6 @@ groups_cost ready place present first bs =
 -- ---- octets
 size_opening : length dump_opening ≡ 44
 size_opening = refl
-
-plain_size : (payload_types : PayloadTypes) (s seq timestamp : ℕ) (text : List ℕ) → length (packet_written payload_types (packet_of s seq timestamp text)) ≡ 12 + length text
-plain_size payload_types s seq timestamp text = rw (eq-eqb s s refl) (omega arith)
 
 eight_more : (n : ℕ) → suc (suc (suc (suc (suc (suc (suc (suc n))))))) ≡ 8 + n
 eight_more n = omega arith

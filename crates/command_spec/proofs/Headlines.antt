@@ -14,16 +14,19 @@ use Rattle.stream_spec.specs.Hearing.{heard}
 use Rattle.stream_spec.specs.History.{History, Come, placed, Lawful}
 use Rattle.stream_spec.specs.Own.{own_packet, Own, Closed}
 use Rattle.stream_spec.specs.Carries.{Carries}
+use Rattle.stream_spec.specs.Ready.{chunks}
 use Rattle.view_spec.specs.declared.counts.Counts.{Counts}
 use Rattle.view_spec.specs.Shown.{shown}
 use Rattle.view_spec.specs.Views.{Source, aware_view, unaware_view}
 use Rattle.mixer_spec.specs.Setups.{AllStay, leg_at, generations_of}
 use Rattle.mixer_spec.specs.Table.{Table}
-use Rattle.mixer_spec.specs.Headline.{hears, IsHop}
+use Rattle.mixer_spec.specs.Headline.{IsHop}
 use Rattle.mixer_spec.specs.Chunks.{texts_of}
-use Rattle.mixer_spec.specs.Bridged.{Bridged, IsConferenceMixed, IsHeardOf, IsMixed, IsPair, leg_chunks, packets_to, shared_texts}
+use Rattle.mixer_spec.specs.Bridged.{IsConferenceMixed, IsHeardOf, IsMixed, IsPair, leg_chunks, packets_to, pieces_heard, shared_texts}
+use Rattle.mixer_spec.specs.Behind.{Bridged}
 use Rattle.mixer_spec.proofs.Conferences.{accepted_law, plan_law}
-use Rattle.mixer_spec.proofs.OfFiles.{heard_of, hops_law, mixed_law, aware_law, other_law, shared_law as part_law}
+use Rattle.mixer_spec.proofs.Chunks.{texts_cut}
+use Rattle.mixer_spec.proofs.OfFiles.{heard_of, hops_law, is_cutting, mixed_law, aware_law, other_law, shared_law as part_law}
 use Rattle.mixer_spec.proofs.Final.{AtEnd, at_end, taken_law}
 use Rattle.mixer_spec.proofs.Told.{out_of as told_out}
 use Rattle.mixer_spec.proofs.Bridged.{all_stay_law}
@@ -35,22 +38,17 @@ use Rattle.command_spec.specs.Work.{Contents, Made}
 use Rattle.command_spec.specs.Outcomes.{Done, outcome, AllStored}
 use Rattle.view_spec.specs.Seen.{Text, fate_at, arrivals_at, counts_at, source_at}
 use Rattle.command_spec.specs.Mixing.{counted, sent_to, out_of, came_to, reception_of, speaker_of, view_of, views, outs, input_at, mixing}
-use Rattle.command_spec.specs.Bridges.{Bridge, setup_of, IsFrom, inward, chunks_of, told_to, comes_to, onward_from_mixer, records_of, counts_behind, view_behind, IsHeard, IsHeardAsOne, IsMixedFrom, IsBridged}
+use Rattle.command_spec.specs.Bridges.{Bridge, cut_by, setup_of, IsFrom, inward, chunks_of, told_to, comes_to, onward_from_mixer, records_of, counts_behind, view_behind, IsHeard, IsHeardAsOne, IsMixedFrom, IsBridged}
 use Rattle.command_spec.specs.Cascaded.{IsSeen}
 use Rattle.command_spec.proofs.Ssrcs.{HasSsrcs, ssrcs_fit}
 use Rattle.command_spec.proofs.Reached.{reached}
 use Rattle.command_spec.proofs.Stored.{stored_at}
-use Rattle.command_spec.proofs.SentBack.{IsBack, below_legs, all_back, out_is}
+use Rattle.command_spec.proofs.SentBack.{IsBack, below_legs, all_back, out_is, map_twice}
+use Rattle.command_spec.proofs.Fitting.{fits_all}
 use Rattle.command_spec.proofs.Coming.{comes, texts_come, all_count, none_refused, none_foreign, many_come}
+use Rattle.view_spec.proofs.Plain.{same_counts}
 
 -- ---- what is seen
-same_counts : (a b : Counts) → a.packets ≡ b.packets → a.used ≡ b.used → a.refused ≡ b.refused → a.foreign ≡ b.foreign → a ≡ b
-same_counts a b p u r f = λ i. record { packets = p i; used = u i; refused = r i; foreign = f i }
-
-map_twice : {X Y Z : Type 0} (f : Y → Z) (g : X → Y) (xs : List X) → map f (map g xs) ≡ map (λ x. f (g x)) xs
-map_twice f g [] = refl
-map_twice f g (x ∷ xs) = ap (λ zs. f (g x) ∷ zs) (map_twice f g xs)
-
 -- the view of a leg that has these arrivals and counts
 abbrev view_with : Conference → ℕ → LegLine → List Arrival → Counts → List ℕ
 view_with c j leg a counts =
@@ -111,10 +109,10 @@ pair_heard b w j i p = record {
   bridged = bridged;
   headline = λ h is. (bridged h).headline (hop h is) b.conference.wait (comes_to b j) (come h);
   carries_all = λ st h. subst (Carries (told_to b j) ((setup_of b).ssrc i)) (whole h st) (bridged h).carries;
-  headline_all = λ st h is. (all_stay_law (setup_of b) (leg_chunks b.conference (input_at b.inputs)) b.conference.tick b.conference.turns b.table st (mixed_of b w) j i p (inward b i h) (hop h is) (heard_all h st) b.conference.wait (comes_to b j) (come h)).1;
+  headline_all = λ st h is. (all_stay_law (cut_by b) (is_cutting b.conference) (setup_of b) (leg_chunks b.conference (input_at b.inputs)) b.conference.tick b.conference.turns b.table st (mixed_of b w) j i p (inward b i h) (hop h is) (heard_all h st) b.conference.wait (comes_to b j) (come h)).1;
 }
   where
-    bridged : (h : History) → Bridged (setup_of b) b.table j i (told_to b j) (inward b i h) (chunks_of b i)
+    bridged : (h : History) → Bridged (cut_by b) (setup_of b) b.table j i (told_to b j) (inward b i h) (chunks_of b i)
     bridged h = aware_law b.conference (input_at b.inputs) b.table w.is w.over j i p h
 
     hop : (h : History) → IsFrom b i h → IsHop (inward b i h)
@@ -123,14 +121,14 @@ pair_heard b w j i p = record {
     come : (h : History) → Come (told_to b j) (comes_to b j)
     come h = (aware_law b.conference (input_at b.inputs) b.table w.is w.over j i p h).comes b.conference.plan (plan_law b.conference w.is)
 
-    heard_all : (h : History) → AllStay (setup_of b) → IsHeardOf (inward b i h) i (leg_chunks b.conference (input_at b.inputs) i)
-    heard_all h st = subst (IsHeardOf (inward b i h) i) (sym (stay_law (setup_of b) i (chunks_of b i) st)) (heard_of b.conference (input_at b.inputs) i h)
+    heard_all : (h : History) → AllStay (setup_of b) → IsHeardOf (cut_by b) (inward b i h) i (leg_chunks b.conference (input_at b.inputs) i)
+    heard_all h st = subst (IsHeardOf (cut_by b) (inward b i h) i) (sym (stay_law (setup_of b) i (chunks_of b i) st)) (heard_of b.conference (input_at b.inputs) i h)
 
-    whole : (h : History) → AllStay (setup_of b) → shared_texts b.table j i ≡ hears (inward b i h)
+    whole : (h : History) → AllStay (setup_of b) → shared_texts b.table j i ≡ pieces_heard (cut_by b) (inward b i h)
     whole h st =
         ap texts_of (shared_law (setup_of b) (leg_chunks b.conference (input_at b.inputs)) b.conference.tick b.conference.turns j i b.table st p.terminal p.other w.over
         ∙ (taken_law (setup_of b) (leg_chunks b.conference (input_at b.inputs)) b.conference.tick b.conference.turns i b.table p.leg w.over ∙ (heard_all h st).is))
-        ∙ chunk_texts b.conference.wait i (inward b i h).came (inward b i h).source
+        ∙ (texts_cut (cut_by b) (chunks b.conference.wait i (inward b i h).came (inward b i h).source) ∙ ap (flat_map (cut_by b)) (chunk_texts b.conference.wait i (inward b i h).came (inward b i h).source))
 
 one_heard : (b : Bridge) → IsWhole b → (j : ℕ) → j < length b.conference.legs → (setup_of b).aware j ≡ false → IsHeardAsOne b j
 one_heard b w j l u =
@@ -168,7 +166,7 @@ seen_of held after printed b is fits over views_are stored = record {
   outs = λ j leg at.
       let g : generations_of (leg_at b.conference.legs j) ≡ leg.generations = ap generations_of at in
       let t = subst (IsTold b j) g (is_told b w j (below_legs b.conference.legs j leg at)) in
-      (dump_written (records_of b j leg), there j leg at, out_is b j leg (back j leg at) t.lawful t.own t.closed t.packets_are);
+      (dump_written (records_of b j leg), there j leg at, out_is b j leg (back j leg at) (fits_all b.conference (input_at b.inputs) b.table is over j leg at) t.lawful t.own t.closed t.packets_are);
   views = views_are ∙ views_from b 0 b.conference.legs (λ j leg at. let k : j ≡ 0 + j = omega arith in subst (λ n. view_of b.conference b.table n leg ≡ view_behind b n leg) k (view_is b j leg (back j leg at)));
   heard = pair_heard b w;
   heard_as_one = one_heard b w;

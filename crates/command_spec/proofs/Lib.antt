@@ -21,6 +21,7 @@ pub mod Ssrcs
 pub mod Reached
 pub mod Stored
 pub mod SentBack
+pub mod Fitting
 pub mod Coming
 pub mod PrintedNames
 pub mod Headlines
@@ -45,3 +46,4 @@ pub mod CascadedHeadlines
 pub mod CascadeOutputs
 mod CascadeExamples
 pub mod AttendedHeadlines
+pub mod Plain

@@ -22,11 +22,12 @@ use Rattle.mixer_spec.specs.OneText.{StandsBeforeSeen, begins_seen, label_before
 use Rattle.mixer_spec.proofs.Rounds.{round_some}
 use Rattle.mixer_spec.proofs.Labels.{stands_before_seen, unseen_plain, written_plain}
 use Rattle.mixer_spec.proofs.Texts.{front_texts, joined_utf8, texts_left, texts_right, utf8_scalars, written_scalars}
-use Rattle.rtt_base.specs.declared.limits.TheConstants.{MOST_TEXT_OCTETS}
 use Rattle.command_spec.specs.Named.{Piece, IsPieceOf, IsNamed, AreNamed, AreAllNamed, answers, named, named_after, piece_text, prints}
 use Rattle.command_spec.proofs.Blocks.{Ahead, Before, Behind, Block, Fits, Follows, Walk, piece, walk_fits, walk_push}
 use Rattle.command_spec.proofs.Sent.{written_both, written_closed}
 use Rattle.command_spec.proofs.Walls.{own_closed, own_none, unseen_closed}
+use Rattle.mixer_spec.proofs.After.{joined_texts as texts_both}
+use Rattle.mixer_spec.proofs.Plain.{joined_append}
 
 -- ---- brackets, and what prints
 no_print : (cr : Bool) (run : List ℕ) (c : ℕ) → is_seen cr run c ≡ false → prints c ≡ false
@@ -50,18 +51,10 @@ plain_both ahead own typed n = list_any-append is_bracket ahead (written own typ
 no_chars : chars_of [] ≡ []
 no_chars = ap without_directions (chars-encodes [] refl)
 
-joined_append : (cs ds : List Chunk) → joined (cs ++ ds) ≡ joined cs ++ joined ds
-joined_append [] ds = refl
-joined_append (c ∷ cs) ds = ap (λ xs. c.text ++ xs) (joined_append cs ds) ∙ sym (append_assoc c.text (joined cs) (joined ds))
-
 chars_append : (cs ds : List Chunk) → AreTexts cs → chars_of (cs ++ ds) ≡ chars_of cs ++ chars_of ds
 chars_append cs ds a =
     ap without_directions (ap chars (joined_append cs ds) ∙ chars-append (joined cs) (joined ds) (joined_utf8 cs a))
     ∙ filter-append (λ c. not (is_direction c)) (chars (joined cs)) (chars (joined ds))
-
-texts_both : (cs ds : List Chunk) → AreTexts cs → AreTexts ds → AreTexts (cs ++ ds)
-texts_both [] ds a b = b
-texts_both (c ∷ cs) ds a b = (a.0, a.1, texts_both cs ds a.2 b)
 
 -- what is seen behind characters of which nothing is
 from_then : (cr : Bool) (run xs ys : List ℕ) → from_seen cr run xs ≡ [] → from_seen cr run (xs ++ ys) ≡ from_seen cr (run ++ xs) ys
@@ -235,9 +228,9 @@ further s own m w past g p t o n b f st l d al x = record {
   texts = x;
 }
 
-headed_of : (s : Setup) (waits : ℕ → List Chunk) (cr on : Bool) (run : List Chunk) (u : ℕ) (r : Headed s.name u cr on run (front (room_beside (s.name u)) (waits u)))
-    → IsPieceOf s.name (headed waits (s.name u) cr on run u) (record { leg = u; ahead = r.ahead; label = r.label; behind = written [] r.typed })
-headed_of s waits cr on run u r = record {
+headed_of : (s : Setup) (room : ℕ) (waits : ℕ → List Chunk) (cr on : Bool) (run : List Chunk) (u : ℕ) (r : Headed s.name u cr on run (front (room_beside room (s.name u)) (waits u)))
+    → IsPieceOf s.name (headed room waits (s.name u) cr on run u) (record { leg = u; ahead = r.ahead; label = r.label; behind = written [] r.typed })
+headed_of s room waits cr on run u r = record {
   leg = refl;
   text = r.text;
   own = [];
@@ -320,25 +313,25 @@ begun_alone cs e = ap not e
 
 -- a run begins
 begun : (s : Setup) (own m : ℕ) (w : ℕ → Bool) (waits : ℕ → List Chunk) (past : List Asked) (u : ℕ) → u < s.legs → (u ≡ own → ⊥) → AreTexts (waits u) → State s own past
-    → State s own (with_ask m w (headed waits (s.name u) (is_after_cr past) (is_open past) [] u) past)
+    → State s own (with_ask m w (headed (s.room own) waits (s.name u) (is_after_cr past) (is_open past) [] u) past)
 begun s own m w waits past u b d a t = go (with_label_parts s.name u cr (is_open past) [] cs)
   where
     cr : Bool
     cr = is_after_cr past
 
     cs : List Chunk
-    cs = front (room_beside (s.name u)) (waits u)
+    cs = front (room_beside (s.room own) (s.name u)) (waits u)
 
     texts : AreTexts cs
-    texts = front_texts (room_beside (s.name u)) (waits u) a
+    texts = front_texts (room_beside (s.room own) (s.name u)) (waits u) a
 
-    go : Headed s.name u cr (is_open past) [] cs → State s own (with_ask m w (headed waits (s.name u) cr (is_open past) [] u) past)
+    go : Headed s.name u cr (is_open past) [] cs → State s own (with_ask m w (headed (s.room own) waits (s.name u) cr (is_open past) [] u) past)
     go r =
-        let g = headed waits (s.name u) cr (is_open past) [] u in
+        let g = headed (s.room own) waits (s.name u) cr (is_open past) [] u in
         let p = headed_piece s.name u cr (is_open past) [] cs r in
         let h = headed_ahead s.name u cr (is_open past) [] cs t.block [] (inl refl) (sym no_chars) refl r in
         let seen : from_seen cr [] (chars_of cs) ≡ r.typed = ap (λ (l : List ℕ). from_seen cr l (chars_of cs)) (sym no_chars) ∙ r.seen in
-        let of = headed_of s waits cr (is_open past) [] u r in
+        let of = headed_of s (s.room own) waits cr (is_open past) [] u r in
         let named = headed_named s.name u cr (is_open past) [] cs (named_after None t.pieces) r in
         elim r.either [
           | inl i ↦ further s own m w past g p t of named (Behind u (written [] r.typed))
@@ -356,14 +349,14 @@ begun s own m w waits past u b d a t = go (with_label_parts s.name u cr (is_open
 
 -- a run goes on whose label is to come
 labelled_later : (s : Setup) (own m : ℕ) (w : ℕ → Bool) (waits : ℕ → List Chunk) (past : List Asked) (u : ℕ) → u < s.legs → (u ≡ own → ⊥) → AreTexts (waits u) → is_unlabelled past ≡ true → State s own past
-    → State s own (with_ask m w (headed waits (s.name u) (began_behind_cr past) (is_open past) (run_of past) u) past)
+    → State s own (with_ask m w (headed (s.room own) waits (s.name u) (began_behind_cr past) (is_open past) (run_of past) u) past)
 labelled_later s own m w waits past u b d a un t = go (with_label_parts s.name u (began_behind_cr past) (is_open past) (run_of past) cs)
   where
     cs : List Chunk
-    cs = front (room_beside (s.name u)) (waits u)
+    cs = front (room_beside (s.room own) (s.name u)) (waits u)
 
     texts : AreTexts cs
-    texts = front_texts (room_beside (s.name u)) (waits u) a
+    texts = front_texts (room_beside (s.room own) (s.name u)) (waits u) a
 
     parts : (has_chunk (run_of past) ≡ true) × (not (began_alone past) ≡ true) × ((length (seen_part past) == 0) ≡ true)
     parts =
@@ -451,13 +444,13 @@ labelled_later s own m w waits past u b d a un t = go (with_label_parts s.name u
     block_is : t.block ≡ Before (chars_of (run_of past))
     block_is = elim t.stands [ inl i ↦ i.1 | inr i ↦ absurd (true≢false (sym un ∙ i.has_label)) ]
 
-    go : Headed s.name u (began_behind_cr past) (is_open past) (run_of past) cs → State s own (with_ask m w (headed waits (s.name u) (began_behind_cr past) (is_open past) (run_of past) u) past)
+    go : Headed s.name u (began_behind_cr past) (is_open past) (run_of past) cs → State s own (with_ask m w (headed (s.room own) waits (s.name u) (began_behind_cr past) (is_open past) (run_of past) u) past)
     go r =
         let cr = began_behind_cr past in
-        let g = headed waits (s.name u) cr (is_open past) (run_of past) u in
+        let g = headed (s.room own) waits (s.name u) cr (is_open past) (run_of past) u in
         let p = headed_piece s.name u cr (is_open past) (run_of past) cs r in
         let h = headed_ahead s.name u cr (is_open past) (run_of past) cs t.block (chars_of (run_of past)) (inr block_is) refl none r in
-        let of = headed_of s waits cr (is_open past) (run_of past) u r in
+        let of = headed_of s (s.room own) waits cr (is_open past) (run_of past) u r in
         let named = headed_named s.name u cr (is_open past) (run_of past) cs (named_after None t.pieces) r in
         elim r.either [
           | inl i ↦
@@ -474,9 +467,9 @@ labelled_later s own m w waits past u b d a un t = go (with_label_parts s.name u
 
 -- a run goes on behind its label
 went_on : (s : Setup) (own m : ℕ) (w : ℕ → Bool) (waits : ℕ → List Chunk) (past : List Asked) (c : Answer) → latest past ≡ Some c → AreTexts (waits c.source) → is_unlabelled past ≡ false → State s own past
-    → State s own (with_ask m w (gone_on waits (behind_label past) c.source) past)
+    → State s own (with_ask m w (gone_on (s.room own) waits (behind_label past) c.source) past)
 went_on s own m w waits past c q a un t =
-    let g = gone_on waits (behind_label past) c.source in
+    let g = gone_on (s.room own) waits (behind_label past) c.source in
     let p : Piece = record { leg = c.source; ahead = []; label = None; behind = written (behind_label past) (chars_of cs) } in
     let l = labels (began_alone past) refl in
     further s own m w past g p t
@@ -493,10 +486,10 @@ went_on s own m w waits past c q a un t =
     (texts_both (run_of past) cs t.texts texts)
   where
     cs : List Chunk
-    cs = front MOST_TEXT_OCTETS (waits c.source)
+    cs = front (s.room own) (waits c.source)
 
     texts : AreTexts cs
-    texts = front_texts MOST_TEXT_OCTETS (waits c.source) a
+    texts = front_texts (s.room own) (waits c.source) a
 
     together : written [] (behind_label past ++ chars_of cs) ≡ written [] (behind_label past) ++ written (behind_label past) (chars_of cs)
     together = written_both [] (behind_label past) (chars_of cs)
@@ -539,44 +532,44 @@ went_on s own m w waits past c q a un t =
 
 -- ---- all asks
 step : (s : Setup) (own m : ℕ) (w : ℕ → Bool) (due : Bool) (waits : ℕ → List Chunk) (past : List Asked) (g : Answer) → ((i : ℕ) → (i ≡ own → ⊥) → AreTexts (waits i)) → State s own past
-    → answer s.legs s.name s.relabel own m due waits past ≡ Some g → State s own (with_ask m w g past)
+    → answer (s.room own) s.legs s.name s.relabel own m due waits past ≡ Some g → State s own (with_ask m w g past)
 step s own m w false waits past g a t e = absurd (cc e)
 step s own m w true waits past g a t e = from (latest past) refl e
   where
     Then : Answer → Type 0
     Then g = State s own (with_ask m w g past)
 
-    begins : (start : ℕ) (o : Option ℕ) → start ≤ s.legs → first_round (waits_here own waits) start s.legs ≡ o → begin_with s.name waits past o ≡ Some g → Then g
+    begins : (start : ℕ) (o : Option ℕ) → start ≤ s.legs → first_round (waits_here own waits) start s.legs ≡ o → begin_with (s.room own) s.name waits past o ≡ Some g → Then g
     begins start None l q e = absurd (cc e)
     begins start (Some u) l q e =
         let f = round_some (waits_here own waits) start s.legs u l q in
         let x = and_parts (not (u == own)) (has_chunk (waits u)) f.passes in
         let n = eqb-false u own (not-true (u == own) x.0) in
-        let same : headed waits (s.name u) (is_after_cr past) (is_open past) [] u ≡ g = cc e in
+        let same : headed (s.room own) waits (s.name u) (is_after_cr past) (is_open past) [] u ≡ g = cc e in
         subst Then same (begun s own m w waits past u f.below n (a u n) t)
 
-    goes : (b : Bool) (c : Answer) → is_unlabelled past ≡ b → latest past ≡ Some c → Then (cond b (headed waits (s.name c.source) (began_behind_cr past) (is_open past) (run_of past) c.source) (gone_on waits (behind_label past) c.source))
+    goes : (b : Bool) (c : Answer) → is_unlabelled past ≡ b → latest past ≡ Some c → Then (cond b (headed (s.room own) waits (s.name c.source) (began_behind_cr past) (is_open past) (run_of past) c.source) (gone_on (s.room own) waits (behind_label past) c.source))
     goes true c un q = let sp = t.speaker c q in labelled_later s own m w waits past c.source sp.0 sp.1 (a c.source sp.1) un t
     goes false c un q = let sp = t.speaker c q in went_on s own m w waits past c q (a c.source sp.1) un t
 
-    speaks : (b : Bool) (c : Answer) → latest past ≡ Some c → Then (cond b (headed waits (s.name c.source) (is_after_cr past) (is_open past) [] c.source) (go_on s.name waits past c.source))
+    speaks : (b : Bool) (c : Answer) → latest past ≡ Some c → Then (cond b (headed (s.room own) waits (s.name c.source) (is_after_cr past) (is_open past) [] c.source) (go_on (s.room own) s.name waits past c.source))
     speaks true c q = let sp = t.speaker c q in begun s own m w waits past c.source sp.0 sp.1 (a c.source sp.1) t
     speaks false c q = goes (is_unlabelled past) c refl q
 
-    rest : (b : Bool) (c : Answer) → latest past ≡ Some c → cond b (Some (speak_on s.name s.relabel m waits past c.source)) None ≡ Some g → Then g
-    rest true c q e = let same : speak_on s.name s.relabel m waits past c.source ≡ g = cc e in subst Then same (speaks (is_labelled_again s.relabel m past c.source) c q)
+    rest : (b : Bool) (c : Answer) → latest past ≡ Some c → cond b (Some (speak_on (s.room own) s.name s.relabel m waits past c.source)) None ≡ Some g → Then g
+    rest true c q e = let same : speak_on (s.room own) s.name s.relabel m waits past c.source ≡ g = cc e in subst Then same (speaks (is_labelled_again s.relabel m past c.source) c q)
     rest false c q e = absurd (cc e)
 
-    either : (b : Bool) (c : Answer) → latest past ≡ Some c → cond b (begin_with s.name waits past (first_round (waits_here own waits) (suc c.source) s.legs)) (if has_chunk (waits c.source) then Some (speak_on s.name s.relabel m waits past c.source) else None) ≡ Some g → Then g
+    either : (b : Bool) (c : Answer) → latest past ≡ Some c → cond b (begin_with (s.room own) s.name waits past (first_round (waits_here own waits) (suc c.source) s.legs)) (if has_chunk (waits c.source) then Some (speak_on (s.room own) s.name s.relabel m waits past c.source) else None) ≡ Some g → Then g
     either true c q e = begins (suc c.source) (first_round (waits_here own waits) (suc c.source) s.legs) (t.speaker c q).0 refl e
     either false c q e = rest (has_chunk (waits c.source)) c q e
 
-    from : (o : Option Answer) → latest past ≡ o → answer_after s.legs s.name s.relabel own m waits past o ≡ Some g → Then g
+    from : (o : Option Answer) → latest past ≡ o → answer_after (s.room own) s.legs s.name s.relabel own m waits past o ≡ Some g → Then g
     from None q e = begins 0 (first_round (waits_here own waits) 0 s.legs) (omega arith) refl e
     from (Some c) q e = either (is_switch s.legs own m waits past c.source) c q e
 
 asked : (s : Setup) (own m : ℕ) (w : ℕ → Bool) (due : Bool) (waits : ℕ → List Chunk) (past : List Asked) (o : Option Answer) → ((i : ℕ) → (i ≡ own → ⊥) → AreTexts (waits i)) → State s own past
-    → o ≡ answer s.legs s.name s.relabel own m due waits past → State s own (record { media = m; waiting = w; given = o } ∷ past)
+    → o ≡ answer (s.room own) s.legs s.name s.relabel own m due waits past → State s own (record { media = m; waiting = w; given = o } ∷ past)
 asked s own m w due waits past None a t e = record {
   pieces = t.pieces;
   all = record { of = subst (λ (gs : List Answer). AllZip (IsPieceOf s.name) gs t.pieces) (sym (append-nil (answers past))) t.all.of; named = t.all.named };

@@ -15,13 +15,9 @@ use Rattle.file_spec.specs.Stays.{IsStay, NeverCrowd, is_before_end, stays_at}
 use Rattle.file_spec.specs.Kept.{AreLegs, AreTwoTypes, Differ, IsConference, IsLeg}
 use Rattle.command_spec.proofs.SameFiles.{HasFilesOf, HaveFilesOf, changed_files, same_files}
 use Rattle.command_spec.specs.Attending.{Said, as_name, is_free, left_so, named_by, named_so, sooner, told_legs, told_so, until_then}
+use Rattle.file_spec.proofs.KeptLines.{length-change as length_changed}
 
 -- ---- a leg that is changed
-pub length_changed : (change : LegLine → LegLine) (k : ℕ) (ls : List LegLine) → length (change_leg change k ls) ≡ length ls
-length_changed change k [] = refl
-length_changed change zero (l ∷ ls) = refl
-length_changed change (suc k) (l ∷ ls) = ap suc (length_changed change k ls)
-
 -- the leg i is as it was, or it is the one that was changed
 IsChanged : (LegLine → LegLine) → ℕ → List LegLine → ℕ → LegLine → Type 0
 IsChanged change k ls i d =
@@ -271,6 +267,7 @@ named_conference says c keeps =
       wait = keeps.wait;
       turns = keeps.turns;
       relabel = keeps.relabel;
+      mtu = keeps.mtu;
       mixer = record { seq = keeps.mixer.seq; differs = all.differs };
       plan = record {
         most = keeps.plan.most;

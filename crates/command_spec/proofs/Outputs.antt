@@ -10,14 +10,14 @@ use Rattle.file_spec.specs.declared.conference_lines.Form.TheVariants.{Files}
 use Rattle.file_spec.specs.declared.conference_lines.LegLine.{LegLine}
 use Rattle.file_spec.specs.Conference.{Conference, conference_from}
 use Rattle.stream_spec.specs.Ready.{Chunk, chunks}
-use Rattle.stream_spec.specs.Own.{has_text_in}
 use Rattle.mixer_spec.specs.Chunks.{has_chunk}
 use Rattle.mixer_spec.specs.Rounds.{all_below, set_at}
 use Rattle.mixer_spec.specs.Setups.{Setup, setup, in_stay, leg_at, ssrc_of}
 use Rattle.mixer_spec.specs.Table.{Table, Terminal, empty, is_quiet, is_idle, has_work, stopped, turned}
 use Rattle.mixer_spec.specs.Plain.{Desk, left_over, table_after, offers, offers_below, goes_below, comes_below, before_turn, is_over, plain_from, plain}
 use Rattle.stream_spec.specs.Still.{still}
-use Rattle.mixer_spec.specs.Bridged.{input_limit, leg_arrivals, leg_chunks}
+use Rattle.mixer_spec.specs.Bridged.{cutting_of, input_limit, leg_arrivals, leg_chunks}
+use Rattle.mixer_spec.specs.Pieces.{chunks_cut}
 use Rattle.mixer_spec.proofs.Kept.{entered_same, stopped_same, gone_same}
 use Rattle.command_spec.specs.declared.faults.Refusal.TheVariants.{AtByte}
 use Rattle.command_spec.specs.Work.{Contents, Made, Steps, Reads, Refuses, Makes, Serves, IsOutput, IsNth, and_prints}
@@ -28,6 +28,7 @@ use Rattle.command_spec.proofs.Naming.{files_told}
 use Rattle.command_spec.proofs.Reached.{counted_makes}
 use Rattle.command_spec.specs.Mixing.{out_of, views, outs, makes, input_at, unless_one_broken, counted, counts_lines, mixes, mixes_counted, reads_inputs, mixes_read, mixing}
 use Rattle.mixer_spec.specs.declared.limits.TheConstants.{MOST_INPUT_OF_MANY}
+use Rattle.stream_spec.proofs.Plain.{no_text}
 
 -- ---- where no leg says anything, mixing is over at once
 -- nobody has anything to offer, and nothing was sent or waits
@@ -73,10 +74,6 @@ all_true : (p : ℕ → Bool) (n : ℕ) → ((i : ℕ) → p i ≡ true) → all
 all_true p zero f = refl
 all_true p (suc n) f = ap (λ b. b && all_below p n) (f n) ∙ all_true p n f
 
-no_text : (g : ℕ) → has_text_in g [] ≡ false
-no_text zero = refl
-no_text (suc g) = refl
-
 nobody : Terminal
 nobody = record { past = []; asks = []; waits = λ i. [] }
 
@@ -111,7 +108,7 @@ none_arrive c None octets e = refl
 none_arrive c (Some l) octets e = ap (arrivals_after l.ssrc l.payload_types []) e
 
 none_heard : (c : Conference) (inputs : ℕ → List ℕ) (i : ℕ) → (dump (input_limit c) (inputs i)).items ≡ [] → leg_chunks c inputs i ≡ []
-none_heard c inputs i e = ap (λ (a : List Arrival). in_stay (setup c) i (chunks c.wait i (still a) (ssrc_of (leg_at c.legs i)))) (none_arrive c (leg_at c.legs i) (inputs i) e)
+none_heard c inputs i e = ap (λ (a : List Arrival). in_stay (setup c) i (chunks_cut (cutting_of c) (chunks c.wait i (still a) (ssrc_of (leg_at c.legs i))))) (none_arrive c (leg_at c.legs i) (inputs i) e)
 
 limit_is : (c : Conference) → 44 ≤ input_limit c
 limit_is c = go (nat_lt 16 (length c.legs))
@@ -216,7 +213,7 @@ is_made Told held steps printed files n file e i = subst (λ (x : Steps). IsOutp
 abbrev under : Contents → LegLine → List ℕ
 under held leg = octets_under held leg.input
 
-is_under : (o : Option (List ℕ)) → IsSome o → o ≡ Some (unwrap_or o [])
+pub is_under : (o : Option (List ℕ)) → IsSome o → o ≡ Some (unwrap_or o [])
 is_under None e = cc e
 is_under (Some octets) e = refl
 

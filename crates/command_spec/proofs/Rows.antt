@@ -11,7 +11,7 @@ use Rattle.stream_spec.specs.Numbering.{Numbered, by_number, distinct_from, firs
 use Rattle.stream_spec.specs.Hearing.{first_number_of, heard, heard_by, is_marked, is_new, is_packet_of, last_of, marker, missing, missing_before, missing_between, new_texts}
 use Rattle.stream_spec.specs.ChunksBy.{texts_added}
 use Rattle.stream_spec.proofs.Timestamps.{nearest_high, nearest_low, nearest_mod}
-use Rattle.stream_spec.proofs.Taking.{heard_by_more, heard_used}
+use Rattle.stream_spec.proofs.Taking.{heard_by_more, heard_used, last_end_of as last_more}
 use Rattle.command_spec.specs.Splitting.{Group, moment_of, packet_of, packets_from, timestamp_of}
 use Rattle.command_spec.proofs.Carrying.{AllSendable, came_after}
 
@@ -45,10 +45,6 @@ in_order wait e us f = rw (le-leb (first_number e.number us) e.number (first_up 
 last_by_number : (e : Numbered) (us : List Numbered) → AllBelow e.number us → by_number e us ≡ us ++ e ∷ []
 last_by_number e [] f = refl
 last_by_number e (u ∷ us) f = let l = f u (inl refl) in rw (le-ltb e.number u.number (omega (arith, l))) (ap (λ vs. u ∷ vs) (last_by_number e us (λ v i. f v (inr i))))
-
-last_more : (prev : Option Numbered) (us : List Numbered) (e : Numbered) → last_of prev (us ++ e ∷ []) ≡ Some e
-last_more prev [] e = refl
-last_more prev (u ∷ us) e = last_more (Some u) us e
 
 -- ---- packets of the source s that came in order: m is the number of the last
 pub record InOrder (wait s : ℕ) (past : List Arrival) (m : ℕ) (texts : List (List ℕ)) : Type 0 where

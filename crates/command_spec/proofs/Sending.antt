@@ -1,5 +1,5 @@
 -- What a terminal that is not aware hears is named.
-use Rattle.std.proofs.Common.{◌≡◌, ℕ, suc, ◌<◌, ◌≤◌, Bool, true, false, cond, ◌⊎◌, inl, inr, Option, Some, None, List, [], ◌∷◌, ◌++◌, length, refl, ap, subst, sym, ◌∙◌, append_assoc, append-nil, arith}
+use Rattle.std.proofs.Common.{◌≡◌, ℕ, ◌<◌, ◌≤◌, Bool, true, false, cond, ◌⊎◌, inl, inr, Option, Some, None, List, [], ◌∷◌, ◌++◌, length, refl, ap, subst, sym, ◌∙◌, append_assoc, append-nil, arith}
 use Rattle.std.specs.Prelude.{◌&&◌, filter, map, option_to_list, encode_utf8_all}
 use Rattle.std.specs.Char.{encode_utf8}
 use Rattle.std.specs.List.{AllZip}
@@ -35,6 +35,7 @@ use Rattle.command_spec.specs.Heard.{HearsNamed, IsNamedRun, has_answer}
 use Rattle.command_spec.proofs.Cutting.{all_law, each_law, hop_law}
 use Rattle.command_spec.proofs.NamedNaming.{Composes, composed_pieces}
 use Rattle.command_spec.proofs.Blocks.{Ahead, Before, Behind, Block, Follows, GoesOn, Heads, Waits, Walk}
+use Rattle.mixer_spec.proofs.Arriving.{length_map as as_many}
 
 -- ---- lists
 -- from the last to the first
@@ -61,10 +62,6 @@ map_filter f p (x ∷ xs) = go (p (f x)) (map_filter f p xs)
     go : (b : Bool) → map f (filter (λ x. p (f x)) xs) ≡ filter p (map f xs) → map f (cond b (x ∷ filter (λ x. p (f x)) xs) (filter (λ x. p (f x)) xs)) ≡ cond b (f x ∷ filter p (map f xs)) (filter p (map f xs))
     go true e = ap (λ zs. f x ∷ zs) e
     go false e = e
-
-as_many : {X Y : Type 0} (f : X → Y) (xs : List X) → length (map f xs) ≡ length xs
-as_many f [] = refl
-as_many f (x ∷ xs) = ap suc (as_many f xs)
 
 -- ---- what was sent are the answers
 texts_of_entries : (before es : List Entry) → map (λ (x : Placed). x.text) (placed_after before es) ≡ map (λ (e : Entry). e.text) es

@@ -1,6 +1,7 @@
 -- The packets to a terminal are read back from its recording.
 use Rattle.std.proofs.Common.{◌≡◌, ℕ, zero, suc, ◌*◌, ◌<◌, ◌≤◌, ◌^◌, Bool, true, false, Some, Ok, Result, inl, inr, List, [], ◌∷◌, ◌++◌, length, refl, ap, subst, ◌∙◌, arith}
 use Rattle.std.specs.Prelude.{map, ◌==◌, All}
+use Rattle.std.specs.Option.{ForSome}
 use Rattle.std.specs.List.{AllByRecursion}
 use Rattle.std.proofs.Math.Nat.{mul-le-mul_left}
 use Rattle.std.proofs.lemmas.List.Elements.{All-head, All-tail}
@@ -66,7 +67,7 @@ packet_back s j payload_types past e g m t b k =
     let asked : (p.ssrc == s.mixer) ≡ true = grind (arith, nat_tests) in
     record { text_is = sent_back payload_types p (Some s.mixer) fits asked few; some = omega arith; few = few }
 
-all_push : {X : Type 0} (P : X → Type 0) (xs : List X) (x : X) → AllByRecursion P xs → P x → AllByRecursion P (xs ++ x ∷ [])
+pub all_push : {X : Type 0} (P : X → Type 0) (xs : List X) (x : X) → AllByRecursion P xs → P x → AllByRecursion P (xs ++ x ∷ [])
 all_push P [] x a p = (p, tt)
 all_push P (y ∷ xs) x a p = (a.0, all_push P xs x a.1 p)
 
@@ -120,14 +121,16 @@ fit ssrc payload_types (x ∷ sent) b a = (
 )
 
 pub out_is : (b : Bridge) (j : ℕ) (leg : LegLine) → AllByRecursion (IsBack b.conference.mixer.ssrc leg.payload_types) (sent_to b.conference b.table j)
+    → ForSome b.conference.mtu (λ most. All (λ r. length r.1 ≤ most) (records_of b j leg))
     → Lawful (told_to b j) → Own leg.generations (told_to b j) → Closed leg.generations (told_to b j)
     → packets_to (setup_of b) j (b.table.terminals j).past ≡ map (own_packet (told_to b j)) (placed (told_to b j)) → IsOut b j leg (dump_written (records_of b j leg))
-out_is b j leg k lawful own closed p = record {
+out_is b j leg k fit_all lawful own closed p = record {
   lawful = lawful;
   own = own;
   closed = closed;
   is = refl;
   packets = texts_back b.conference.mixer.ssrc leg.payload_types (sent_to b.conference b.table j) k
       ∙ (ap (map (λ (p : Packet). let q : Result Packet TextFault = Ok p in q)) p ∙ map_twice (λ (p : Packet). let q : Result Packet TextFault = Ok p in q) (own_packet (told_to b j)) (placed (told_to b j)));
+  fit = fit_all;
   read_back = λ limit early small. read_back limit (records_of b j leg) (fit b.conference.mixer.ssrc leg.payload_types (sent_to b.conference b.table j) k early) small;
 }

@@ -1,7 +1,7 @@
 -- What arrives of a stream is the same whether all records are heard or those of the stream alone.
 use Rattle.std.proofs.Common.{◌≡◌, ℕ, ◌%◌, Bool, true, false, cond, None, Some, List, [], ◌∷◌, length, refl, ap, sym, ◌∙◌, arith}
-use Rattle.std.specs.Prelude.{Result, Ok, Err, ◌==◌, ◌&&◌, ◌||◌, nat_lt, nat_le, slice_index}
-use Rattle.std.proofs.lemmas.Bool.{true≢false, leb-true}
+use Rattle.std.specs.Prelude.{Result, Ok, Err, ◌==◌, ◌&&◌, nat_lt, nat_le, slice_index}
+use Rattle.std.proofs.lemmas.Bool.{true≢false, leb-true, and_parts as both, or_parts as neither}
 use Rattle.std.proofs.lemmas.Bool.Decides.{Decides-eqb}
 use Rattle.rtt_base.specs.Steps.{◌>>=◌}
 use Rattle.rtt_base.specs.declared.text_packets.PayloadTypes.{PayloadTypes}
@@ -22,11 +22,6 @@ use Rattle.command_spec.specs.Streams as sorts
 use Rattle.command_spec.specs.Streams.{is_rtcp, headed, sort_of, sort_of_what, is_of_text, stream_of, is_name, stream, is_dynamic}
 
 -- ---- a packet of another stream
-both : (a b : Bool) → (a && b) ≡ true → (a ≡ true) × (b ≡ true)
-both true true e = (refl, refl)
-both true false e = absurd (true≢false (sym e))
-both false b e = absurd (true≢false (sym e))
-
 -- RTCP has no payload type of text
 rtcp_type : (second t : ℕ) → (nat_le 192 second && nat_le second 223) ≡ true → is_dynamic t ≡ true → (second % 128 == t) ≡ false
 rtcp_type second t r d = go (second % 128 == t) refl
@@ -48,10 +43,6 @@ other_type : (payload : List ℕ) (pt : ℕ) (payload_types : PayloadTypes) → 
 unfolding red
 other_type payload pt payload_types o = ap (λ b. cond b (texts_at [] payload) (cond (pt == payload_types.red) (headers_at 8 payload_types.t140 payload >>= λ hs. texts_at hs.headers hs.texts) (Err red_faults.WrongType))) o.0
     ∙ ap (λ b. cond b (headers_at 8 payload_types.t140 payload >>= λ hs. texts_at hs.headers hs.texts) (Err red_faults.WrongType)) o.1
-
-neither : (a b : Bool) → (a || b) ≡ false → (a ≡ false) × (b ≡ false)
-neither true b e = absurd (true≢false e)
-neither false b e = (refl, e)
 
 -- ---- a record that is none of the stream
 module _ (ssrc : ℕ) (payload_types : PayloadTypes) (t140 : is_dynamic payload_types.t140 ≡ true) (red_type : is_dynamic payload_types.red ≡ true) where

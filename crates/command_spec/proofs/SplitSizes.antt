@@ -23,13 +23,16 @@ use Rattle.wire_spec.specs.Dump.{Fault, Item, Place, Step, End, Broken, Next, Wh
 use Rattle.stream_spec.specs.Numbering.{Numbered, by_number, first_number, has_number, in_time, numbered, used}
 use Rattle.stream_spec.specs.Hearing.{is_packet_of}
 use Rattle.stream_spec.specs.Ready.{ready_of}
-use Rattle.stream_spec.specs.Still.{is_blank, still, still_block, still_packet, still_text}
+use Rattle.stream_spec.specs.Still.{still, still_block, still_packet}
 use Rattle.command_spec.specs.Splitting.{Trunk, came_of, chunks_of, groups, split}
 use Rattle.command_spec.specs.Laws.{split_of}
-use Rattle.command_spec.proofs.GroupSizes.{by_bool, cost, groups_cost, one_if_any, recorded_size, taken, text_size}
+use Rattle.command_spec.proofs.GroupSizes.{cost, groups_cost, one_if_any, recorded_size, taken, text_size}
 use Rattle.command_spec.proofs.GroupSizes as sizes
 use Rattle.rtt_base.specs.declared.limits.TheConstants.{MOST_PACKET_OCTETS, MOST_TEXT_OCTETS}
 use Rattle.wire_spec.specs.declared.limits.TheConstants.{LAST_RECORD_MOMENT}
+use Rattle.stream_spec.proofs.Still.{still_short as still_less}
+use Rattle.wire_spec.proofs.Plain.{refused_ok}
+use Rattle.command_spec.proofs.CascadeOutputs.{by_bool}
 
 -- ---- packets that are used
 inserted : (e : Numbered) (us : List Numbered) → taken (by_number e us) ≡ 20 + text_size e.packet + taken us
@@ -54,9 +57,6 @@ some_less p (u ∷ us) =
     by_bool (λ b. taken (cond b (u ∷ filter p us) (filter p us)) ≤ 20 + text_size u.packet + taken us) (p u) (λ t. omega (arith, rest)) (λ f. omega (arith, rest))
 
 -- ---- keep-alives
-still_less : (text : List ℕ) → length (still_text text) ≤ length text
-still_less text = by_bool (λ b. length (cond b [] text) ≤ length text) (is_blank text) (λ t. omega arith) (λ f. omega arith)
-
 blocks_less : (bs : List TextBlock) → sizes.older_size (map still_block bs) ≤ sizes.older_size bs
 blocks_less [] = omega arith
 blocks_less (b ∷ bs) = let one = still_less b.text in let rest = blocks_less bs in omega (arith, one, rest)
@@ -189,10 +189,6 @@ parts_size : (bs : List TextBlock) → sizes.older_size (redundant bs) + length 
 parts_size [] = omega arith
 parts_size (b ∷ []) = omega arith
 parts_size (b ∷ c ∷ bs) = let rest = parts_size (c ∷ bs) in omega (arith, rest)
-
-refused_ok : {A E : Type 0} (fault : E → TextFault) (r : Result A E) (x : A) → refused_as fault r ≡ Ok x → r ≡ Ok x
-refused_ok fault (Ok y) x e = let same : y ≡ x = cc e in ap (λ z. Ok z) same
-refused_ok fault (Err k) x e = absurd (cc e)
 
 accepted_same : (asked : Option ℕ) (a b : Reading) → accepted asked a ≡ Ok b → a ≡ b
 accepted_same asked a b e = go (is_asked asked a.ssrc) (nat_lt 1 a.cc) e

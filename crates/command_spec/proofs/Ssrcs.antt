@@ -13,10 +13,11 @@ use Rattle.rtt_base.specs.Steps.{◌>>=◌}
 use Rattle.file_spec.specs.Steps.{unless}
 use Rattle.file_spec.specs.Lines.{Line}
 use Rattle.file_spec.specs.Numbers.{number, most_ssrc, payload_types}
-use Rattle.file_spec.specs.Conference.{Above, Conference, Entry, Leg, Generations, Stays, Tick, Spacing, Wait, Turns, Relabel, Mixer, Plan, Follows, Serves, nothing, with_entry, change_leg, with_generations, with_follow, with_stay, mixer, mixer_of, clashes, most_legs, new_leg, usual_types, leg_of, leg, and_line, conference_from}
+use Rattle.file_spec.specs.Conference.{Above, Conference, Entry, Leg, Generations, Stays, Tick, Spacing, Wait, Turns, Relabel, Mtu, Mixer, Plan, Follows, Serves, nothing, with_entry, change_leg, with_generations, with_follow, with_stay, mixer, mixer_of, clashes, most_legs, new_leg, usual_types, leg_of, leg, and_line, conference_from}
 use Rattle.rtt_base.proofs.Steps.{bind_ok}
 use Rattle.file_spec.proofs.Passed.{unless_ok, ok_or_ok, number_most}
 use Rattle.file_spec.proofs.EachLine.{HoldsOf, entry_holds, line_adds, lines_of, completed, leg_read, mixer_read}
+use Rattle.std.proofs.lemmas.Option.{same_Some as some_same}
 
 -- ---- what the lines so far have
 record AreSsrcs (legs : List LegLine) (said : Option MixerLine) : Type 0 where
@@ -36,12 +37,10 @@ Fits (Spacing n) = Unit {0}
 Fits (Wait n) = Unit {0}
 Fits (Turns n) = Unit {0}
 Fits (Relabel n) = Unit {0}
+Fits (Mtu n) = Unit {0}
 Fits (Plan p) = Unit {0}
 Fits (Follows k) = Unit {0}
 Fits (Serves s) = Unit {0}
-
-some_same : {A : Type 0} (x y : A) → Some x ≡ Some y → x ≡ y
-some_same x y e = cc e
 
 changed : (change : LegLine → LegLine) → ((l : LegLine) → (change l).ssrc ≡ l.ssrc) → (k : ℕ) (legs : List LegLine) → All (λ l. l.ssrc < 2 ^ 32) legs → All (λ l. l.ssrc < 2 ^ 32) (change_leg change k legs)
 changed change same k [] a = a
@@ -65,6 +64,7 @@ more above (Spacing m) f n = record { legs_fit = f.legs_fit; mixer_fits = f.mixe
 more above (Wait m) f n = record { legs_fit = f.legs_fit; mixer_fits = f.mixer_fits }
 more above (Turns m) f n = record { legs_fit = f.legs_fit; mixer_fits = f.mixer_fits }
 more above (Relabel m) f n = record { legs_fit = f.legs_fit; mixer_fits = f.mixer_fits }
+more above (Mtu m) f n = record { legs_fit = f.legs_fit; mixer_fits = f.mixer_fits }
 more above (Mixer x) f n = record { legs_fit = f.legs_fit; mixer_fits = λ m e. subst (λ (y : MixerLine). y.ssrc < 2 ^ 32) (some_same x m e) n }
 more above (Plan p) f n = record { legs_fit = f.legs_fit; mixer_fits = f.mixer_fits }
 more above (Follows k) f n = record { legs_fit = changed with_follow (λ l. refl) k above.legs f.legs_fit; mixer_fits = f.mixer_fits }
@@ -120,6 +120,7 @@ entry_fits form above n = record {
   each_wait = λ ws x e. tt;
   each_turns = λ ws x e. tt;
   each_relabel = λ ws x e. tt;
+  each_mtu = λ ws x e. tt;
   each_follow = λ q ws x e. tt;
   each_counts = λ ws x e. tt;
   each_service = λ q word ws x e. tt;

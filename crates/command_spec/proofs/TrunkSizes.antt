@@ -1,15 +1,12 @@
 -- A split fits into an input of a leg.
-use Rattle.std.proofs.Common.{◌*◌, ◌≡◌, ◌≤◌, ℕ, Bool, true, false, cond, List, length, refl, arith}
+use Rattle.std.proofs.Common.{◌*◌, ◌≤◌, ℕ, cond, List, length, arith}
 use Rattle.std.specs.Prelude.{nat_lt}
 use Rattle.file_spec.specs.Conference.{Conference}
 use Rattle.mixer_spec.specs.Bridged.{input_limit}
 use Rattle.command_spec.specs.Laws.{split_of}
 use Rattle.command_spec.proofs.SplitSizes.{split_fits}
 use Rattle.command_spec.specs.Cascading.{trunk_limit, trunk_of}
-
-by_bool : (P : Bool → Type 0) (b : Bool) → (b ≡ true → P true) → (b ≡ false → P false) → P b
-by_bool P true t f = t refl
-by_bool P false t f = f refl
+use Rattle.command_spec.proofs.CascadeOutputs.{by_bool}
 
 -- an input may have at least twice the octets of the recording
 twice : (c : Conference) (n : ℕ) → n ≤ 2 * trunk_limit c → n ≤ input_limit c

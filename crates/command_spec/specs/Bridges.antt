@@ -2,6 +2,7 @@
 -- The first hop is from a leg to the mixer, the second from the mixer to a terminal.
 use Rattle.std.specs.Prelude.{◌≡◌, ◌<◌, ◌≤◌, ℕ, false, List, [], ◌++◌, length, map, flat_map, remove, None, Some, Ok, All, if◌then◌else◌}
 use Rattle.std.specs.List.{AllZip, concat, enumerate_from}
+use Rattle.std.specs.Option.{ForSome}
 use Rattle.wire_spec.specs.Packets.{Arrival}
 use Rattle.wire_spec.specs.Text.{text_of}
 use Rattle.wire_spec.specs.Dump.{dump, dump_written, sent_item}
@@ -19,8 +20,10 @@ use Rattle.view_spec.specs.Views.{Source, aware_view, unaware_view}
 use Rattle.mixer_spec.specs.Setups.{AllStay, IsAnother, Setup, leg_at, setup}
 use Rattle.mixer_spec.specs.Table.{Table}
 use Rattle.mixer_spec.specs.Arrives.{arrivals}
-use Rattle.mixer_spec.specs.Headline.{Hop, hears, OneHop, Headline, HeadlineAt, all_sent}
-use Rattle.mixer_spec.specs.Bridged.{Bridged, BridgedAsOne, IsConferenceMixed, IsPair, IsSentBy, SharedIsPart, hop_from, hop_to, input_limit, leg_heard, told_by_packets}
+use Rattle.mixer_spec.specs.Headline.{Hop, hears, OneHop}
+use Rattle.mixer_spec.specs.Bridged.{IsConferenceMixed, IsPair, IsSentBy, SharedIsPart, cutting_of, hop_from, hop_to, input_limit, leg_heard, pieces_heard, told_by_packets}
+use Rattle.mixer_spec.specs.Behind.{Bridged, BridgedAsOne}
+use Rattle.mixer_spec.specs.PieceHeadline.{PieceHeadline, PieceHeadlineAt, all_pieces}
 use Rattle.command_spec.specs.Heard.{HearsNamed}
 use Rattle.command_spec.specs.Seen.{ShowsNamed}
 use Rattle.command_spec.specs.Work.{Contents}
@@ -37,6 +40,10 @@ pub record Bridge : Type 0 where
 abbrev pub setup_of : Bridge → Setup
 setup_of b = setup b.conference
 
+-- how the texts of its legs are cut where they are heard
+abbrev pub cut_by : Bridge → List ℕ → List (List ℕ)
+cut_by b = cutting_of b.conference
+
 -- ---- the first hop: from the leg i, of whom the history h was sent, but for keep-alives
 -- what came of the leg is of the lawful history h
 abbrev pub IsFrom : Bridge → ℕ → History → Type 0
@@ -45,7 +52,7 @@ IsFrom b i h = IsSentBy b.conference (input_at b.inputs) i h
 abbrev pub inward : Bridge → ℕ → History → Hop
 inward b i h = hop_from b.conference (input_at b.inputs) i h
 
--- what is heard of the leg, with the moments from which each text may be mixed
+-- what is heard of the leg, in pieces, with the moments from which each may be mixed
 abbrev pub chunks_of : Bridge → ℕ → List Chunk
 chunks_of b i = leg_heard b.conference (input_at b.inputs) i
 
@@ -82,6 +89,8 @@ pub record IsOut (b : Bridge) (j : ℕ) (leg : LegLine) (octets : List ℕ) : Ty
   pub is : octets ≡ dump_written (records_of b j leg)
   pub packets : map (λ r. text_of r.1 (Some b.conference.mixer.ssrc) leg.payload_types) (records_of b j leg)
       ≡ map (λ x. Ok (own_packet (told_to b j) x)) (placed (told_to b j))
+  -- Where packets have a limit none has more octets.
+  pub fit : ForSome b.conference.mtu (λ most. All (λ r. length r.1 ≤ most) (records_of b j leg))
   pub read_back : (limit : ℕ) → All (λ r. r.0 ≤ LAST_RECORD_MOMENT) (records_of b j leg) → length octets ≤ limit
       → dump limit octets ≡ record { items = map sent_item (records_of b j leg); fault = None }
 
@@ -116,16 +125,16 @@ views_behind b = flat_map (λ x. view_behind b x.0 x.1) (enumerate_from 0 b.conf
 -- What the aware terminal j hears of the leg i, whatever the inputs have, and whatever the plan loses, repeats or delays.
 pub record IsHeard (b : Bridge) (j i : ℕ) : Type 0 where
   -- Its history is lawful, own and closed, and carries all that it shares of the leg.
-  pub bridged : (h : History) → Bridged (setup_of b) b.table j i (told_to b j) (inward b i h) (chunks_of b i)
+  pub bridged : (h : History) → Bridged (cut_by b) (setup_of b) b.table j i (told_to b j) (inward b i h) (chunks_of b i)
   -- The headline, for every lawful history of which the leg's arrivals come, cut at what the terminal shares of the leg: of each
-  -- block that is no keep-alive.
+  -- piece of each block that is no keep-alive.
   pub headline : (h : History) → IsFrom b i h
-      → HeadlineAt (inward b i h) (onward_from b j i) (bridged h).part.before [] (bridged h).part.after
+      → PieceHeadlineAt (cut_by b) (inward b i h) (onward_from b j i) (bridged h).part.before [] (bridged h).part.after
   -- Where nobody comes later or goes, that is all that is heard of the leg.
   pub carries_all : AllStay (setup_of b)
-      → (h : History) → Carries (told_to b j) ((setup_of b).ssrc i) (hears (inward b i h))
+      → (h : History) → Carries (told_to b j) ((setup_of b).ssrc i) (pieces_heard (cut_by b) (inward b i h))
   pub headline_all : AllStay (setup_of b)
-      → (h : History) → IsFrom b i h → Headline (inward b i h) (onward_from b j i) (all_sent (inward b i h))
+      → (h : History) → IsFrom b i h → PieceHeadline (cut_by b) (inward b i h) (onward_from b j i) (all_pieces (cut_by b) (inward b i h))
 
 -- What a terminal hears that is not aware: the mixer as the one source.
 pub record IsHeardAsOne (b : Bridge) (j : ℕ) : Type 0 where
@@ -140,7 +149,7 @@ pub record IsHeardAsOne (b : Bridge) (j : ℕ) : Type 0 where
   pub shown_named : ShowsNamed (setup_of b) (b.table.terminals j).asks (onward_from_mixer b j) named
   -- What it shares of each other leg stands in what is heard of that leg.
   pub part : (i : ℕ) → i < length b.conference.legs → IsAnother i j
-      → (h : History) → SharedIsPart (setup_of b) b.table j i (inward b i h) (chunks_of b i)
+      → (h : History) → SharedIsPart (cut_by b) (setup_of b) b.table j i (inward b i h) (chunks_of b i)
 
 -- ---- the whole
 -- The conference lies in this file, and recordings without a fault in its inputs; mixing them is over within its turns.

@@ -53,12 +53,15 @@ pub record IsHeardBehind (t : Trunk) (octets : List ℕ) (b : Bridge) (i ssrc : 
   -- Where the recording is of a lawful history, that is what is kept of it, whatever was lost before it was recorded.
   pub kept_of : (h : History) → Lawful h → Come h (came_of t octets)
       → concat (heard_of b i) ≡ concat (texts (kept (still_history h) (places t.wait (still_history h) (still (came_of t octets))) ssrc))
-  -- Then the headline holds from the sender of that history to each aware terminal, cut at what the terminal shares of the leg.
-  pub headline : (j : ℕ) → IsPair (setup_of b) j i → (h : History) → Lawful h → Come h (came_of t octets)
+  -- Then, where packets have no limit, the headline holds from the sender of that history to each aware terminal, cut at what the
+  -- terminal shares of the leg.
+  pub headline : b.conference.mtu ≡ None → (j : ℕ) → IsPair (setup_of b) j i
+      → (h : History) → Lawful h → Come h (came_of t octets)
       → (cut : IsCutBehind b j i (hears (to_recording t octets ssrc h)))
       × HeadlineAt (to_recording t octets ssrc h) (onward_from b j i) cut.front [] cut.back
   -- Where nobody comes later or goes, it leaves nothing out.
-  pub headline_all : AllStay (setup_of b) → (j : ℕ) → IsPair (setup_of b) j i → (h : History) → Lawful h → Come h (came_of t octets)
+  pub headline_all : b.conference.mtu ≡ None → AllStay (setup_of b) → (j : ℕ) → IsPair (setup_of b) j i
+      → (h : History) → Lawful h → Come h (came_of t octets)
       → Headline (to_recording t octets ssrc h) (onward_from b j i) (all_sent (to_recording t octets ssrc h))
 
 -- What lies in the outputs of a mixed conference then, what is printed of it, and what its terminals hear.

@@ -141,4 +141,5 @@ AnyIsShown =
 -- What is shown of a part of a text is the end of what is shown of all up to there. So where what stands before it is lost, the same
 -- of its own characters are taken back as if that had come: an erasure of a lost character takes back nothing.
 abbrev pub PartsAreEnds : Type 0
-PartsAreEnds = (before part : List ℕ) → (ends_with_cr before && begins_with_lf part) ≡ false → (left : List ℕ) × (stand (before ++ part) ≡ left ++ stand part)
+PartsAreEnds = (before part : List ℕ) → (ends_with_cr before && begins_with_lf part) ≡ false
+    → (left : List ℕ) × (stand (before ++ part) ≡ left ++ stand part)

@@ -24,9 +24,11 @@ pub fn histories_are_shown()
 /// types are ones that are given to text.
 pub fn shown_is_read()
     ensures shown { (r : ReadRequest) (octets : List ℕ) → AreGiven r.payload_types
-        → display_at (reception r) (stream r.payload_types r.ssrc (records_of octets)) r.source ≡ display_at (reception r) (records_of octets) r.source }
+        → display_at (reception r) (stream r.payload_types r.ssrc (records_of octets)) r.source
+        ≡ display_at (reception r) (records_of octets) r.source }
     ensures used { (r : ReadRequest) (octets : List ℕ) → AreGiven r.payload_types
-        → (counts_at (reception r) (stream r.payload_types r.ssrc (records_of octets))).used ≡ (counts_at (reception r) (records_of octets)).used }
+        → (counts_at (reception r) (stream r.payload_types r.ssrc (records_of octets))).used
+        ≡ (counts_at (reception r) (records_of octets)).used }
 {}
 
 /// What `mix` makes of a conference is bridged, whatever lies in its inputs and whatever its plan says: each output has the

@@ -11,10 +11,10 @@ use Rattle.conf_text.specs.declared.leg_lines.LegWords.{LegWords}
 use Rattle.conf_text.specs.declared.drafts.NewLeg.{NewLeg}
 use Rattle.conf_text.specs.declared.drafts.Draft.{Draft}
 use Rattle.conf_text.specs.declared.drafts.LineEntry.{LineEntry}
-use Rattle.conf_text.specs.declared.drafts.LineEntry.TheVariants.{Leg, Generations, Stays, Tick, Spacing, Wait, Turns, Relabel, Mixer, Plan, Follows, Serves}
+use Rattle.conf_text.specs.declared.drafts.LineEntry.TheVariants.{Leg, Generations, Stays, Tick, Spacing, Wait, Turns, Relabel, Mtu, Mixer, Plan, Follows, Serves}
 
 abbrev pub above_of : Draft → conference.Above
-above_of d = record { legs = d.legs; generations = d.generations.items; stays = d.stays.items; tick = d.tick; spacing = d.spacing; wait = d.wait; turns = d.turns; relabel = d.relabel; mixer = d.mixer; plan = d.plan; service = d.service }
+above_of d = record { legs = d.legs; generations = d.generations.items; stays = d.stays.items; tick = d.tick; spacing = d.spacing; wait = d.wait; turns = d.turns; relabel = d.relabel; mtu = d.mtu; mixer = d.mixer; plan = d.plan; service = d.service }
 
 abbrev pub leg_line : NewLeg → LegLine
 leg_line l = record { line = l.line; name = l.name; aware = l.aware; ssrc = l.ssrc; input = l.input.now; output = l.output.now; payload_types = l.payload_types; generations = USUAL_GENERATIONS; stay = conference.whole_stay; follow = false }
@@ -28,6 +28,7 @@ meaning (Spacing n) = conference.Spacing n
 meaning (Wait n) = conference.Wait n
 meaning (Turns n) = conference.Turns n
 meaning (Relabel n) = conference.Relabel n
+meaning (Mtu n) = conference.Mtu n
 meaning (Mixer m) = conference.Mixer m
 meaning (Plan p) = conference.Plan p
 meaning (Follows k) = conference.Follows k
@@ -61,6 +62,7 @@ MayFollow above (conference.Spacing n) = Unit {0}
 MayFollow above (conference.Wait n) = Unit {0}
 MayFollow above (conference.Turns n) = Unit {0}
 MayFollow above (conference.Relabel n) = Unit {0}
+MayFollow above (conference.Mtu n) = Unit {0}
 MayFollow above (conference.Mixer m) = Unit {0}
 MayFollow above (conference.Plan p) = Unit {0}
 MayFollow above (conference.Follows k) = k < length above.legs

@@ -99,6 +99,7 @@ fn finish(draft: Draft, line: u32) -> Result<Conference, ConfFault>
         wait: draft.wait.unwrap_or(USUAL_WAIT),
         turns: draft.turns.unwrap_or(MOST_TURNS),
         relabel: draft.relabel,
+        mtu: draft.mtu,
         mixer,
         plan: draft.plan,
         service: draft.service,

@@ -11,7 +11,8 @@ use crate::plan_lines::read_plan;
 use crate::service_lines::{read_counts, read_service};
 use crate::stay_lines::{read_generations, read_stay};
 use file_spec::limits::{
-    LEAST_RELABEL, LEAST_SPACING, LEAST_TICK, MOST_RELABEL, MOST_SPACING, MOST_TICK, MOST_TURNS,
+    LEAST_MTU, LEAST_RELABEL, LEAST_SPACING, LEAST_TICK, MOST_MTU, MOST_RELABEL, MOST_SPACING,
+    MOST_TICK, MOST_TURNS,
 };
 use file_spec::{Form, MixerLine};
 use rtt_base::limits::LONGEST_WAIT;
@@ -136,6 +137,7 @@ fn read_time_or_other<'a>(form: Form, above: &Draft, word: &str, words: &[&str])
             above.relabel,
             words,
         )?)),
+        "mtu" => Ok(LineEntry::Mtu(read_setting(LEAST_MTU, MOST_MTU, above.mtu, words)?)),
         other => read_counts_or_other(form, above, other, words),
     }
 }

@@ -15,6 +15,3 @@ mod stay_lines;
 pub use conference_reader::read_conf;
 pub use file_spec::{ConfKind, Form};
 pub use script_text::ConfFault;
-
-#[cfg(test)]
-mod tests;

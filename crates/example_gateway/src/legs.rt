@@ -8,7 +8,7 @@ ghost use Rattle.rtt_base.specs.declared.limits.TheConstants.{END_OF_MOMENTS};
 
 use file_spec::Conference;
 use mixer::Mixer;
-use receiver::{Ear, EarSettings, is_blank};
+use receiver::{Ear, EarSettings, TextCut};
 use rtt_base::limits::MOST_ARRIVALS;
 use rtt_base::{Chunk, Full, NoMemory};
 use std::alloc::Global;
@@ -29,7 +29,7 @@ pub(crate) struct Leg {
 enum OfferAnswer {
     /// There is none.
     Nothing,
-    /// The mixer took it, or it is a keep-alive.
+    /// The mixer took it.
     Taken,
     /// It waits for room.
     Waits,
@@ -45,6 +45,7 @@ impl Leg {
             ssrc: line.ssrc,
             payload_types: line.payload_types,
             wait: u64::from(conference.wait),
+            cut: TextCut::within(conference.mtu),
         };
         Ok(Leg {
             ear: Ear::new(alloc, ear, &[ear.ssrc])?,
@@ -74,7 +75,7 @@ impl Leg {
             return OfferAnswer::Nothing;
         }
         self.next.source = leg;
-        self.waits = !is_blank(self.next.text.as_slice()) && mixer.offer(&self.next).is_err();
+        self.waits = mixer.offer(&self.next).is_err();
         if self.waits {
             OfferAnswer::Waits
         } else {

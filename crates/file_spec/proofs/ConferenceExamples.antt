@@ -17,7 +17,7 @@ use Rattle.file_spec.specs.Conference.{Above, Conference, complete, conference_f
 
 -- a conference of these legs that says no more than it must
 abbrev usual : List LegLine → MixerLine → Conference
-usual legs mixer = record { legs = legs; tick = 100; spacing = 300; wait = 1000; turns = 5000000; relabel = None; mixer = mixer; plan = []; service = no_service }
+usual legs mixer = record { legs = legs; tick = 100; spacing = 300; wait = 1000; turns = 5000000; relabel = None; mtu = None; mixer = mixer; plan = []; service = no_service }
 
 two_legs_and_a_loss : conference_from Files (codes "mixer 9000 100 5000\n\n# who\n leg Ann aware 1001 ann.in ann.out\r\nleg Bob  unaware 1002 bob.in bob.out 96 97\ntick 20\nlose Bob 1")
     ≡ Ok (record (
@@ -93,6 +93,9 @@ faulty =
     -- two such times, and none
     ∷ (Links, codes "relabel 2000\nrelabel 2000", record { line = 2; kind = Twice })
     ∷ (Files, codes "relabel", record { line = 1; kind = Count })
+    ∷ (Files, codes "mtu 547", record { line = 1; kind = Number })
+    ∷ (Links, codes "mtu 4225", record { line = 1; kind = Number })
+    ∷ (Links, codes "mtu 1200\nmtu 1200", record { line = 2; kind = Twice })
     -- short spacing
     ∷ (Files, codes "spacing 99", record { line = 1; kind = Number })
     -- four generations

@@ -3,7 +3,7 @@ use Rattle.std.proofs.Common.{◌≡◌, ℕ, ◌+◌, Bool, true, false, Option
 use Rattle.std.specs.Prelude.{not, nat_lt, if◌then◌else◌, Result, Ok, Err, codes, bytes_eq, ◌==◌, is_some}
 use Rattle.std.specs.Str.{is_utf8}
 use Rattle.std.specs.Str.Lines.{lines}
-use Rattle.file_spec.specs.declared.limits.TheConstants.{FEWEST_LEGS, LEAST_TICK, MOST_TICK, LEAST_SPACING, MOST_SPACING, LEAST_RELABEL, MOST_RELABEL, LEAST_GONE, MOST_GONE, MOST_TURNS, MOST_CONFERENCE_OCTETS, USUAL_GENERATIONS}
+use Rattle.file_spec.specs.declared.limits.TheConstants.{FEWEST_LEGS, LEAST_TICK, MOST_TICK, LEAST_SPACING, MOST_SPACING, LEAST_RELABEL, MOST_RELABEL, LEAST_MTU, MOST_MTU, LEAST_GONE, MOST_GONE, MOST_TURNS, MOST_CONFERENCE_OCTETS, USUAL_GENERATIONS}
 use Rattle.file_spec.specs.declared.kinds.ConfKind.{ConfKind}
 use Rattle.file_spec.specs.declared.kinds.ConfKind.TheVariants.{NotText, Few, Crowd, Large, Name, Number, Twice, Clash, Word}
 use Rattle.file_spec.specs.declared.conference_lines.Form.{Form}
@@ -21,7 +21,7 @@ use Rattle.file_spec.specs.Steps.{unless}
 use Rattle.file_spec.specs.Lines.{Line, words, told, at_line, read_lines}
 use Rattle.file_spec.specs.Stays.{is_crowd}
 use Rattle.file_spec.specs.Services.{is_operator_word}
-use Rattle.file_spec.specs.Conference.{Above, Conference, Entry, Leg, Generations, Stays, Tick, Spacing, Wait, Turns, Relabel, Mixer, Plan, Follows, Serves, says, time_or_other, stay_or_plan, follow_or_service, follow, counts, counts_or_other, of_form, service_word, operator, operator_of, prefix, port, is_same_port, nothing, with_entry, setting, mixer, leg, generations, stay, plan_word, entry, is_blank, and_line, whole, complete, conference_from, mixer_of, leg_of, new_leg, has_names, has_port, aware_of, whole_stay}
+use Rattle.file_spec.specs.Conference.{Above, Conference, Entry, Leg, Generations, Stays, Tick, Spacing, Wait, Turns, Relabel, Mtu, Mixer, Plan, Follows, Serves, says, time_or_other, stay_or_plan, follow_or_service, follow, counts, counts_or_other, of_form, service_word, operator, operator_of, prefix, port, is_same_port, nothing, with_entry, setting, mixer, leg, generations, stay, plan_word, entry, is_blank, and_line, whole, complete, conference_from, mixer_of, leg_of, new_leg, has_names, has_port, aware_of, whole_stay}
 use Rattle.rtt_base.proofs.Steps.{bind_ok}
 use Rattle.file_spec.proofs.Passed.{unless_ok, ok_or_ok}
 use Rattle.rtt_base.specs.declared.limits.TheConstants.{LONGEST_WAIT}
@@ -144,6 +144,7 @@ pub record HoldsOf (P : Entry → Type 0) (form : Form) (above : Above) (n : ℕ
   pub each_service : form ≡ Links → (word : List ℕ) (ws : List (List ℕ)) (x : ServiceLine) → service_word above word ws ≡ Ok x → P (Serves x)
   pub each_counts : (ws : List (List ℕ)) (x : ServiceLine) → counts above ws ≡ Ok x → P (Serves x)
   pub each_relabel : (ws : List (List ℕ)) (x : ℕ) → setting LEAST_RELABEL MOST_RELABEL above.relabel ws ≡ Ok x → P (Relabel x)
+  pub each_mtu : (ws : List (List ℕ)) (x : ℕ) → setting LEAST_MTU MOST_MTU above.mtu ws ≡ Ok x → P (Mtu x)
 
 module _ (P : Entry → Type 0) (form : Form) (above : Above) (n : ℕ) (h : HoldsOf P form above n) where
   stay_or_plan_holds : form ≡ Files → (word : List ℕ) (more : List (List ℕ)) (e : Entry) → stay_or_plan above word more ≡ Ok e → P e
@@ -175,17 +176,18 @@ module _ (P : Entry → Type 0) (form : Form) (above : Above) (n : ℕ) (h : Hol
 
   time_holds : (word : List ℕ) (more : List (List ℕ)) (e : Entry) → time_or_other form above word more ≡ Ok e → P e
   unfolding time_or_other
-  time_holds word more e q = go (bytes_eq word (codes "tick")) (bytes_eq word (codes "spacing")) (bytes_eq word (codes "wait")) (bytes_eq word (codes "turns")) (bytes_eq word (codes "relabel")) q
+  time_holds word more e q = go (bytes_eq word (codes "tick")) (bytes_eq word (codes "spacing")) (bytes_eq word (codes "wait")) (bytes_eq word (codes "turns")) (bytes_eq word (codes "relabel")) (bytes_eq word (codes "mtu")) q
     where
-      go : (a b c d r : Bool)
-          → (if a then says Tick (setting LEAST_TICK MOST_TICK above.tick more) else (if b then says Spacing (setting LEAST_SPACING MOST_SPACING above.spacing more) else (if c then says Wait (setting 0 LONGEST_WAIT above.wait more) else (if d then says Turns (setting 1 MOST_TURNS above.turns more) else (if r then says Relabel (setting LEAST_RELABEL MOST_RELABEL above.relabel more) else counts_or_other form above word more))))) ≡ Ok e
+      go : (a b c d r m : Bool)
+          → (if a then says Tick (setting LEAST_TICK MOST_TICK above.tick more) else (if b then says Spacing (setting LEAST_SPACING MOST_SPACING above.spacing more) else (if c then says Wait (setting 0 LONGEST_WAIT above.wait more) else (if d then says Turns (setting 1 MOST_TURNS above.turns more) else (if r then says Relabel (setting LEAST_RELABEL MOST_RELABEL above.relabel more) else (if m then says Mtu (setting LEAST_MTU MOST_MTU above.mtu more) else counts_or_other form above word more)))))) ≡ Ok e
           → P e
-      go true b c d r q = says_holds P Tick (setting LEAST_TICK MOST_TICK above.tick more) e (h.each_tick more) q
-      go false true c d r q = says_holds P Spacing (setting LEAST_SPACING MOST_SPACING above.spacing more) e (h.each_spacing more) q
-      go false false true d r q = says_holds P Wait (setting 0 LONGEST_WAIT above.wait more) e (h.each_wait more) q
-      go false false false true r q = says_holds P Turns (setting 1 MOST_TURNS above.turns more) e (h.each_turns more) q
-      go false false false false true q = says_holds P Relabel (setting LEAST_RELABEL MOST_RELABEL above.relabel more) e (h.each_relabel more) q
-      go false false false false false q = counts_holds word more e q
+      go true b c d r m q = says_holds P Tick (setting LEAST_TICK MOST_TICK above.tick more) e (h.each_tick more) q
+      go false true c d r m q = says_holds P Spacing (setting LEAST_SPACING MOST_SPACING above.spacing more) e (h.each_spacing more) q
+      go false false true d r m q = says_holds P Wait (setting 0 LONGEST_WAIT above.wait more) e (h.each_wait more) q
+      go false false false true r m q = says_holds P Turns (setting 1 MOST_TURNS above.turns more) e (h.each_turns more) q
+      go false false false false true m q = says_holds P Relabel (setting LEAST_RELABEL MOST_RELABEL above.relabel more) e (h.each_relabel more) q
+      go false false false false false true q = says_holds P Mtu (setting LEAST_MTU MOST_MTU above.mtu more) e (h.each_mtu more) q
+      go false false false false false false q = counts_holds word more e q
 
   pub entry_holds : (ws : List (List ℕ)) (e : Entry) → entry form above n ws ≡ Ok e → P e
   unfolding entry

@@ -71,7 +71,7 @@ decided p xs w l e =
     let cut = b.cut in
     absurd (omega (arith, small, cut, l))
 
-same_reading : (n : ℕ) (p : Place) (xs ys : List ℕ) → length xs ≤ n → p.byte ≤ MOST_FRAMES_OCTETS → MOST_FRAMES_OCTETS + FRAME_HEAD_OCTETS ≤ p.byte + length xs → reading_from p (xs ++ ys) ≡ reading_from p xs
+pub same_reading : (n : ℕ) (p : Place) (xs ys : List ℕ) → length xs ≤ n → p.byte ≤ MOST_FRAMES_OCTETS → MOST_FRAMES_OCTETS + FRAME_HEAD_OCTETS ≤ p.byte + length xs → reading_from p (xs ++ ys) ≡ reading_from p xs
 same_reading zero p xs ys few w l = absurd (omega (arith, few, w, l))
 same_reading (suc n) p xs ys few w l = same_by_step p xs ys (omega (arith, w, l)) (decided p xs w l) (λ e.
     let b = behind_of p xs e in

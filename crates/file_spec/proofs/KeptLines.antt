@@ -10,7 +10,7 @@ use Rattle.std.proofs.lemmas.List.Folds.{list_any_at}
 use Rattle.std.proofs.lemmas.List.Quantifiers.{all_pairs_push, position-Some}
 use Rattle.std.proofs.lemmas.Slice.Eq.{bytes_eq-Decides}
 use Rattle.rtt_base.specs.declared.text_packets.PayloadTypes.{PayloadTypes}
-use Rattle.file_spec.specs.declared.limits.TheConstants.{FEWEST_LEGS, MOST_LEGS, LEAST_TICK, MOST_TICK, USUAL_TICK, LEAST_SPACING, MOST_SPACING, USUAL_SPACING, LEAST_RELABEL, MOST_RELABEL, LEAST_GONE, MOST_GONE, MOST_TURNS, MOST_GENERATIONS, USUAL_GENERATIONS, MOST_PLAN_LINES, LONGEST_DELAY, FIRST_TYPE, LAST_TYPE, LAST_MOMENT}
+use Rattle.file_spec.specs.declared.limits.TheConstants.{FEWEST_LEGS, MOST_LEGS, LEAST_TICK, MOST_TICK, USUAL_TICK, LEAST_SPACING, MOST_SPACING, USUAL_SPACING, LEAST_RELABEL, MOST_RELABEL, LEAST_MTU, MOST_MTU, LEAST_GONE, MOST_GONE, MOST_TURNS, MOST_GENERATIONS, USUAL_GENERATIONS, MOST_PLAN_LINES, LONGEST_DELAY, FIRST_TYPE, LAST_TYPE, LAST_MOMENT}
 use Rattle.file_spec.specs.declared.kinds.ConfKind.TheVariants.{Word, Name, Number, Many, PlanMany, Twice, Clash}
 use Rattle.file_spec.specs.declared.conference_lines.Form.{Form}
 use Rattle.file_spec.specs.declared.conference_lines.Form.TheVariants.{Files, Links}
@@ -31,18 +31,16 @@ use Rattle.file_spec.specs.Steps.{unless}
 use Rattle.file_spec.specs.Lines.{Line}
 use Rattle.file_spec.specs.Numbers.{number, most_ssrc, number_between, payload_type, payload_types}
 use Rattle.file_spec.specs.Stays.{IsStay, is_crowd}
-use Rattle.file_spec.specs.Conference.{Above, Conference, Entry, Leg, Generations, Stays, Tick, Spacing, Wait, Turns, Relabel, Mixer, Plan, Follows, Serves, nothing, with_entry, change_leg, with_generations, with_stay, with_follow, setting, mixer, mixer_of, is_mixers, is_name, has_names, has_port, shares_own, shares_path, clashes, most_legs, new_leg, aware_of, whole_stay, usual_types, leg_of, leg, place_of, generations_of, generations, stay_of, stay, is_same_packet, plan_of, plan, delay_of, delay, plan_word, counts, service_word, operator, port, is_same_port, is_operators, and_line, whole, conference_from, prefix, is_path}
+use Rattle.file_spec.specs.Conference.{Above, Conference, Entry, Leg, Generations, Stays, Tick, Spacing, Wait, Turns, Relabel, Mtu, Mixer, Plan, Follows, Serves, nothing, with_entry, change_leg, with_generations, with_stay, with_follow, setting, mixer, mixer_of, is_mixers, is_name, has_names, has_port, shares_own, shares_path, clashes, most_legs, new_leg, aware_of, whole_stay, usual_types, leg_of, leg, place_of, generations_of, generations, stay_of, stay, is_same_packet, plan_of, plan, delay_of, delay, plan_word, counts, service_word, operator, port, is_same_port, is_operators, and_line, whole, conference_from, prefix, is_path}
 use Rattle.file_spec.specs.Sound.{IsBetween}
 use Rattle.file_spec.specs.Services.{with_service}
-use Rattle.file_spec.specs.Kept.{IsLeg, Differ, AreLegs, IsMixerFor, IsShort, IsTick, IsSpacing, IsWait, AreTurns, IsRelabel, IsGone, IsOperatorFor, IsServiceFor, Keeps, IsConference}
+use Rattle.file_spec.specs.Kept.{IsLeg, Differ, AreLegs, IsMixerFor, IsShort, IsTick, IsSpacing, IsWait, AreTurns, IsRelabel, IsMtu, IsGone, IsOperatorFor, IsServiceFor, Keeps, IsConference}
 use Rattle.file_spec.proofs.Crowds.{crowds_seen}
 use Rattle.rtt_base.proofs.Steps.{bind_ok}
 use Rattle.file_spec.proofs.Passed.{unless_ok, ok_or_ok, then_some, number_most, number_in}
 use Rattle.rtt_base.specs.declared.limits.TheConstants.{LONGEST_WAIT, USUAL_WAIT}
 use Rattle.file_spec.proofs.EachLine.{HoldsOf, entry_holds, service_holds, line_adds, lines_of, completed, leg_read, mixer_read, operator_read}
-
-some_same : {A : Type 0} (x y : A) → Some x ≡ Some y → x ≡ y
-some_same x y e = cc e
+use Rattle.std.proofs.lemmas.Option.{same_Some as some_same}
 
 -- ---- what a line adds
 record IsNewLeg (above : Above) (l : LegLine) : Type 0 where
@@ -73,6 +71,7 @@ IsNew above (Spacing n) = IsSpacing n
 IsNew above (Wait n) = IsWait n
 IsNew above (Turns n) = AreTurns n
 IsNew above (Relabel n) = IsRelabel n
+IsNew above (Mtu n) = IsMtu n
 IsNew above (Mixer m) = IsMixerFor above.legs m
 IsNew above (Plan p) = IsNewPlan above p
 IsNew above (Follows k) = Unit {0}
@@ -90,6 +89,7 @@ leg_more above l k new = record {
   wait = k.wait;
   turns = k.turns;
   relabel = k.relabel;
+  mtu = k.mtu;
   mixer = λ m e. record { seq = (k.mixer m e).seq; differs = All-push (λ a. a.ssrc ≢ m.ssrc) above.legs l (k.mixer m e).differs (new.mixer m e) };
   plan = record {
     most = k.plan.most;
@@ -112,6 +112,7 @@ plan_more above p k new = record {
   wait = k.wait;
   turns = k.turns;
   relabel = k.relabel;
+  mtu = k.mtu;
   mixer = k.mixer;
   plan = record {
     most = let r = new.room in omega (arith, length_push above.plan p);
@@ -184,6 +185,7 @@ changed above change leaves k gs ss kept = record {
   wait = kept.wait;
   turns = kept.turns;
   relabel = kept.relabel;
+  mtu = kept.mtu;
   mixer = λ m e. record {
     seq = (kept.mixer m e).seq;
     differs = λ i d h. changed_at change (λ l. l.ssrc ≢ m.ssrc) (λ l f q. f (sym (leaves.ssrc l) ∙ q)) above.legs k i d ((kept.mixer m e).differs i d (shorter change k above.legs i h));
@@ -218,15 +220,16 @@ more : (above : Above) (said : Entry) → Keeps above → IsNew above said → K
 more above (Leg l) k new = leg_more above l k new
 more above (Generations g) k new = changed above (with_generations g.generations) (generations_leave g.generations new) g.leg _ above.stays k
 more above (Stays s) k new = changed above (with_stay s.stay) (stay_leaves s.stay new) s.leg above.generations _ k
-more above (Tick n) k new = record { legs = k.legs; tick = λ m e. subst IsTick (some_same n m e) new; spacing = k.spacing; wait = k.wait; turns = k.turns; relabel = k.relabel; mixer = k.mixer; plan = k.plan; service = k.service }
-more above (Spacing n) k new = record { legs = k.legs; tick = k.tick; spacing = λ m e. subst IsSpacing (some_same n m e) new; wait = k.wait; turns = k.turns; relabel = k.relabel; mixer = k.mixer; plan = k.plan; service = k.service }
-more above (Wait n) k new = record { legs = k.legs; tick = k.tick; spacing = k.spacing; wait = λ m e. subst IsWait (some_same n m e) new; turns = k.turns; relabel = k.relabel; mixer = k.mixer; plan = k.plan; service = k.service }
-more above (Turns n) k new = record { legs = k.legs; tick = k.tick; spacing = k.spacing; wait = k.wait; turns = λ m e. subst AreTurns (some_same n m e) new; relabel = k.relabel; mixer = k.mixer; plan = k.plan; service = k.service }
-more above (Relabel n) k new = record { legs = k.legs; tick = k.tick; spacing = k.spacing; wait = k.wait; turns = k.turns; relabel = λ m e. subst IsRelabel (some_same n m e) new; mixer = k.mixer; plan = k.plan; service = k.service }
-more above (Mixer x) k new = record { legs = k.legs; tick = k.tick; spacing = k.spacing; wait = k.wait; turns = k.turns; relabel = k.relabel; mixer = λ m e. subst (IsMixerFor above.legs) (some_same x m e) new; plan = k.plan; service = k.service }
+more above (Tick n) k new = record { legs = k.legs; tick = λ m e. subst IsTick (some_same n m e) new; spacing = k.spacing; wait = k.wait; turns = k.turns; relabel = k.relabel; mtu = k.mtu; mixer = k.mixer; plan = k.plan; service = k.service }
+more above (Spacing n) k new = record { legs = k.legs; tick = k.tick; spacing = λ m e. subst IsSpacing (some_same n m e) new; wait = k.wait; turns = k.turns; relabel = k.relabel; mtu = k.mtu; mixer = k.mixer; plan = k.plan; service = k.service }
+more above (Wait n) k new = record { legs = k.legs; tick = k.tick; spacing = k.spacing; wait = λ m e. subst IsWait (some_same n m e) new; turns = k.turns; relabel = k.relabel; mtu = k.mtu; mixer = k.mixer; plan = k.plan; service = k.service }
+more above (Turns n) k new = record { legs = k.legs; tick = k.tick; spacing = k.spacing; wait = k.wait; turns = λ m e. subst AreTurns (some_same n m e) new; relabel = k.relabel; mtu = k.mtu; mixer = k.mixer; plan = k.plan; service = k.service }
+more above (Relabel n) k new = record { legs = k.legs; tick = k.tick; spacing = k.spacing; wait = k.wait; turns = k.turns; relabel = λ m e. subst IsRelabel (some_same n m e) new; mtu = k.mtu; mixer = k.mixer; plan = k.plan; service = k.service }
+more above (Mtu n) k new = record { legs = k.legs; tick = k.tick; spacing = k.spacing; wait = k.wait; turns = k.turns; relabel = k.relabel; mtu = λ m e. subst IsMtu (some_same n m e) new; mixer = k.mixer; plan = k.plan; service = k.service }
+more above (Mixer x) k new = record { legs = k.legs; tick = k.tick; spacing = k.spacing; wait = k.wait; turns = k.turns; relabel = k.relabel; mtu = k.mtu; mixer = λ m e. subst (IsMixerFor above.legs) (some_same x m e) new; plan = k.plan; service = k.service }
 more above (Plan p) k new = plan_more above p k new
 more above (Follows n) k new = changed above with_follow follow_leaves n above.generations above.stays k
-more above (Serves s) k new = record { legs = k.legs; tick = k.tick; spacing = k.spacing; wait = k.wait; turns = k.turns; relabel = k.relabel; mixer = k.mixer; plan = k.plan; service = service_more above s k new }
+more above (Serves s) k new = record { legs = k.legs; tick = k.tick; spacing = k.spacing; wait = k.wait; turns = k.turns; relabel = k.relabel; mtu = k.mtu; mixer = k.mixer; plan = k.plan; service = service_more above s k new }
 
 -- ---- tests of the lines above
 none_passes : {A : Type 0} (test : A → Bool) (xs : List A) → list_any test xs ≡ false → All (λ x. test x ≡ false) xs
@@ -504,6 +507,7 @@ entry_ok form above n = record {
   each_wait = λ ws x e. (setting_ok 0 LONGEST_WAIT above.wait ws x e).high;
   each_turns = setting_ok 1 MOST_TURNS above.turns;
   each_relabel = setting_ok LEAST_RELABEL MOST_RELABEL above.relabel;
+  each_mtu = setting_ok LEAST_MTU MOST_MTU above.mtu;
   each_follow = λ q ws x e. tt;
   each_counts = counts_ok above;
   each_service = λ q. service_ok above;
@@ -522,6 +526,7 @@ nothing_keeps = record {
   wait = λ m e. absurd (cc e);
   turns = λ m e. absurd (cc e);
   relabel = λ m e. absurd (cc e);
+  mtu = λ m e. absurd (cc e);
   mixer = λ m e. absurd (cc e);
   plan = record { most = omega arith; terminals = All-nil (λ a. a.terminal < 0); delays = All-nil (λ a. IsShort a.what); differ = λ i j d l h. absurd (omega arith) };
   service = record { gone = λ m e. absurd (cc e); operator = λ m e. absurd (cc e); recorded = λ m e. absurd (cc e) };
@@ -542,6 +547,7 @@ whole_keeps above m k said two room = record {
   wait = or_usual above.wait USUAL_WAIT IsWait (omega arith) k.wait;
   turns = or_usual above.turns MOST_TURNS AreTurns (record { low = omega arith; high = omega arith }) k.turns;
   relabel = k.relabel;
+  mtu = k.mtu;
   mixer = k.mixer m said;
   plan = k.plan;
   service = k.service;

@@ -11,3 +11,4 @@ pub mod Sound
 pub mod Fronts
 mod Examples
 pub mod Changed
+pub mod Plain

@@ -30,7 +30,7 @@ octet_ascii c e = elim (or_cases (is_ascii_alphanumeric c) (c == byte "." || (c 
     one : (n : ℕ) → (c == n) ≡ true → n < 128 → c < 128
     one n x l = let m = eqb-true c n x in omega arith
 
-one_ascii : (c : ℕ) → c < 128 → IsUtf8 (c ∷ [])
+pub one_ascii : (c : ℕ) → c < 128 → IsUtf8 (c ∷ [])
 one_ascii c l = IsUtf8-from_ascii (c ∷ []) (elim [ zero ↦ l | suc i ↦ omega arith ])
 
 name_utf8 : (text : List ℕ) → list_all is_name_octet text ≡ true → IsUtf8 text

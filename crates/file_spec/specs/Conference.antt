@@ -22,7 +22,7 @@ use Rattle.file_spec.specs.declared.services.OperatorLine.{OperatorLine}
 use Rattle.file_spec.specs.declared.services.Service.{Service}
 use Rattle.file_spec.specs.declared.services.ServiceLine.{ServiceLine}
 use Rattle.file_spec.specs.declared.services.ServiceLine.TheVariants as service
-use Rattle.file_spec.specs.declared.limits.TheConstants.{FEWEST_LEGS, MOST_LEGS, MOST_LINKS, LEAST_TICK, MOST_TICK, USUAL_TICK, LEAST_SPACING, MOST_SPACING, USUAL_SPACING, LEAST_RELABEL, MOST_RELABEL, LEAST_GONE, MOST_GONE, MOST_TURNS, MOST_GENERATIONS, USUAL_GENERATIONS, MOST_PLAN_LINES, LONGEST_DELAY, LAST_MOMENT, USUAL_T140, USUAL_RED, LONGEST_NAME, LONGEST_PATH, MOST_CONFERENCE_OCTETS}
+use Rattle.file_spec.specs.declared.limits.TheConstants.{FEWEST_LEGS, MOST_LEGS, MOST_LINKS, LEAST_TICK, MOST_TICK, USUAL_TICK, LEAST_SPACING, MOST_SPACING, USUAL_SPACING, LEAST_RELABEL, MOST_RELABEL, LEAST_MTU, MOST_MTU, LEAST_GONE, MOST_GONE, MOST_TURNS, MOST_GENERATIONS, USUAL_GENERATIONS, MOST_PLAN_LINES, LONGEST_DELAY, LAST_MOMENT, USUAL_T140, USUAL_RED, LONGEST_NAME, LONGEST_PATH, MOST_CONFERENCE_OCTETS}
 use Rattle.rtt_base.specs.Steps.{◌>>=◌}
 use Rattle.file_spec.specs.Steps.{unless}
 use Rattle.file_spec.specs.Lines.{Line, Refusal, told, is_comment, words, at_line, read_lines}
@@ -38,6 +38,7 @@ pub record Conference : Type 0 where
   pub wait : ℕ
   pub turns : ℕ
   pub relabel : Option ℕ
+  pub mtu : Option ℕ
   pub mixer : MixerLine
   pub plan : List PlanLine
   pub service : Service
@@ -52,6 +53,7 @@ pub record Above : Type 0 where
   pub wait : Option ℕ
   pub turns : Option ℕ
   pub relabel : Option ℕ
+  pub mtu : Option ℕ
   pub mixer : Option MixerLine
   pub plan : List PlanLine
   pub service : Service
@@ -66,13 +68,14 @@ pub data Entry : Type 0 where
   Wait : ℕ → Entry
   Turns : ℕ → Entry
   Relabel : ℕ → Entry
+  Mtu : ℕ → Entry
   Mixer : MixerLine → Entry
   Plan : PlanLine → Entry
   Follows : ℕ → Entry
   Serves : ServiceLine → Entry
 
 abbrev pub nothing : Above
-nothing = record { legs = []; generations = []; stays = []; tick = None; spacing = None; wait = None; turns = None; relabel = None; mixer = None; plan = []; service = no_service }
+nothing = record { legs = []; generations = []; stays = []; tick = None; spacing = None; wait = None; turns = None; relabel = None; mtu = None; mixer = None; plan = []; service = no_service }
 
 -- the legs, the one at this place changed
 abbrev pub change_leg : (LegLine → LegLine) → ℕ → List LegLine → List LegLine
@@ -98,6 +101,7 @@ with_entry a (Spacing n) = record a { spacing = Some n }
 with_entry a (Wait n) = record a { wait = Some n }
 with_entry a (Turns n) = record a { turns = Some n }
 with_entry a (Relabel n) = record a { relabel = Some n }
+with_entry a (Mtu n) = record a { mtu = Some n }
 with_entry a (Mixer m) = record a { mixer = Some m }
 with_entry a (Plan p) = record a { plan = a.plan ++ p ∷ [] }
 with_entry a (Follows k) = record a { legs = change_leg with_follow k a.legs }
@@ -193,7 +197,8 @@ new_leg form above leg =
 abbrev pub whole_stay : Stay
 whole_stay = record { from = 0; until = None }
 
-unfoldable pub leg_of : Form → Above → ℕ → List ℕ → List ℕ → List ℕ → List ℕ → List ℕ → Option PayloadTypes → Result LegLine ConfKind
+unfoldable pub leg_of : Form → Above → ℕ → List ℕ → List ℕ → List ℕ → List ℕ → List ℕ → Option PayloadTypes
+    → Result LegLine ConfKind
 leg_of form above n name mode ssrc input output types = do
   aware ← ok_or (aware_of mode) Word
   named ← unless (not (has_names form name input output)) Name name
@@ -343,7 +348,7 @@ counts_or_other form above word more =
     if bytes_eq word (codes "counts") then says Serves (counts above more)
     else of_form form above word more
 
--- the times, one number each
+-- the times, and the most octets of a packet, one number each
 unfoldable pub time_or_other : Form → Above → List ℕ → List (List ℕ) → Result Entry ConfKind
 time_or_other form above word more =
     if bytes_eq word (codes "tick") then says Tick (setting LEAST_TICK MOST_TICK above.tick more)
@@ -351,7 +356,8 @@ time_or_other form above word more =
     else (if bytes_eq word (codes "wait") then says Wait (setting 0 LONGEST_WAIT above.wait more)
     else (if bytes_eq word (codes "turns") then says Turns (setting 1 MOST_TURNS above.turns more)
     else (if bytes_eq word (codes "relabel") then says Relabel (setting LEAST_RELABEL MOST_RELABEL above.relabel more)
-    else counts_or_other form above word more))))
+    else (if bytes_eq word (codes "mtu") then says Mtu (setting LEAST_MTU MOST_MTU above.mtu more)
+    else counts_or_other form above word more)))))
 
 -- what the words of a line say: the first one decides how many there are
 unfoldable pub entry : Form → Above → ℕ → List (List ℕ) → Result Entry ConfKind
@@ -375,7 +381,7 @@ and_line form above line = do
 
 -- ---- the whole
 
--- what isn't said has its default; of labelling again there is none
+-- what isn't said has its default; of labelling again, and of packets' octets, there is none
 abbrev pub whole : Above → MixerLine → Conference
 whole above mixer = record {
   legs = above.legs;
@@ -384,6 +390,7 @@ whole above mixer = record {
   wait = unwrap_or above.wait USUAL_WAIT;
   turns = unwrap_or above.turns MOST_TURNS;
   relabel = above.relabel;
+  mtu = above.mtu;
   mixer = mixer;
   plan = above.plan;
   service = above.service;

@@ -2,7 +2,7 @@
 use Rattle.std.specs.Prelude.{◌≡◌, ◌≢◌, ◌<◌, ◌≤◌, ℕ, false, Some, IsTrue, List, length, All, AllPairs}
 use Rattle.std.specs.Option.{ForSome}
 use Rattle.rtt_base.specs.declared.text_packets.PayloadTypes.{PayloadTypes}
-use Rattle.file_spec.specs.declared.limits.TheConstants.{FEWEST_LEGS, MOST_LEGS, LEAST_TICK, MOST_TICK, LEAST_SPACING, MOST_SPACING, LEAST_RELABEL, MOST_RELABEL, LEAST_GONE, MOST_GONE, MOST_TURNS, MOST_GENERATIONS, MOST_PLAN_LINES, LONGEST_DELAY, FIRST_TYPE, LAST_TYPE}
+use Rattle.file_spec.specs.declared.limits.TheConstants.{FEWEST_LEGS, MOST_LEGS, LEAST_TICK, MOST_TICK, LEAST_SPACING, MOST_SPACING, LEAST_RELABEL, MOST_RELABEL, LEAST_MTU, MOST_MTU, LEAST_GONE, MOST_GONE, MOST_TURNS, MOST_GENERATIONS, MOST_PLAN_LINES, LONGEST_DELAY, FIRST_TYPE, LAST_TYPE}
 use Rattle.file_spec.specs.declared.conference_lines.LegLine.{LegLine}
 use Rattle.file_spec.specs.declared.conference_lines.MixerLine.{MixerLine}
 use Rattle.file_spec.specs.declared.conference_lines.PlanLine.{PlanLine}
@@ -70,6 +70,9 @@ AreTurns n = IsBetween 1 MOST_TURNS n
 abbrev pub IsRelabel : ℕ → Type 0
 IsRelabel n = IsBetween LEAST_RELABEL MOST_RELABEL n
 
+abbrev pub IsMtu : ℕ → Type 0
+IsMtu n = IsBetween LEAST_MTU MOST_MTU n
+
 abbrev pub IsGone : ℕ → Type 0
 IsGone n = IsBetween LEAST_GONE MOST_GONE n
 
@@ -92,6 +95,7 @@ pub record Keeps (above : Above) : Type 0 where
   pub wait : ForSome above.wait (λ n. IsWait n)
   pub turns : ForSome above.turns (λ n. AreTurns n)
   pub relabel : ForSome above.relabel (λ n. IsRelabel n)
+  pub mtu : ForSome above.mtu (λ n. IsMtu n)
   pub mixer : ForSome above.mixer (λ m. IsMixerFor above.legs m)
   pub plan : IsPlanFor above.legs above.plan
   pub service : IsServiceFor above.legs above.service
@@ -106,6 +110,7 @@ pub record IsConference (c : Conference) : Type 0 where
   pub wait : IsWait c.wait
   pub turns : AreTurns c.turns
   pub relabel : ForSome c.relabel (λ n. IsRelabel n)
+  pub mtu : ForSome c.mtu (λ n. IsMtu n)
   pub mixer : IsMixerFor c.legs c.mixer
   pub plan : IsPlanFor c.legs c.plan
   pub service : IsServiceFor c.legs c.service

@@ -18,9 +18,11 @@ pub struct Conference {
     pub turns: u32,
     /// After how long without text to a terminal that is not aware a run that goes on is labelled again there, if it is.
     pub relabel: Option<u32>,
+    /// How many octets a packet to a terminal has at most, if that is said.
+    pub mtu: Option<u32>,
     pub mixer: MixerLine,
     pub plan: Plan,
     /// What is asked of a call over links beside the mixing.
     pub service: Service,
-    pub ghost kept: { IsConference (record { legs = legs; tick = tick; spacing = spacing; wait = wait; turns = turns; relabel = relabel; mixer = mixer; plan = plan; service = service }) },
+    pub ghost kept: { IsConference (record { legs = legs; tick = tick; spacing = spacing; wait = wait; turns = turns; relabel = relabel; mtu = mtu; mixer = mixer; plan = plan; service = service }) },
 }

@@ -17,10 +17,12 @@ pub fn frames_are_read_back()
 
 /// What is read of octets is decided by their first 1048582: so who reads a file may stop there.
 pub fn long_fronts_decide()
-    ensures { (front rest : List ℕ) → MOST_FRAMES_OCTETS + FRAME_HEAD_OCTETS ≤ length front → read_frames (front ++ rest) ≡ read_frames front }
+    ensures { (front rest : List ℕ) → MOST_FRAMES_OCTETS + FRAME_HEAD_OCTETS ≤ length front
+        → read_frames (front ++ rest) ≡ read_frames front }
 {}
 
 /// Octets with a fault that lasts are read the same whatever follows them.
 pub fn faults_last()
-    ensures { (octets more : List ℕ) (fault : FrameRefusal) → lasting_fault octets ≡ Some fault → read_frames (octets ++ more) ≡ read_frames octets }
+    ensures { (octets more : List ℕ) (fault : FrameRefusal) → lasting_fault octets ≡ Some fault
+        → read_frames (octets ++ more) ≡ read_frames octets }
 {}

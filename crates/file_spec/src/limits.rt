@@ -27,6 +27,11 @@ pub const USUAL_SPACING: u32 = 300;
 pub const LEAST_RELABEL: u32 = 2000;
 
 pub const MOST_RELABEL: u32 = 60_000;
+/// The range of the octets to which packets may be limited: with the headers of IP and UDP the least go into the 576 octets that each
+/// host of IPv4 takes (RFC 791, section 3.1).
+pub const LEAST_MTU: u32 = 548;
+
+pub const MOST_MTU: u32 = 4224;
 /// The range of the milliseconds after which a link at which nothing comes is closed: ten seconds to a day.
 pub const LEAST_GONE: u32 = 10_000;
 

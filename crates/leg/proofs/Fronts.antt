@@ -15,6 +15,8 @@ use Rattle.rtpdump_io.specs.declared.readers.DumpReader.{DumpReader}
 use Rattle.rtpdump_io.specs.Reading.{to_come}
 use Rattle.receiver.specs.declared.settings.EarSettings.{EarSettings}
 use Rattle.receiver.specs.Hears.{ready_packet, ready_packets, texts_left}
+use Rattle.receiver.specs.Cuts.{chunks_given}
+use Rattle.receiver.proofs.HandedOut.{given_append}
 use Rattle.receiver.proofs.Given.{ready_stamped}
 use Rattle.leg.specs.declared.legs.Leg.{Leg}
 use Rattle.stream_spec.specs.Fronts.{IsFront, AreFrom, is_packet_ready_by}
@@ -67,7 +69,8 @@ module _ {S : Type 0} (left : S → List ℕ) where
       let m = came_later leg.reader past s.story s.phase in
       let f = given_front leg.ear.buffer past.settings past.settings.ssrc s.story m.0 h.tracks h.wait m.2 in
       let still : List Chunk = map (chunk 0 leg.ear.ready) (texts_left leg.ear) in (
-        still ++ f.0,
-        ap (λ (a : List Arrival). chunks past.settings.wait 0 a past.settings.ssrc) m.1
-            ∙ (f.1 ∙ (ap (λ (cs : List Chunk). cs ++ f.0) (sym s.gave.chunks) ∙ append_assoc past.gave still f.0)),
+        still ++ chunks_given past.settings.cut f.0,
+        ap (chunks_given past.settings.cut) (ap (λ (a : List Arrival). chunks past.settings.wait 0 a past.settings.ssrc) m.1 ∙ f.1)
+            ∙ (given_append past.settings.cut (chunks_by 0 (ready_packets s.story.given) past.settings.ssrc) f.0
+            ∙ (ap (λ (cs : List Chunk). cs ++ chunks_given past.settings.cut f.0) (sym s.gave.chunks) ∙ append_assoc past.gave still (chunks_given past.settings.cut f.0))),
       )

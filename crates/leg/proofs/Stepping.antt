@@ -21,6 +21,7 @@ use Rattle.receiver.specs.declared.answers.PlainAnswer.TheVariants as answers
 use Rattle.receiver.specs.declared.settings.EarSettings.{EarSettings}
 use Rattle.receiver.specs.declared.ears.Ear.{Ear}
 use Rattle.receiver.specs.Hears.{IsGiving, Becomes, GivesChunk, GivesNone, GaveReady, AllReady, IsToldOf, IsReadyAtEnd, arrival_count, is_finished}
+use Rattle.receiver.specs.Cuts.{chunks_given}
 use Rattle.receiver.proofs.ReadyBy.{told_arrived}
 use Rattle.leg.specs.declared.legs.Leg.{Leg}
 use Rattle.leg.specs.Sound.{FewCame, EndsWith}
@@ -92,7 +93,7 @@ module _ {S : Type 0} (left : S → List ℕ) where
     where
       go : Phase left l.reader past s.story → (past.gave ≡ chunks_of past) × ((recording_of past).fault ≡ None)
       go (Within o r) = absurd (true≢false (sym e ∙ o))
-      go (Behind f w) = (g past.settings past.settings.ssrc s.story past.gave s.gave ∙ (w.ready ∙ ap (λ (a : List Arrival). chunks past.settings.wait 0 a past.settings.ssrc) w.came), w.no_fault)
+      go (Behind f w) = (g past.settings past.settings.ssrc s.story past.gave s.gave ∙ (w.ready ∙ ap (λ (a : List Arrival). chunks_given past.settings.cut (chunks past.settings.wait 0 a past.settings.ssrc)) w.came), w.no_fault)
 
   -- ---- what is read
   reads_on : (past : LegPast) (story : Story) (item : DumpItem) (out : List ℕ) (before rest : Recording) → IsRead past story before → before ≡ with_item (record_of item out) rest → is_end item ≡ false → IsRead past (after_item past.settings story item out) rest

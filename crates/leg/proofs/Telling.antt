@@ -15,11 +15,12 @@ use Rattle.mix_loop.specs.Items.{Gave}
 use Rattle.mix_loop.specs.Mixing.{MixedAll, NoneGave, part_of}
 use Rattle.mix_loop.specs.Ports.{of_leg}
 use Rattle.mix_loop.specs.Turns.{AllAtEnd, TellsMixing}
-use Rattle.mix_loop.proofs.Lists.{funext, get_within, lt_or_ge}
+use Rattle.mix_loop.proofs.Lists.{get_within, lt_or_ge}
 use Rattle.leg.specs.declared.inlets.LegInlet.{LegInlet}
-use Rattle.leg.specs.Feds.{Asked, GivesAs, Fed, recording_asked, chunks_asked, is_source_fault, lively}
+use Rattle.leg.specs.Feds.{Asked, GivesAs, Fed, recording_asked, chunks_asked, is_source_fault}
 use Rattle.leg.specs.Answers.{AllWhole, IsAnswer, IsReadWell, AreChunks, AllNew, AllAsked, SourceKept, PlainMixed, source_in}
 use Rattle.leg.proofs.Feeding.{fed_none}
+use Rattle.wire_spec.proofs.Plain.{funext}
 
 pub none_gave : {S : Type 0} (tells : Type 0) (left : S → List ℕ) (faults : S → ℕ) (name : S → List ℕ) (legs : List (LegInlet S)) → AllNew legs
     → NoneGave (λ first now gave. Fed tells left faults name first now gave) legs
@@ -82,7 +83,7 @@ module _ {S M T : Type 0} (tells : Type 0) (left : S → List ℕ) (faults : S �
     gives j o = o.fed.gives t (asked j) (asks j o.before o.was)
 
     -- a leg that was read to its end
-    ended : (j : ℕ) → j < s.legs → (x.gave j).ended ≡ AtEnd → ((x.gave j).chunks ≡ lively (chunks_asked (asked j))) × ((recording_asked (asked j)).fault ≡ None)
+    ended : (j : ℕ) → j < s.legs → (x.gave j).ended ≡ AtEnd → ((x.gave j).chunks ≡ chunks_asked (asked j)) × ((recording_asked (asked j)).fault ≡ None)
     ended j low e =
         let o = of j low in
         subst (λ (y : TextsEnd DumpFault). GivesAs left o.after.leg (asked j) (x.gave j).chunks y) e (gives j o)

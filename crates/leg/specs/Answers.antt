@@ -19,8 +19,10 @@ use Rattle.mix_loop.specs.Mixers.{At, Of}
 use Rattle.mix_loop.specs.Mixing.{StayAs}
 use Rattle.mix_loop.specs.Ports.{of_leg}
 use Rattle.mix_loop.specs.Turns.{UnlessUnsent}
+use Rattle.receiver.specs.declared.settings.EarSettings.{EarSettings}
+use Rattle.receiver.specs.Cuts.{cut_within}
 use Rattle.leg.specs.declared.inlets.LegInlet.{LegInlet}
-use Rattle.leg.specs.Feds.{Asked, past_of, recording_asked, chunks_asked, lively}
+use Rattle.leg.specs.Feds.{Asked, past_of, recording_asked, chunks_asked}
 
 -- each of the first n recordings is read to its end
 abbrev pub AllWhole : ℕ → (ℕ → Asked) → Type 0
@@ -47,14 +49,18 @@ IsReadWell (mixing.Faulted leg fault) j = j < read_well leg fault
 
 -- these are the chunks that count of each leg that is asked for
 pub record AreChunks (s : Setup) (asked : ℕ → Asked) (chunks : ℕ → List Chunk) : Type 0 where
-  pub legs : (j : ℕ) → j < s.legs → chunks j ≡ map (of_leg j) (in_stay s j (lively (chunks_asked (asked j))))
+  pub legs : (j : ℕ) → j < s.legs → chunks j ≡ map (of_leg j) (in_stay s j (chunks_asked (asked j)))
   pub above : (j : ℕ) → s.legs ≤ j → chunks j ≡ []
+
+-- how a leg of a conference is heard
+abbrev pub heard_as : Conference → LegLine → EarSettings
+heard_as c l = record { ssrc = l.ssrc; payload_types = l.payload_types; wait = c.wait; cut = cut_within c.mtu }
 
 -- of a conference whose inputs have these octets: each leg hears its stream in its input
 abbrev pub AreOfConference : Conference → (ℕ → List ℕ) → (ℕ → Asked) → Type 0
 AreOfConference c inputs asked =
     (j : ℕ) (l : LegLine) → leg_at c.legs j ≡ Some l
-    → asked j ≡ record { settings = record { ssrc = l.ssrc; payload_types = l.payload_types; wait = c.wait }; limit = input_limit c; octets = inputs j }
+    → asked j ≡ record { settings = heard_as c l; limit = input_limit c; octets = inputs j }
 
 module _ {S : Type 0} where
   -- the source of a leg

@@ -12,12 +12,12 @@ use Rattle.mix_loop.specs.declared.items.TextsEnd.{TextsEnd}
 use Rattle.mix_loop.specs.declared.items.TextsEnd.TheVariants.{Open, AtEnd, AtFault}
 use Rattle.mix_loop.specs.Answers.{GaveAs, gave_of}
 use Rattle.leg.specs.declared.inlets.LegInlet.{LegInlet}
-use Rattle.leg.specs.Feds.{Asked, Fed, chunks_asked, lively, past_of, recording_asked}
+use Rattle.leg.specs.Feds.{Asked, Fed, chunks_asked, past_of, recording_asked}
 
 -- these texts, and how they ended, are all of a leg that is asked for this
 abbrev pub IsWhole : Asked → List Chunk → TextsEnd DumpFault → Type 0
 IsWhole a chunks Open = ⊥
-IsWhole a chunks AtEnd = (chunks ≡ lively (chunks_asked a)) × ((recording_asked a).fault ≡ None)
+IsWhole a chunks AtEnd = (chunks ≡ chunks_asked a) × ((recording_asked a).fault ≡ None)
 IsWhole a chunks (AtFault fault) = IsFaultOf (recording_asked a) fault
 
 module _ {S : Type 0} where

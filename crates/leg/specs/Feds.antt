@@ -1,9 +1,8 @@
 -- What a leg that is read by who mixes gave of its recording.
-use Rattle.std.specs.Prelude.{◌≡◌, ◌⊎◌, ◌<◌, ◌≤◌, ℕ, Bool, false, not, None, Result, Ok, Err, List, [], filter, if◌then◌else◌}
+use Rattle.std.specs.Prelude.{◌≡◌, ◌<◌, ◌≤◌, ℕ, Bool, false, not, None, Result, Ok, Err, List, []}
 use Rattle.wire_spec.specs.declared.faults.DumpKind.TheVariants.{Read}
 use Rattle.wire_spec.specs.Dump.{Recording}
 use Rattle.stream_spec.specs.Ready.{Chunk}
-use Rattle.stream_spec.specs.Still.{is_lively_chunk}
 use Rattle.rtt_io.specs.Counts.{Rose}
 use Rattle.rtpdump_io.specs.declared.items.DumpFault.{DumpFault}
 use Rattle.rtpdump_io.specs.Reading.{IsFaultOf, is_of_source}
@@ -11,7 +10,7 @@ use Rattle.receiver.specs.declared.settings.EarSettings.{EarSettings}
 use Rattle.leg.specs.declared.steps.LegStep.{LegStep}
 use Rattle.leg.specs.declared.steps.LegStep.TheVariants as step
 use Rattle.leg.specs.declared.legs.Leg.{Leg}
-use Rattle.leg.specs.Gives.{Follows, LegPast, Stands, chunks_of, recording_of, is_over, source_of, unread}
+use Rattle.leg.specs.Gives.{LegPast, Stands, chunks_of, recording_of, is_over, source_of, unread}
 use Rattle.mix_loop.specs.declared.items.Item.{Item}
 use Rattle.mix_loop.specs.declared.items.Item.TheVariants as item
 use Rattle.mix_loop.specs.declared.items.TextsEnd.{TextsEnd}
@@ -32,24 +31,16 @@ past_of a heard = record { settings = a.settings; limit = a.limit; octets = a.oc
 abbrev pub recording_asked : Asked → Recording
 recording_asked a = recording_of (past_of a [])
 
--- all chunks of the recording, whose source is 0
+-- all that is handed out of the recording, whose source is 0
 abbrev pub chunks_asked : Asked → List Chunk
 chunks_asked a = chunks_of (past_of a [])
 
--- those of these chunks that are no keep-alives
-abbrev pub lively : List Chunk → List Chunk
-lively cs = filter is_lively_chunk cs
-
--- what a text comes to that was heard: a keep-alive is passed over
-abbrev pub item_of_text : Chunk → Item DumpFault
-item_of_text c = if is_lively_chunk c then item.Chunk else item.Later
-
--- what an answer of a leg comes to, beside which this text was handed out
-abbrev pub item_for : Chunk → Result LegStep DumpFault → Item DumpFault
-item_for c (Ok step.Chunk) = item_of_text c
-item_for c (Ok step.More) = item.Later
-item_for c (Ok step.End) = item.End
-item_for c (Err fault) = item.Fault fault
+-- what an answer of a leg comes to
+abbrev pub item_for : Result LegStep DumpFault → Item DumpFault
+item_for (Ok step.Chunk) = item.Chunk
+item_for (Ok step.More) = item.Later
+item_for (Ok step.End) = item.End
+item_for (Err fault) = item.Fault fault
 
 -- by how a leg's texts ended, a reading of its source failed
 abbrev pub is_source_fault : TextsEnd DumpFault → Bool
@@ -58,10 +49,10 @@ is_source_fault AtEnd = false
 is_source_fault (AtFault fault) = is_of_source fault.kind
 
 module _ {S : Type 0} where
-  -- a leg that gave these chunks, those that are no keep-alives, by how they ended
+  -- a leg that gave these chunks, by how they ended
   abbrev pub GivesAs : (S → List ℕ) → Leg S → Asked → List Chunk → TextsEnd DumpFault → Type 0
-  GivesAs left leg a chunks Open = (heard : List Chunk) × Stands left leg (past_of a heard) × (chunks ≡ lively heard)
-  GivesAs left leg a chunks AtEnd = (chunks ≡ lively (chunks_asked a)) × ((recording_asked a).fault ≡ None)
+  GivesAs left leg a chunks Open = Stands left leg (past_of a chunks)
+  GivesAs left leg a chunks AtEnd = (chunks ≡ chunks_asked a) × ((recording_asked a).fault ≡ None)
   GivesAs left leg a chunks (AtFault fault) = IsFaultOf (recording_asked a) fault
 
   -- From `first` on, which gave nothing, this was given, and now it is `now`.
@@ -75,8 +66,6 @@ module _ {S : Type 0} where
     pub calm : is_source_fault gave.ended ≡ false → faults (source_of now.leg) ≡ faults (source_of first.leg)
     pub same_name : name (source_of now.leg) ≡ name (source_of first.leg)
 
-  -- A step of the leg that gave nothing: a record was read, or a keep-alive was passed over.
-  abbrev pub GetsOn : Type 0 → (S → List ℕ) → LegInlet S → LegInlet S → Type 0
-  GetsOn tells left old new =
-      (unread new.leg < unread old.leg)
-      ⊎ ((c : Chunk) × (is_lively_chunk c ≡ false) × (tells → Follows left old.leg new.leg (Ok step.Chunk) c))
+  -- A step of the leg that gave nothing: a record was read.
+  abbrev pub GetsOn : LegInlet S → LegInlet S → Type 0
+  GetsOn old new = unread new.leg < unread old.leg

@@ -9,6 +9,7 @@ use Rattle.rtpdump_io.specs.declared.readers.DumpReader.{DumpReader}
 use Rattle.rtpdump_io.specs.Reading.{to_come, is_ended, most_answers, IsFaultOf}
 use Rattle.rtpdump_io.specs.Reading as reading
 use Rattle.receiver.specs.declared.settings.EarSettings.{EarSettings}
+use Rattle.receiver.specs.Cuts.{chunks_given}
 use Rattle.receiver.specs.Hears.{Gave, IsToldOf, ready_chunks, story_chunks}
 use Rattle.receiver.specs.Hears as ear
 use Rattle.leg.specs.declared.steps.LegStep.{LegStep}
@@ -40,9 +41,9 @@ recording_of past = dump past.limit past.octets
 abbrev pub came_of : LegPast → List Arrival
 came_of past = arrivals_after past.settings.ssrc past.settings.payload_types [] (recording_of past).items
 
--- all chunks of the recording, whose source is 0: whose they are is set by who mixes
+-- what is handed out of all chunks of the recording, whose source is 0: whose they are is set by who mixes
 abbrev pub chunks_of : LegPast → List Chunk
-chunks_of past = chunks past.settings.wait 0 (came_of past) past.settings.ssrc
+chunks_of past = chunks_given past.settings.cut (chunks past.settings.wait 0 (came_of past) past.settings.ssrc)
 
 -- ---- what it answers
 

@@ -2,7 +2,7 @@ ghost use Rattle.std.specs.Prelude.{◌≡◌, ◌≤◌, Bool, IfOk};
 ghost use Rattle.leg.specs.Gives.{is_over};
 
 use crate::{Leg, LegStep};
-use receiver::EarSettings;
+use receiver::{EarSettings, TextCut};
 use rtpdump_io::DumpFault;
 use rtt_base::{Bytes, Chunk, NoMemory, PayloadTypes};
 use rtt_io::SteadySource;
@@ -14,6 +14,7 @@ const ANN: EarSettings = EarSettings {
     ssrc: 1001,
     payload_types: PayloadTypes { t140: 98, red: 100 },
     wait: 1000,
+    cut: TextCut::Long,
 };
 
 // The line and the head of a recording.

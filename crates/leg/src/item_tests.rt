@@ -6,7 +6,7 @@ use crate::{Leg, LegInlet};
 use file_spec::{LegLine, Stay};
 use link_io::Beat;
 use mix_loop::{InletReturn, MixEnd, MixerCalls, Room, mix_inlets};
-use receiver::EarSettings;
+use receiver::{EarSettings, TextCut};
 use rtpdump_io::DumpFault;
 use rtt_base::{Bytes, Chunk, Full, Name, NoMemory, Path, PayloadTypes};
 use rtt_io::SteadySource;
@@ -122,6 +122,7 @@ fn ann(alloc: Global, second: &[u8], last: &[u8]) -> Result<LegInlet<SteadySourc
         ssrc: 1001,
         payload_types: PayloadTypes { t140: 98, red: 100 },
         wait: 1000,
+        cut: TextCut::Long,
     };
     match Leg::new(alloc, SteadySource::new(recording), settings) {
         Ok(leg) => Ok(LegInlet { leg }),

@@ -15,7 +15,7 @@ impl<S: Source> Producer<Answer<DumpFault>> for LegInlet<S> {
 
     ghost over = { λ i. is_over i.leg };
 
-    ghost nearer = { λ old new. GetsOn S.tells S.left old new };
+    ghost nearer = { GetsOn };
 
     fn is_over(&self) -> bool {
         self.leg.ended()

@@ -1,8 +1,7 @@
 use crate::peers::own_address;
 use crate::real_links::{lead_to, socket_at};
 use crate::{
-    Beat, Came, FailingLink, LinkIn, LinkOut, LinkTake, Links, MemIn, MemLinks, MemOut,
-    PlannedTake, RealIn, RealLinks, RealOut, peer_of,
+    Beat, Came, LinkIn, LinkOut, LinkTake, Links, MemIn, RealIn, RealLinks, RealOut, peer_of,
 };
 use rtt_base::Packet;
 use std::alloc::Global;
@@ -12,25 +11,6 @@ use std::time::{Clock, Duration};
 
 // By this moment of a link's clock what was sent has come.
 const SOON: u64 = 5000;
-
-// The next take gives this at this moment, and fails nowhere.
-fn takes<L: LinkIn>(link: &mut L, at: u64, came: Came) -> bool {
-    let mut out = Packet::new();
-    match link.take(&mut out, 0) {
-        Ok(taken) => taken.at == at && taken.came == came,
-        Err(_) => false,
-    }
-}
-
-// The next takes give these at these moments, one each.
-fn takes_all<L: LinkIn>(link: &mut L, all: &[(u64, Came)]) -> bool {
-    for (at, came) in all {
-        if !takes(link, *at, *came) {
-            return false;
-        }
-    }
-    true
-}
 
 // The next take gives this, whenever it is.
 fn comes<L: LinkIn>(link: &mut L, until: u64, came: Came) -> bool {
@@ -53,89 +33,6 @@ fn hears<L: LinkIn>(link: &mut L, octets: &[u8]) -> bool {
         Ok(taken) => taken.came == Came::Datagram && out.as_slice() == octets,
         Err(_) => false,
     }
-}
-
-#[test]
-fn an_end_in_memory_gives_its_plan_and_is_quiet_behind_it(rt: HostRuntime) -> Result<(), Fail> {
-    let mut link = MemIn::new(rt.alloc(), 5001);
-    link.plan(PlannedTake::new(rt.alloc(), 100, Came::Datagram, b"A")?)?;
-    link.plan(PlannedTake::new(rt.alloc(), 50, Came::Datagram, &[0; 4225])?)?;
-    link.plan(PlannedTake::new(rt.alloc(), 200, Came::Large, b"")?)?;
-    assert!(rt; hears(&mut link, b"A"));
-    let behind = [(100, Came::Large), (200, Came::Large), (200, Came::Quiet)];
-    assert!(rt; takes_all(&mut link, &behind));
-    assert_eq!(rt; link.told().len(), 4);
-    Ok(())
-}
-
-#[test]
-fn a_take_that_fails_uses_up_nothing(rt: HostRuntime) -> Result<(), Fail> {
-    let mut link = MemIn::new(rt.alloc(), 5001);
-    link.plan(PlannedTake::new(rt.alloc(), 7, Came::Closed, b"")?)?;
-    link.plan(PlannedTake::new(rt.alloc(), 8, Came::Datagram, b"A")?)?;
-    link.fail_at(1)?;
-    link.fail_at(3)?;
-    assert!(rt; !takes(&mut link, 7, Came::Closed));
-    assert!(rt; takes(&mut link, 7, Came::Closed));
-    assert!(rt; !takes(&mut link, 7, Came::Closed));
-    assert!(rt; takes(&mut link, 7, Came::Closed));
-    assert_eq!(rt; link.told().len(), 2);
-    Ok(())
-}
-
-// Whether an end takes a packet at the next beat of its links.
-fn is_given(links: &MemLinks, outbound: &mut MemOut, packet: &[u8]) -> bool {
-    outbound.give(&links.beat(), packet).is_ok()
-}
-
-#[test]
-fn links_in_memory_keep_what_is_handed_back(rt: HostRuntime) -> Result<(), Fail> {
-    let mut links = MemLinks::new(rt.alloc());
-    links.plan(5001, PlannedTake::new(rt.alloc(), 3, Came::Datagram, b"A")?)?;
-    links.plan(5002, PlannedTake::new(rt.alloc(), 4, Came::Closed, b"")?)?;
-    let (mut inbound, mut outbound) = links.link(5001, "127.0.0.1:6001")?;
-    assert!(rt; hears(&mut inbound, b"A"));
-    assert!(rt; takes(&mut inbound, 3, Came::Quiet));
-    assert!(rt; is_given(&links, &mut outbound, b"B"));
-    assert_eq!(rt; links.taken(5001).len(), 0);
-    links.done_in(inbound);
-    links.done_out(outbound);
-    assert_eq!(rt; links.taken(5001).len(), 2);
-    assert_eq!(rt; links.given(5001).len(), 1);
-    assert_eq!(rt; links.taken(5002).len(), 0);
-    Ok(())
-}
-
-#[test]
-fn each_kind_of_call_fails_in_links_that_say_so(rt: HostRuntime) -> Result<(), Fail> {
-    let mut links = MemLinks::new(rt.alloc());
-    links.fail(FailingLink::Link(5001))?;
-    links.fail(FailingLink::Take(5002, 1))?;
-    links.fail(FailingLink::Give(5002, 2))?;
-    assert!(rt; links.link(5001, "127.0.0.1:6001").is_err());
-    let (mut inbound, mut outbound) = links.link(5002, "127.0.0.1:6002")?;
-    assert!(rt; !takes(&mut inbound, 0, Came::Quiet));
-    assert!(rt; takes(&mut inbound, 0, Came::Quiet));
-    assert!(rt; is_given(&links, &mut outbound, b"one"));
-    assert!(rt; !is_given(&links, &mut outbound, b"two"));
-    assert!(rt; is_given(&links, &mut outbound, b""));
-    links.done_in(inbound);
-    links.done_out(outbound);
-    assert_eq!(rt; links.given(5002).len(), 2);
-    Ok(())
-}
-
-#[test]
-fn a_clock_in_memory_stands_still_but_for_pauses(rt: HostRuntime) -> Result<(), Fail> {
-    let mut links = MemLinks::new(rt.alloc());
-    assert_eq!(rt; links.now(), 0);
-    links.pause_until(100);
-    assert_eq!(rt; links.now(), 100);
-    links.pause_until(50);
-    assert_eq!(rt; links.now(), 100);
-    links.pause_until(u64::MAX);
-    assert_eq!(rt; links.now(), (1 << 47) - 1);
-    Ok(())
 }
 
 const PEERS: [&str; 3] = ["127.0.0.1:5004", "127.255.0.9:65535", "[::1]:5004"];

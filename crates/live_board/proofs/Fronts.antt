@@ -6,6 +6,9 @@ use mathlib.Core.List.{IsPrefix}
 use Rattle.stream_spec.specs.Fronts.{IsFront}
 use Rattle.live_board.specs.declared.histories.BoardEntry.{BoardEntry}
 use Rattle.live_board.specs.Histories.{changes_of, ended_in, EndsOnce}
+use Rattle.std.proofs.lemmas.Bool.{or_parts as neither}
+use Rattle.std.proofs.Math.Bool.{or-false as or_none}
+use Rattle.stream_spec.proofs.Plain.{none_left}
 
 pub prefix_self : {A : Type 0} (xs : List A) → IsPrefix xs xs
 prefix_self [] = ([], refl)
@@ -46,14 +49,6 @@ changes_more log e = flat_map-append (λ (x : BoardEntry). x.chunks) log (e ∷ 
 pub clash : (P : Type 0) (a : Bool) → a ≡ true → a ≡ false → P
 clash P a holds fails = absurd (true≢false (sym holds ∙ fails))
 
-neither : (a b : Bool) → (a || b) ≡ false → (a ≡ false) × (b ≡ false)
-neither true b e = clash _ true refl e
-neither false b e = (refl, e)
-
-or_none : (a : Bool) → (a || false) ≡ a
-or_none true = refl
-or_none false = refl
-
 -- nothing stands behind the end of a history with one entry more
 pub once_more : (log : List BoardEntry) (e : BoardEntry) → EndsOnce log → ended_in log ≡ false → EndsOnce (log ++ e ∷ [])
 once_more [] e once going = ((λ _. refl), tt)
@@ -63,10 +58,6 @@ once_more (x ∷ xs) e once going = let n = neither x.ends (ended_in xs) going i
 pub ended_more : (log : List BoardEntry) (e : BoardEntry) → ended_in log ≡ false → ended_in (log ++ e ∷ []) ≡ e.ends
 ended_more [] e going = or_none e.ends
 ended_more (x ∷ xs) e going = let n = neither x.ends (ended_in xs) going in ap (λ a. a || ended_in (xs ++ e ∷ [])) n.0 ∙ ended_more xs e n.1
-
-none_left : {A : Type 0} (xs ys : List A) → xs ++ ys ≡ [] → ys ≡ []
-none_left [] ys e = e
-none_left (x ∷ xs) ys e = absurd (cc e)
 
 over_at : (x : BoardEntry) (xs rest : List BoardEntry) (b : Bool) → x.ends ≡ b → EndsOnce ((x ∷ xs) ++ rest) → ended_in (x ∷ xs) ≡ true → ((EndsOnce (xs ++ rest)) → ended_in xs ≡ true → rest ≡ []) → rest ≡ []
 over_at x xs rest true is once e more = none_left xs rest (once.0 is)

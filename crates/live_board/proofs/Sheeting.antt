@@ -1,5 +1,5 @@
 -- A sheet of which nothing came, and a sheet after changes.
-use Rattle.std.proofs.Common.{◌≡◌, ◌≢◌, ◌≤◌, ◌<◌, ℕ, zero, suc, ◌+◌, Bool, true, false, Option, Some, None, List, [], ◌∷◌, ◌++◌, length, set, get_or, refl, sym, ap, ◌∙◌, subst, arith, length-append, append_assoc, append-nil, if◌then◌else◌, eq-eqb, ne_eqb}
+use Rattle.std.proofs.Common.{◌≡◌, ◌≢◌, ◌≤◌, ◌<◌, ℕ, zero, suc, ◌+◌, Bool, true, false, Option, Some, List, [], ◌∷◌, ◌++◌, length, set, get_or, refl, sym, ap, ◌∙◌, subst, arith, length-append, append_assoc, append-nil, if◌then◌else◌, eq-eqb, ne_eqb}
 use Rattle.std.specs.Prelude.{slice_get, nat_lt}
 use Rattle.std.proofs.lemmas.List.{length-set}
 use Rattle.std.proofs.lemmas.Bool.{ltb-false}
@@ -10,11 +10,8 @@ use Rattle.live_board.specs.Folds.{Shown, octets_in, text_of, fold_of}
 use Rattle.live_board.proofs.Folding.{fold_here, fold_elsewhere}
 use Rattle.live_board.specs.Histories.{octets_of}
 use Rattle.live_board.specs.Sheets.{IsSheetOf, grown, grown_or_same, put, added, added_all}
-
-get_set_same : {X : Type 0} (xs : List X) (i : ℕ) (x : X) → i < length xs → slice_get (set xs i x) i ≡ Some x
-get_set_same [] i x h = absurd (omega arith)
-get_set_same (y ∷ ys) zero x h = refl
-get_set_same (y ∷ ys) (suc i) x h = get_set_same ys i x (omega arith)
+use Rattle.stream_spec.proofs.Plain.{get_set_same}
+use Rattle.std.proofs.lemmas.Option.{slice_get_past as get_outside, slice_get-get_or as get_inside}
 
 get_set_other : {X : Type 0} (xs : List X) (i : ℕ) (x : X) (j : ℕ) → i ≢ j → slice_get (set xs i x) j ≡ slice_get xs j
 get_set_other [] i x j ne = refl
@@ -33,11 +30,6 @@ get_last [] x zero e = refl
 get_last [] x (suc j) e = absurd (omega arith)
 get_last (y ∷ ys) x zero e = absurd (omega arith)
 get_last (y ∷ ys) x (suc j) e = get_last ys x j (omega arith)
-
-pub get_outside : {X : Type 0} (xs : List X) (j : ℕ) → length xs ≤ j → slice_get xs j ≡ None
-get_outside [] j h = refl
-get_outside (y ∷ ys) zero h = absurd (omega arith)
-get_outside (y ∷ ys) (suc j) h = get_outside ys j (omega arith)
 
 -- a sheet of no leg
 pub no_leg : IsSheetOf 0 [] []
@@ -128,11 +120,6 @@ all_more legs changes (c ∷ cs) sheet is fits =
     let split = sum_by-append (λ (x : Chunk). length x.text) (changes ++ c ∷ []) cs in
     let one : octets_of (changes ++ c ∷ []) < 18446744073709551616 = omega (arith, split, all) in
     subst (λ (l : List Chunk). IsSheetOf legs l (added_all sheet (c ∷ cs))) moved (all_more legs (changes ++ c ∷ []) cs (added sheet c) (one_more legs changes c sheet is one) all)
-
-get_inside : {X : Type 0} (xs : List X) (i : ℕ) (d : X) → i < length xs → slice_get xs i ≡ Some (get_or xs i d)
-get_inside [] i d h = absurd (omega arith)
-get_inside (x ∷ xs) zero d h = refl
-get_inside (x ∷ xs) (suc i) d h = get_inside xs i d (omega arith)
 
 set_back : {X : Type 0} (xs : List X) (i : ℕ) (d : X) → set xs i (get_or xs i d) ≡ xs
 set_back [] i d = refl

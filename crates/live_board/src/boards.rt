@@ -123,7 +123,8 @@ impl Board {
     ) -> Result<(BoardWriter, BoardReader), NoMemory>
         requires { (FEWEST_LEGS ≤ legs) × (legs ≤ MOST_LINKS) }
         ensures board { IfOk result (λ b. b.1.board ≡ b.0.board) }
-        ensures writer { IfOk result (λ b. b.0 ≡ record { board = b.0.board; legs = legs; published = []; pending = []; ended = false }) }
+        ensures writer { IfOk result (λ b. b.0
+            ≡ record { board = b.0.board; legs = legs; published = []; pending = []; ended = false }) }
         ensures reader { IfOk result (λ b. b.1 ≡ record { board = b.1.board; legs = legs; seen = []; ended = false }) }
     {
         let (mut outer, head) = lay(rt, alloc, legs, 1)?;
@@ -144,8 +145,10 @@ impl Board {
     ) -> Result<(BoardWriter, Vec<BoardReader>), NoMemory>
         requires legs { (FEWEST_LEGS ≤ legs) × (legs ≤ MOST_LINKS) }
         requires readers { (0 < readers) × (readers < 2 ^ 32) }
-        ensures writer { IfOk result (λ b. b.0 ≡ record { board = b.0.board; legs = legs; published = []; pending = []; ended = false }) }
-        ensures readers { IfOk result (λ b. b.1.items ≡ replicate readers (record { board = b.0.board; legs = legs; seen = []; ended = false })) }
+        ensures writer { IfOk result (λ b. b.0
+            ≡ record { board = b.0.board; legs = legs; published = []; pending = []; ended = false }) }
+        ensures readers { IfOk result (λ b. b.1.items
+            ≡ replicate readers (record { board = b.0.board; legs = legs; seen = []; ended = false })) }
     {
         let (mut outer, head) = lay(rt, alloc, legs, readers)?;
         let Ok(all) = so_many(alloc, &mut outer, readers) else {

@@ -183,36 +183,7 @@ fn read_many(mut reader: BoardReader, count: u64, most: u64) -> (BoardReader, bo
     (reader, good)
 }
 
-// A thread reads while this one publishes 10,000 times.
-fn read_beside<R: Threads + Wait + Sync>(
-    rt: &R,
-    alloc: Global,
-) -> Result<(bool, [u64; 4]), NoMemory> {
-    let (mut writer, reader) = Board::new(rt, alloc, 2)?;
-    let (read, ()) = join(
-        rt,
-        move || -> (BoardReader, bool)
-            requires { 0 < reader.legs }
-            ensures { (result.0.legs ≡ reader.legs) × (result.0.board ≡ reader.board) }
-        { read_many(reader, 10_000, 100_000) },
-        || publish_many(rt, &mut writer, 10_000),
-    );
-    let (mut reader, good) = read;
-    let mut tail = Tail::new();
-    let end = shown(&mut reader, 0, &mut tail);
-    writer.close(rt);
-    Ok((good, end))
-}
-
-#[test]
-fn a_thread_reads_what_another_publishes(rt: HostRuntime) -> Result<(), Fail> {
-    let (good, end) = read_beside(&rt, rt.alloc())?;
-    assert!(rt; good);
-    assert!(rt; end == [10_000, 2048, octet_at(7952) as u64, octet_at(9999) as u64]);
-    Ok(())
-}
-
-// What such a thread saw, and its reader.
+// What a thread saw that reads while another publishes, and its reader.
 fn read_all(reader: BoardReader) -> (BoardReader, bool) {
     if reader.legs() == 0 {
         return (reader, false);

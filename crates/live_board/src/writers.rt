@@ -83,7 +83,8 @@ fn queue<R: Wait>(rt: &R, outer: &mut Outer, publish: Publish)
 /// Publishes what waits: from then on the writer knows its board.
 pub fn show<R: Wait>(outer: Outer, rt: &R) -> Outer
     requires { CanShow outer.desk.shown.value (drop outer.behind outer.log.items) }
-    ensures shown { HasShown outer.desk.shown.value (drop outer.behind outer.log.items) result.desk.shown.value (drop result.behind result.log.items) }
+    ensures shown { HasShown outer.desk.shown.value
+        (drop outer.behind outer.log.items) result.desk.shown.value (drop result.behind result.log.items) }
     ensures view { view result.desk.place ≡ view_of result.desk.shown.value }
 {
     let (outer, _done) = outer.publish_as::<Looks, R>(rt);
@@ -109,7 +110,8 @@ impl BoardWriter {
     pub fn add(&mut self, c: &Chunk) -> Result<(), AddFault>
         ensures ok { OnOk result (self.new ≡ record self.old { pending = self.old.pending ++ c.now ∷ [] }) }
         ensures unchanged { OnErr result (self.new ≡ self.old) }
-        ensures cause { result ≡ Err AddFault.Uncountable → 2 ^ 64 ≤ octets_of ((self.old.published ++ self.old.pending) ++ c.now ∷ []) }
+        ensures cause { result ≡ Err AddFault.Uncountable
+            → 2 ^ 64 ≤ octets_of ((self.old.published ++ self.old.pending) ++ c.now ∷ []) }
     {
         let Some(octets) = self.octets.checked_add(c.text.len() as u64) else {
             return Err(AddFault::Uncountable);
@@ -155,7 +157,8 @@ impl BoardWriter {
 
     /// Says what is published.
     pub fn tell(&self) -> Result<Note, NoMemory>
-        ensures { IfOk result (λ n. n ≡ record { board = self.now.board; changes = self.now.published; ended = self.now.ended }) }
+        ensures { IfOk result (λ n. n ≡
+            record { board = self.now.board; changes = self.now.published; ended = self.now.ended }) }
     {
         let page = self.outer.published().another(self.alloc)?;
         Ok(Note { page })
@@ -165,8 +168,10 @@ impl BoardWriter {
     /// It may wait for the reader to leave. Where there is no memory for the note all is as before.
     pub fn last<R: Wait>(&mut self, rt: &R) -> Result<Note, NoMemory>
         requires { self.old.ended ≡ false }
-        ensures ended { OnOk result (self.new ≡ record self.old { published = self.old.published ++ self.old.pending; pending = []; ended = true }) }
-        ensures told { IfOk result (λ n. n ≡ record { board = self.old.board; changes = self.old.published ++ self.old.pending; ended = true }) }
+        ensures ended { OnOk result (self.new
+            ≡ record self.old { published = self.old.published ++ self.old.pending; pending = []; ended = true }) }
+        ensures told { IfOk result (λ n. n
+            ≡ record { board = self.old.board; changes = self.old.published ++ self.old.pending; ended = true }) }
         ensures unchanged { OnErr result (self.new ≡ self.old) }
     {
         let mut page = self.room()?;

@@ -1,8 +1,9 @@
 -- A leg of whose link nothing was asked.
-use Rattle.std.proofs.Common.{◌≡◌, ℕ, true≢false, None, Some, [], refl, sym, ap, subst}
+use Rattle.std.proofs.Common.{◌≡◌, ℕ, true≢false, None, Some, [], refl, sym, ap, ◌∙◌, subst}
 use Rattle.std.specs.Prelude.{Bool, true, false, if◌then◌else◌}
 use Rattle.reorder_buffer.specs.Stories.{begun as begun_story}
 use Rattle.receiver.specs.declared.settings.EarSettings.{EarSettings}
+use Rattle.receiver.specs.Cuts.{is_cut, most_of}
 use Rattle.receiver.specs.Hears.{Gave, settings_of}
 use Rattle.live_leg.specs.declared.arrivals.Arrivals as arrivals
 use Rattle.live_spec.specs.Told.{all_by, untold}
@@ -20,9 +21,9 @@ first_is : (b : Bool) (ssrc : ℕ) → IsOf (if b then None else Some ssrc) ssrc
 first_is true ssrc = refl
 first_is false ssrc = refl
 
-pub begun : {A F : Type 0} (g : arrivals.Ghosts A F) (leg : Leg A) → Gave leg.ear leg.settings.ear leg.settings.ear.ssrc (begun_story leg.settings.ear.wait) [] → KnowsFirst (hearing_of leg.settings) leg.senders → IsTally leg.tally untallied
+pub begun : {A F : Type 0} (g : arrivals.Ghosts A F) (leg : Leg A) → Gave leg.ear leg.settings.ear leg.settings.ear.ssrc (begun_story leg.settings.ear.wait) [] → is_cut leg.settings.ear.cut ≡ true → KnowsFirst (hearing_of leg.settings) leg.senders → IsTally leg.tally untallied
     → leg.state ≡ Idle → g.came leg.arrivals leg.arrivals [] → LegStands g leg leg []
-begun {A} {F} g leg gave knows tally idle came =
+begun {A} {F} g leg gave cut knows tally idle came =
     let h = hearing_of leg.settings in
     let own : settings_of leg.ear ≡ leg.settings.ear = gave.hears.asked in
     record {
@@ -37,6 +38,8 @@ begun {A} {F} g leg gave knows tally idle came =
           hears = record {
             payload_types = ap (λ (k : EarSettings). k.payload_types) own;
             wait = ap (λ (k : EarSettings). k.wait) own;
+            cut = ap (λ (k : EarSettings). is_cut k.cut) own ∙ cut;
+            piece = ap (λ (k : EarSettings). most_of k.cut) own;
             sender = subst (λ (k : EarSettings). IsOf (untold h).sender k.ssrc []) (sym own) (first_is leg.settings.follow leg.settings.ear.ssrc);
           };
           past = refl;

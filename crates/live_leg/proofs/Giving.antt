@@ -1,12 +1,10 @@
 -- A leg gives what is ready by its link's takes.
-use Rattle.std.proofs.Common.{◌≡◌, ℕ, Bool, true, false, true≢false, cond, inl, Option, None, Some, List, [], ◌∷◌, ◌++◌, refl, ap, sym, ◌∙◌, subst, append_assoc, ◌||◌}
+use Rattle.std.proofs.Common.{◌≡◌, ℕ, Bool, true, false, true≢false, inl, Option, None, Some, List, [], ◌∷◌, ◌++◌, refl, ap, sym, ◌∙◌, subst, append_assoc, ◌||◌}
 use Rattle.std.specs.Prelude.{filter, map, max, if◌then◌else◌, is_some, unwrap_or}
 use Rattle.std.proofs.lemmas.List.{append-nil, map-append}
-use Rattle.std.proofs.lemmas.List.Elements.{filter-append}
 use Rattle.stream_spec.specs.Fronts.{IsFront, is_ready_by}
 use Rattle.stream_spec.specs.Hearing.{marker}
 use Rattle.stream_spec.specs.Ready.{Chunk, chunk, chunk_of}
-use Rattle.stream_spec.specs.Still.{is_lively_chunk}
 use Rattle.reorder_buffer.specs.Stories.{Story}
 use Rattle.receiver.specs.declared.settings.EarSettings.{EarSettings}
 use Rattle.receiver.specs.declared.ears.Ear.{Ear}
@@ -32,51 +30,34 @@ use Rattle.live_leg.specs.Stories.{BeginsWith, IsEarOf, hearing_of}
 use Rattle.live_leg.specs.Items.{AreItems, Item, Text, Seen, Silent, End, fault_in, is_text, item_with, items_of, items_with, text_in, texts_in}
 use Rattle.live_leg.specs.States.{is_ending, is_giving, is_going, is_heard}
 use Rattle.live_leg.specs.Stands.{EarStands, GivesOf, GivesThen, IsGivingSome, IsPart, LegGave, LegStands, Nearly, PhaseAt, Went, given_as, is_last}
-use Rattle.live_leg.specs.Stepping.{seen_as, unless_blank}
-use Rattle.live_leg.proofs.Parting.{front_at, over_former, part_chunks, part_front}
+use Rattle.receiver.specs.Cuts.{is_cut, most_of}
+use Rattle.live_leg.specs.Stepping.{seen_as}
+use Rattle.live_leg.proofs.Parting.{front_at, over_former, part_chunks, part_front, part_ready}
 use Rattle.live_leg.proofs.Telling.{first_heard}
 use Rattle.live_leg.proofs.Texts.{all_texts, fault_before, items_append, texts_append, texts_same}
 
 -- ---- what is ready
-filter_swap : {X : Type 0} (p q : X → Bool) (xs : List X) → filter p (filter q xs) ≡ filter q (filter p xs)
-filter_swap p q [] = refl
-filter_swap p q (x ∷ xs) = go (p x) (q x) refl refl (filter_swap p q xs)
-  where
-    go : (a b : Bool) → p x ≡ a → q x ≡ b → filter p (filter q xs) ≡ filter q (filter p xs)
-        → filter p (cond b (x ∷ filter q xs) (filter q xs)) ≡ filter q (cond a (x ∷ filter p xs) (filter p xs))
-    go true true e f h = rw e (rw f (ap (λ ys. x ∷ ys) h))
-    go true false e f h = rw f h
-    go false true e f h = rw e h
-    go false false e f h = h
-
 -- what is ready of all that was told, where the link is closed or not
 abbrev ready_where : Hearing → Told → Bool → List Chunk
 ready_where h d closed = if closed then all_told h d else filter (is_ready_by d.moment) (all_told h d)
 
 ready_open : (lc : LegSettings) (takes : Takes) (settings : EarSettings) (story : Story) → (told_by (hearing_of lc) takes).closed ≡ false → IsEarOf (hearing_of lc) (told_by (hearing_of lc) takes) settings
     → story.past ≡ (told_by (hearing_of lc) takes).past → story.moment ≡ (told_by (hearing_of lc) takes).moment
-    → all_former (hearing_of lc) (told_by (hearing_of lc) takes).before ++ filter is_lively_chunk (ready_chunks settings settings.ssrc story) ≡ ready_by (hearing_of lc) takes
+    → all_former (hearing_of lc) (told_by (hearing_of lc) takes).before ++ ready_chunks settings settings.ssrc story ≡ ready_by (hearing_of lc) takes
 ready_open lc takes settings story o e past moment =
     let h = hearing_of lc in
     let d = told_by h takes in
-    let last : filter is_lively_chunk (ready_chunks settings settings.ssrc story) ≡ filter (is_ready_by d.moment) (last_chunks h d.sender d.past) =
-    filter_swap is_lively_chunk (is_ready_by story.moment) (story_chunks settings settings.ssrc story)
-    ∙ (ap (λ cs. filter (is_ready_by story.moment) cs) (part_chunks lc d settings story e past) ∙ ap (λ (n : ℕ). filter (is_ready_by n) (last_chunks h d.sender d.past)) moment) in
+    let last : ready_chunks settings settings.ssrc story ≡ filter (is_ready_by d.moment) (last_chunks h d.sender d.past) =
+    part_ready lc d settings story e past ∙ ap (λ (n : ℕ). filter (is_ready_by n) (last_chunks h d.sender d.past)) moment in
     ap (λ cs. all_former h d.before ++ cs) last ∙ (sym (ready_is h d d.moment (all_good h takes).until) ∙ ap (ready_where h d) (sym o))
 
 ready_closed : (lc : LegSettings) (takes : Takes) (settings : EarSettings) (story : Story) → (told_by (hearing_of lc) takes).closed ≡ true → IsEarOf (hearing_of lc) (told_by (hearing_of lc) takes) settings
     → story.past ≡ (told_by (hearing_of lc) takes).past
-    → all_former (hearing_of lc) (told_by (hearing_of lc) takes).before ++ filter is_lively_chunk (story_chunks settings settings.ssrc story) ≡ ready_by (hearing_of lc) takes
+    → all_former (hearing_of lc) (told_by (hearing_of lc) takes).before ++ story_chunks settings settings.ssrc story ≡ ready_by (hearing_of lc) takes
 ready_closed lc takes settings story o e past =
     let h = hearing_of lc in
     let d = told_by h takes in
     ap (λ cs. all_former h d.before ++ cs) (part_chunks lc d settings story e past) ∙ ap (ready_where h d) (sym o)
-
-one_lively : (c : Chunk) → is_lively_chunk c ≡ true → filter is_lively_chunk (c ∷ []) ≡ c ∷ []
-one_lively c e = ap (λ b. cond b (c ∷ []) []) e
-
-none_lively : (c : Chunk) → is_lively_chunk c ≡ false → filter is_lively_chunk (c ∷ []) ≡ []
-none_lively c e = ap (λ b. cond b (c ∷ []) []) e
 
 -- ---- from one state to the next
 given_append : (st : State) (m : ℕ) (xs ys : List Chunk) → given_as st m (xs ++ ys) ≡ given_as st m xs ++ given_as st m ys
@@ -115,7 +96,7 @@ turns_over Over e = absurd (true≢false (sym e))
 
 -- an ear gave these chunks more
 ear_gave : {F : Type 0} (h : Hearing) (takes : Takes) (a b : State) (l m : Ear) (moment : ℕ) (octets : List ℕ) (items xs : List (Item F)) (cs : List Chunk) → Turns a b → settings_of m ≡ settings_of l
-    → (s : EarStands l a moment octets h takes items) → GaveSome m (settings_of l) (settings_of l).ssrc s.story (s.heard ++ cs) → texts_in 0 xs ≡ given_as a moment (filter is_lively_chunk cs)
+    → (s : EarStands l a moment octets h takes items) → GaveSome m (settings_of l) (settings_of l).ssrc s.story (s.heard ++ cs) → texts_in 0 xs ≡ given_as a moment cs
     → EarStands m b moment octets h takes (items ++ xs)
 ear_gave h takes a b l m moment octets items xs cs turns settings s gives are =
     let story = record s.story { given = gives.0 } in
@@ -131,10 +112,9 @@ ear_gave h takes a b l m moment octets items xs cs turns settings s gives are =
       part_is = turns.part h takes octets s.part s.part_is;
       texts = texts_append 0 items xs
           ∙ ((λ ι. s.texts ι ++ are ι)
-          ∙ (append_assoc (all_former h s.part.before) (given_as a moment (filter is_lively_chunk s.heard)) (given_as a moment (filter is_lively_chunk cs))
+          ∙ (append_assoc (all_former h s.part.before) (given_as a moment s.heard) (given_as a moment cs)
           ∙ ap (λ ds. all_former h s.part.before ++ ds)
-          (sym (given_append a moment (filter is_lively_chunk s.heard) (filter is_lively_chunk cs))
-          ∙ (ap (given_as a moment) (sym (filter-append is_lively_chunk s.heard cs)) ∙ sym (turns.given moment (filter is_lively_chunk (s.heard ++ cs)))))));
+          (sym (given_append a moment s.heard cs) ∙ sym (turns.given moment (s.heard ++ cs)))));
     }
 
 -- what it gave so far stands before all
@@ -142,7 +122,7 @@ ear_front : {F : Type 0} (lc : LegSettings) (takes : Takes) (st : State) (e : Ea
     → EarStands e st moment octets (hearing_of lc) takes items → IsFront (texts_in 0 items) (all_by (hearing_of lc) takes)
 ear_front lc takes st e moment octets items f m s =
     subst (λ cs. IsFront cs (all_by (hearing_of lc) takes)) (sym s.texts)
-    (front_at st (hearing_of lc) takes octets moment s.part (filter is_lively_chunk s.heard) s.part_is m (part_front lc s.part e s.story s.heard f s.hears s.past s.gave))
+    (front_at st (hearing_of lc) takes octets moment s.part s.heard s.part_is m (part_front lc s.part e s.story s.heard f s.hears s.past s.gave))
 
 -- ---- one item more
 with_text : {F : Type 0} (closing : Bool) (signal : Item F) (h : Hearing) (takes : Takes) (items : List (Item F)) (x : Item F) → is_text x ≡ true → IsGivingSome closing signal h takes items → IsGivingSome closing signal h takes (items ++ x ∷ [])
@@ -237,7 +217,7 @@ heard_if Parting e = absurd (true≢false (sym e))
 heard_if Ending e = refl
 heard_if Over e = absurd (true≢false (sym e))
 
-going_if : (st : State) → is_heard st ≡ true → is_ending st ≡ false → is_going st ≡ true
+pub going_if : (st : State) → is_heard st ≡ true → is_ending st ≡ false → is_going st ≡ true
 going_if Idle e d = refl
 going_if Giving e d = refl
 going_if Blank e d = refl
@@ -285,14 +265,6 @@ given_none Blank m = refl
 given_none Parting m = refl
 given_none Ending m = refl
 given_none Over m = refl
-
-given_lively : (st : State) (m : ℕ) (c : Chunk) → is_lively_chunk (given_chunk st m c) ≡ is_lively_chunk c
-given_lively Idle m c = refl
-given_lively Giving m c = refl
-given_lively Blank m c = refl
-given_lively Parting m c = refl
-given_lively Ending m c = refl
-given_lively Over m c = refl
 
 given_source : (st : State) (m : ℕ) (c : Chunk) → c.source ≡ 0 → (given_chunk st m c).source ≡ 0
 given_source Idle m c e = e
@@ -348,7 +320,7 @@ module _ {A F : Type 0} (g : arrivals.Ghosts A F) where
   gave_more : (l m : Leg A) (cs : List Chunk) (xs : List (Item F)) → fault_in xs ≡ None → Same l m → Turns l.state m.state → settings_of m.ear ≡ settings_of l.ear → GaveFront m.ear
       → (first : Leg A) (items : List (Item F)) (n : Nearly g first l items)
       → GaveSome m.ear (settings_of l.ear) (settings_of l.ear).ssrc n.ear.story (n.ear.heard ++ cs)
-      → texts_in 0 xs ≡ given_as l.state l.senders.moment (filter is_lively_chunk cs)
+      → texts_in 0 xs ≡ given_as l.state l.senders.moment cs
       → PhaseAt m.state (hearing_of first.settings) n.takes (items ++ xs)
       → LegStands g first m (items ++ xs)
   gave_more l m cs xs well same turns settings_is front first items n gives are phase =
@@ -356,30 +328,20 @@ module _ {A F : Type 0} (g : arrivals.Ghosts A F) where
       let ear = ear_gave h n.takes l.state m.state l.ear m.ear l.senders.moment l.packet.value items xs cs turns settings_is n.ear gives are in
       stands_more first l m items xs well same n ear (ear_front first.settings n.takes m.state m.ear l.senders.moment l.packet.value (items ++ xs) front n.knows.moment ear) phase
 
-  -- a text was given, or a keep-alive was passed over
+  -- a text was given
   pub gives_next : (l m : Leg A) (c x : Chunk) → is_giving l.state ≡ true → m.state ≡ l.state → Same l m → settings_of m.ear ≡ settings_of l.ear
-      → GivesChunk l.ear m.ear c → GaveFront m.ear → c.source ≡ 0 → x ≡ given_chunk l.state l.senders.moment c → (given : Option (ItemKind F)) → given ≡ unless_blank x → GivesOf g l m (items_with given x)
-  gives_next l m c x giving state same settings_is gives front own shown given is first items n = subst (λ (k : Option (ItemKind F)). LegStands g first m (items ++ items_with k x)) (sym is) (go (is_lively_chunk x) refl)
+      → GivesChunk l.ear m.ear c → GaveFront m.ear → c.source ≡ 0 → x ≡ given_chunk l.state l.senders.moment c → GivesOf g l m (items_with (Some kind.Text) x)
+  gives_next l m c x giving state same settings_is gives front own shown first items n =
+      gave_more l m (c ∷ []) (Text x.ready x.text ∷ []) refl same (stays l.state m.state state) settings_is front first items n (gives (settings_of l.ear) (settings_of l.ear).ssrc n.ear.story n.ear.heard n.ear.gave)
+      (ap (λ k. chunk k x.ready x.text ∷ []) (sym source) ∙ (ap (λ (k : Chunk). k ∷ []) shown ∙ sym (given_one l.state l.senders.moment c)))
+      (subst (λ (st : State). PhaseAt st h n.takes (items ++ Text x.ready x.text ∷ [])) (sym state)
+      (text_phase l.state h n.takes items (Text x.ready x.text) refl giving n.phase))
     where
       h : Hearing
       h = hearing_of first.settings
 
-      live : is_lively_chunk x ≡ is_lively_chunk c
-      live = ap is_lively_chunk shown ∙ given_lively l.state l.senders.moment c
-
       source : x.source ≡ 0
       source = ap (λ (k : Chunk). k.source) shown ∙ given_source l.state l.senders.moment c own
-
-      go : (b : Bool) → is_lively_chunk x ≡ b → LegStands g first m (items ++ items_with (if b then Some kind.Text else None) x)
-      go true e = gave_more l m (c ∷ []) (Text x.ready x.text ∷ []) refl same (stays l.state m.state state) settings_is front first items n (gives (settings_of l.ear) (settings_of l.ear).ssrc n.ear.story n.ear.heard n.ear.gave)
-          (ap (λ k. chunk k x.ready x.text ∷ []) (sym source)
-          ∙ (ap (λ (k : Chunk). k ∷ []) shown ∙ (sym (given_one l.state l.senders.moment c) ∙ ap (given_as l.state l.senders.moment) (sym (one_lively c (sym live ∙ e))))))
-          (subst (λ (st : State). PhaseAt st h n.takes (items ++ Text x.ready x.text ∷ [])) (sym state)
-          (text_phase l.state h n.takes items (Text x.ready x.text) refl giving n.phase))
-      go false e = gave_more l m (c ∷ []) [] refl same (stays l.state m.state state) settings_is front first items n (gives (settings_of l.ear) (settings_of l.ear).ssrc n.ear.story n.ear.heard n.ear.gave)
-          (sym (given_none l.state l.senders.moment) ∙ ap (given_as l.state l.senders.moment) (sym (none_lively c (sym live ∙ e))))
-          (subst (λ (its : List (Item F)). PhaseAt m.state h n.takes its) (sym (append-nil items))
-          (subst (λ (st : State). PhaseAt st h n.takes items) (sym state) n.phase))
 
   -- nothing more was given: all that is ready was
   marked : (l m : Leg A) (x : Item F) → ((leg : ℕ) → text_in leg x ≡ []) → fault_in (x ∷ []) ≡ None → Same l m → Turns l.state m.state → settings_of m.ear ≡ settings_of l.ear → GivesNone l.ear m.ear → GaveFront m.ear
@@ -404,9 +366,9 @@ module _ {A F : Type 0} (g : arrivals.Ghosts A F) where
       let w = giving_is l.state h n.takes items c giving not_ending n.phase in
       let part = part_now l.state h n.takes l.packet.value e.part giving e.part_is in
       let all : texts_in 0 (items ++ x ∷ []) ≡ ready_by h n.takes = texts_same 0 items x (no_text F l.state c 0)
-      ∙ (e.texts ∙ (ap (λ cs. all_former h e.part.before ++ cs) (as_now l.state l.senders.moment (filter is_lively_chunk e.heard) giving)
-      ∙ (ap (λ cs. all_former h e.part.before ++ filter is_lively_chunk cs) (ready settings settings.ssrc e.story e.heard e.gave)
-      ∙ (ap (λ (d : Told). all_former h d.before ++ filter is_lively_chunk (ready_chunks settings settings.ssrc e.story)) part
+      ∙ (e.texts ∙ (ap (λ cs. all_former h e.part.before ++ cs) (as_now l.state l.senders.moment e.heard giving)
+      ∙ (ap (λ cs. all_former h e.part.before ++ cs) (ready settings settings.ssrc e.story e.heard e.gave)
+      ∙ (ap (λ (d : Told). all_former h d.before ++ ready_chunks settings settings.ssrc e.story) part
       ∙ ready_open lc n.takes settings e.story w.closed (subst (λ (d : Told). IsEarOf h d settings) part e.hears) (e.past ∙ ap (λ (d : Told). d.past) part)
       (e.at_moment (going_if l.state giving not_ending) ∙ ap (λ (d : Told). d.moment) part))))) in
       marked l m x (no_text F l.state c) (no_fault l.state c) same (subst (λ (st : State). Turns l.state st) (sym state) (turns_idle l.state giving not_ending)) settings_is gives front first items n
@@ -428,9 +390,9 @@ module _ {A F : Type 0} (g : arrivals.Ghosts A F) where
       let heard = heard_if l.state ending in
       let part = part_now l.state h n.takes l.packet.value e.part heard e.part_is in
       let all : texts_in 0 (items ++ End ∷ []) ≡ ready_by h n.takes = texts_same 0 items End refl
-      ∙ (e.texts ∙ (ap (λ cs. all_former h e.part.before ++ cs) (as_now l.state l.senders.moment (filter is_lively_chunk e.heard) heard)
-      ∙ (ap (λ cs. all_former h e.part.before ++ filter is_lively_chunk cs) (ready settings settings.ssrc e.story e.heard e.gave ∙ e.all (ending_last l.state ending))
-      ∙ (ap (λ (d : Told). all_former h d.before ++ filter is_lively_chunk (story_chunks settings settings.ssrc e.story)) part
+      ∙ (e.texts ∙ (ap (λ cs. all_former h e.part.before ++ cs) (as_now l.state l.senders.moment e.heard heard)
+      ∙ (ap (λ cs. all_former h e.part.before ++ cs) (ready settings settings.ssrc e.story e.heard e.gave ∙ e.all (ending_last l.state ending))
+      ∙ (ap (λ (d : Told). all_former h d.before ++ story_chunks settings settings.ssrc e.story) part
       ∙ ready_closed lc n.takes settings e.story w.closed (subst (λ (d : Told). IsEarOf h d settings) part e.hears) (e.past ∙ ap (λ (d : Told). d.past) part))))) in
       marked l m End (λ leg. refl) refl same (subst (λ (st : State). Turns l.state st) (sym state) (turns_over l.state ending)) settings_is gives front first items n
       (subst (λ (st : State). PhaseAt st h n.takes (items ++ End ∷ [])) (sym state)
@@ -450,8 +412,8 @@ module _ {A F : Type 0} (g : arrivals.Ghosts A F) where
       let at : moment ≡ max e.part.moment v.at = n.knows.moment ∙ ap (λ (d : Told). d.moment) v.over in
       let there : l.senders.sender ≡ Some v.packet.ssrc = n.knows.sender ∙ ap (λ (d : Told). d.sender) v.over in
       let gone = gives settings settings.ssrc e.story e.heard e.gave in
-      let all : filter is_lively_chunk e.heard ≡ last_chunks h e.part.sender e.part.past =
-      ap (λ cs. filter is_lively_chunk cs) (ready settings settings.ssrc e.story e.heard e.gave ∙ e.all refl) ∙ part_chunks lc e.part settings e.story e.hears e.past in
+      let all : e.heard ≡ last_chunks h e.part.sender e.part.past =
+      ready settings settings.ssrc e.story e.heard e.gave ∙ (e.all refl ∙ part_chunks lc e.part settings e.story e.hears e.past) in
       let texts : texts_in 0 (items ++ x ∷ []) ≡ all_former h (taken_over e.part v.at v.packet).before = texts_append 0 items (x ∷ [])
       ∙ (ap (λ cs. cs ++ texts_in 0 (x ∷ [])) (e.texts ∙ ap (λ cs. all_former h e.part.before ++ map (ready_until moment) cs) all)
       ∙ (append_assoc (all_former h e.part.before) (map (ready_until moment) (last_chunks h e.part.sender e.part.past)) (texts_in 0 (x ∷ []))
@@ -462,6 +424,7 @@ module _ {A F : Type 0} (g : arrivals.Ghosts A F) where
       first_heard lc mid m.ear m.state moment l.packet.value l.packet.value n.takes (items ++ x ∷ []) e.part v.at v.packet (unwrap_or l.senders.sender 0)
       (record e.story { given = gone.0 }) e.heard (subst (λ (k : EarSettings). Gave mid k k.ssrc (record e.story { given = gone.0 }) e.heard) (sym settings_is) gone.1)
       (ap (λ (k : EarSettings). k.payload_types) settings_is ∙ e.hears.payload_types) (ap (λ (k : EarSettings). k.wait) settings_is ∙ e.hears.wait)
+      (ap (λ (k : EarSettings). is_cut k.cut) settings_is ∙ e.hears.cut) (ap (λ (k : EarSettings). most_of k.cut) settings_is ∙ e.hears.piece)
       begins (ap (λ (o : Option ℕ). unwrap_or o 0) there) at v.reads v.over state texts in
       stands_more first l m items (x ∷ []) refl same n ear
       (subst (λ cs. IsFront cs (all_by h n.takes)) (sym texts)

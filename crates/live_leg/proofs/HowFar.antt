@@ -2,7 +2,7 @@
 use Rattle.std.proofs.Common.{◌≡◌, true, false, true≢false, refl, ap, sym, ◌∙◌}
 use Rattle.live_leg.specs.declared.states.State.{State}
 use Rattle.live_leg.specs.declared.states.State.TheVariants.{Idle, Giving, Blank, Parting, Ending, Over}
-use Rattle.live_leg.specs.States.{is_ending, is_giving, is_going, is_heard, is_parting}
+use Rattle.live_leg.specs.States.{is_giving, is_going, is_heard, is_parting}
 
 pub heard_not_idle : (st : State) → is_heard st ≡ true → st ≡ Idle → ⊥
 heard_not_idle st g i = true≢false (sym g ∙ ap is_heard i)
@@ -14,14 +14,6 @@ heard_giving Blank h = refl
 heard_giving Parting h = absurd (true≢false (sym h))
 heard_giving Ending h = refl
 heard_giving Over h = absurd (true≢false (sym h))
-
-pub still_going : (st : State) → is_heard st ≡ true → is_ending st ≡ false → is_going st ≡ true
-still_going Idle g e = refl
-still_going Giving g e = refl
-still_going Blank g e = refl
-still_going Parting g e = absurd (true≢false (sym g))
-still_going Ending g e = absurd (true≢false e)
-still_going Over g e = absurd (true≢false (sym g))
 
 pub parts_or_hears : (st : State) → is_giving st ≡ true → is_parting st ≡ false → is_heard st ≡ true
 parts_or_hears Idle g p = absurd (true≢false (sym g))

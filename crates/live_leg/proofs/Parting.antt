@@ -1,8 +1,7 @@
 -- What an ear gives is of the part that it hears.
-use Rattle.std.proofs.Common.{◌≡◌, ℕ, ◌≤◌, Bool, false, Option, None, Some, List, [], ◌∷◌, ◌++◌, refl, ap, sym, ◌∙◌, subst}
+use Rattle.std.proofs.Common.{◌≡◌, ℕ, ◌≤◌, Bool, true, false, cond, Option, None, Some, List, [], ◌∷◌, ◌++◌, refl, ap, sym, ◌∙◌, subst}
 use Rattle.std.specs.Prelude.{filter, map, max, if◌then◌else◌}
 use Rattle.std.proofs.lemmas.List.{append_cancel_left, map-append}
-use Rattle.std.proofs.lemmas.List.Elements.{filter-append}
 use Rattle.wire_spec.specs.Packets.{Arrival, Packet}
 use Rattle.stream_spec.specs.Fronts.{IsFront, is_ready_by}
 use Rattle.stream_spec.specs.Hearing.{marker}
@@ -12,34 +11,59 @@ use Rattle.stream_spec.proofs.StillChunks.{chunks_still}
 use Rattle.reorder_buffer.specs.Stories.{Story}
 use Rattle.receiver.specs.declared.settings.EarSettings.{EarSettings}
 use Rattle.receiver.specs.declared.ears.Ear.{Ear}
-use Rattle.receiver.specs.Hears.{Gave, GaveFront, settings_of, story_chunks}
+use Rattle.receiver.specs.Hears.{Gave, GaveFront, ready_chunks, settings_of, story_chunks}
+use Rattle.receiver.specs.Cuts.{most_of}
+use Rattle.receiver.proofs.HandedOut.{given_cut}
+use Rattle.mixer_spec.specs.Pieces.{chunks_cut, pieces}
 use Rattle.stream_spec.specs.Links.{Takes}
 use Rattle.live_spec.specs.Told.{Hearing, Told, all_by, all_former, all_told, former_after, last_chunks, ready_by, ready_until, taken_over, told_by}
-use Rattle.live_spec.proofs.Fronts.{all_good, as_it_was, behind, more, ready_is}
+use Rattle.live_spec.proofs.Fronts.{all_good, as_it_was, behind, more, ready_cut, ready_is}
 use Rattle.live_leg.specs.declared.settings.LegSettings.{LegSettings}
 use Rattle.live_leg.specs.declared.states.State.{State}
 use Rattle.live_leg.specs.declared.states.State.TheVariants.{Idle, Giving, Blank, Parting, Ending, Over}
 use Rattle.live_leg.specs.Stands.{IsPart, given_as}
 use Rattle.live_leg.specs.Stories.{IsEarOf, IsOf, hearing_of}
 
--- what is heard by an ear's story, but for keep-alives, are the texts of the sender
-pub part_chunks : (lc : LegSettings) (d : Told) (settings : EarSettings) (story : Story) → IsEarOf (hearing_of lc) d settings → story.past ≡ d.past
-    → filter is_lively_chunk (story_chunks settings settings.ssrc story) ≡ last_chunks (hearing_of lc) d.sender d.past
-part_chunks lc d settings story e s =
-    sym (chunks_still settings.wait 0 story.past settings.ssrc)
-    ∙ (ap (λ (a : List Arrival). chunks settings.wait 0 (still a) settings.ssrc) s
-    ∙ (ap (λ (w : ℕ). chunks w 0 (still d.past) settings.ssrc) e.wait ∙ go d.sender e.sender))
+filter_swap : {X : Type 0} (p q : X → Bool) (xs : List X) → filter p (filter q xs) ≡ filter q (filter p xs)
+filter_swap p q [] = refl
+filter_swap p q (x ∷ xs) = go (p x) (q x) refl refl (filter_swap p q xs)
   where
-    go : (o : Option ℕ) → IsOf o settings.ssrc d.past → chunks lc.ear.wait 0 (still d.past) settings.ssrc ≡ last_chunks (hearing_of lc) o d.past
-    go None p = ap (λ (a : List Arrival). chunks lc.ear.wait 0 (still a) settings.ssrc) p
-    go (Some s) q = ap (λ (x : ℕ). chunks lc.ear.wait 0 (still d.past) x) q
+    go : (a b : Bool) → p x ≡ a → q x ≡ b → filter p (filter q xs) ≡ filter q (filter p xs)
+        → filter p (cond b (x ∷ filter q xs) (filter q xs)) ≡ filter q (cond a (x ∷ filter p xs) (filter p xs))
+    go true true e f h = rw e (rw f (ap (λ ys. x ∷ ys) h))
+    go true false e f h = rw f h
+    go false true e f h = rw e h
+    go false false e f h = h
+
+-- what an ear hands out by its story are the texts of the sender
+pub part_chunks : (lc : LegSettings) (d : Told) (settings : EarSettings) (story : Story) → IsEarOf (hearing_of lc) d settings → story.past ≡ d.past
+    → story_chunks settings settings.ssrc story ≡ last_chunks (hearing_of lc) d.sender d.past
+part_chunks lc d settings story e s =
+    given_cut settings.cut (chunks settings.wait 0 story.past settings.ssrc) e.cut
+    ∙ (ap (λ cs. chunks_cut (pieces (most_of settings.cut)) cs) (sym (chunks_still settings.wait 0 story.past settings.ssrc))
+    ∙ ((λ i. chunks_cut (pieces (e.piece i)) (chunks (e.wait i) 0 (still (s i)) settings.ssrc)) ∙ go d.sender e.sender))
+  where
+    go : (o : Option ℕ) → IsOf o settings.ssrc d.past → chunks_cut (pieces (hearing_of lc).piece) (chunks lc.ear.wait 0 (still d.past) settings.ssrc) ≡ last_chunks (hearing_of lc) o d.past
+    go None p = ap (λ (a : List Arrival). chunks_cut (pieces (hearing_of lc).piece) (chunks lc.ear.wait 0 (still a) settings.ssrc)) p
+    go (Some s) q = ap (λ (x : ℕ). chunks_cut (pieces (hearing_of lc).piece) (chunks lc.ear.wait 0 (still d.past) x)) q
+
+-- what is ready of it is what is ready of them
+pub part_ready : (lc : LegSettings) (d : Told) (settings : EarSettings) (story : Story) → IsEarOf (hearing_of lc) d settings → story.past ≡ d.past
+    → ready_chunks settings settings.ssrc story ≡ filter (is_ready_by story.moment) (last_chunks (hearing_of lc) d.sender d.past)
+part_ready lc d settings story e s =
+    let cs = chunks settings.wait 0 story.past settings.ssrc in
+    let cutting = pieces (most_of settings.cut) in
+    given_cut settings.cut (filter (is_ready_by story.moment) cs) e.cut
+    ∙ (ap (λ xs. chunks_cut cutting xs) (filter_swap is_lively_chunk (is_ready_by story.moment) cs)
+    ∙ (sym (ready_cut cutting story.moment (filter is_lively_chunk cs))
+    ∙ (ap (λ xs. filter (is_ready_by story.moment) xs) (sym (given_cut settings.cut cs e.cut)) ∙ ap (λ xs. filter (is_ready_by story.moment) xs) (part_chunks lc d settings story e s))))
 
 -- what it gave so far is a front of them
 pub part_front : (lc : LegSettings) (d : Told) (e : Ear) (story : Story) (cs : List Chunk) → GaveFront e → IsEarOf (hearing_of lc) d (settings_of e) → story.past ≡ d.past → Gave e (settings_of e) (settings_of e).ssrc story cs
-    → IsFront (filter is_lively_chunk cs) (last_chunks (hearing_of lc) d.sender d.past)
+    → IsFront cs (last_chunks (hearing_of lc) d.sender d.past)
 part_front lc d e story cs f hears s w =
     let r = f (settings_of e) (settings_of e).ssrc story cs w in
-    (filter is_lively_chunk r.0, sym (part_chunks lc d (settings_of e) story hears s) ∙ (ap (λ xs. filter is_lively_chunk xs) r.1 ∙ filter-append is_lively_chunk cs r.0))
+    (r.0, sym (part_chunks lc d (settings_of e) story hears s) ∙ r.1)
 
 -- ---- of all that is heard
 -- one took over: what is left of the sender before, with its marker, is no longer the last

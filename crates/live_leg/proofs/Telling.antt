@@ -8,7 +8,7 @@ use Rattle.wire_spec.specs.Packets.{Arrival, Packet}
 use Rattle.wire_spec.specs.Text.{text_of}
 use Rattle.stream_spec.specs.Fronts.{is_ready_by}
 use Rattle.stream_spec.specs.Ready.{Chunk}
-use Rattle.stream_spec.specs.Still.{is_lively_chunk}
+use Rattle.receiver.specs.Cuts.{is_cut, most_of}
 use Rattle.reorder_buffer.specs.Stories.{Story, begun, came, ended, went}
 use Rattle.receiver.specs.declared.settings.EarSettings.{EarSettings}
 use Rattle.receiver.specs.declared.ears.Ear.{Ear}
@@ -43,11 +43,11 @@ read_here octets payload_types p settings e s r =
 
 -- an ear that hears the first packet of its sender, and nothing before
 pub first_heard : {F : Type 0} (lc : LegSettings) (old new : Ear) (state : State) (moment : ℕ) (packet octets : List ℕ) (takes : Takes) (items : List (Item F)) (d : Told) (t : ℕ) (p : Packet) (ssrc : ℕ)
-    (story : Story) (heard : List Chunk) → Gave old (settings_of old) (settings_of old).ssrc story heard → (settings_of old).payload_types ≡ lc.ear.payload_types → (settings_of old).wait ≡ lc.ear.wait
+    (story : Story) (heard : List Chunk) → Gave old (settings_of old) (settings_of old).ssrc story heard → (settings_of old).payload_types ≡ lc.ear.payload_types → (settings_of old).wait ≡ lc.ear.wait → is_cut (settings_of old).cut ≡ true → most_of (settings_of old).cut ≡ most_of lc.ear.cut
     → BeginsWith old new ssrc moment octets → ssrc ≡ p.ssrc → moment ≡ max d.moment t → text_of octets None lc.ear.payload_types ≡ Ok p → told_by (hearing_of lc) takes ≡ taken_over d t p → state ≡ Giving
     → texts_in 0 items ≡ all_former (hearing_of lc) (taken_over d t p).before
     → EarStands new state moment packet (hearing_of lc) takes items
-first_heard lc old new state moment packet octets takes items d t p ssrc story heard gave payload_types wait b same at reads is stands texts = subst (λ (st : State). EarStands new st moment packet (hearing_of lc) takes items) (sym stands) (
+first_heard lc old new state moment packet octets takes items d t p ssrc story heard gave payload_types wait cut piece b same at reads is stands texts = subst (λ (st : State). EarStands new st moment packet (hearing_of lc) takes items) (sym stands) (
     let settings = settings_of old in
     let mine : EarSettings = record settings { ssrc = ssrc } in
     let here = read_here octets lc.ear.payload_types p mine payload_types same reads in
@@ -63,6 +63,8 @@ first_heard lc old new state moment packet octets takes items d t p ssrc story h
       hears = record {
         payload_types = ap (λ (k : EarSettings). k.payload_types) b.settings ∙ payload_types;
         wait = ap (λ (k : EarSettings). k.wait) b.settings ∙ wait;
+        cut = ap (λ (k : EarSettings). is_cut k.cut) b.settings ∙ cut;
+        piece = ap (λ (k : EarSettings). most_of k.cut) b.settings ∙ piece;
         sender = ap (λ (k : EarSettings). k.ssrc) b.settings ∙ same;
       };
       past = ap (λ (n : ℕ). record { time = n; packet = p } ∷ []) time;
@@ -106,8 +108,8 @@ module _ {F : Type 0} (lc : LegSettings) (takes : Takes) (items : List (Item F))
   moment_now : s.story.moment ≡ (told_by (hearing_of lc) takes).moment
   moment_now = s.at_moment refl ∙ ap (λ (x : Told). x.moment) s.part_is
 
-  texts_now : texts_in 0 items ≡ all_former (hearing_of lc) (told_by (hearing_of lc) takes).before ++ filter is_lively_chunk s.heard
-  texts_now = s.texts ∙ ap (λ (x : Told). all_former (hearing_of lc) x.before ++ filter is_lively_chunk s.heard) s.part_is
+  texts_now : texts_in 0 items ≡ all_former (hearing_of lc) (told_by (hearing_of lc) takes).before ++ s.heard
+  texts_now = s.texts ∙ ap (λ (x : Told). all_former (hearing_of lc) x.before ++ s.heard) s.part_is
 
   -- nothing new was told
   same_ear : (next : Takes) → m ≡ l → told_by (hearing_of lc) next ≡ told_by (hearing_of lc) takes → EarStands m Giving moment octets (hearing_of lc) next items
@@ -135,13 +137,15 @@ module _ {F : Type 0} (lc : LegSettings) (takes : Takes) (items : List (Item F))
     hears = record {
       payload_types = ap (λ (k : EarSettings). k.payload_types) settings ∙ s.hears.payload_types;
       wait = ap (λ (k : EarSettings). k.wait) settings ∙ s.hears.wait;
+      cut = ap (λ (k : EarSettings). is_cut k.cut) settings ∙ s.hears.cut;
+      piece = ap (λ (k : EarSettings). most_of k.cut) settings ∙ s.hears.piece;
       sender = subst (λ (k : EarSettings). IsOf e.sender k.ssrc e.past) (sym settings) of;
     };
     past = past;
     at_moment = λ _. at;
     all = λ q. absurd (true≢false (sym q));
     part_is = sym is;
-    texts = texts_now ∙ ap (λ (b : List Former). all_former (hearing_of lc) b ++ filter is_lively_chunk s.heard) (sym same);
+    texts = texts_now ∙ ap (λ (b : List Former). all_former (hearing_of lc) b ++ s.heard) (sym same);
   }
 
   -- all of the sender is ready, since the link is closed
@@ -151,7 +155,7 @@ module _ {F : Type 0} (lc : LegSettings) (takes : Takes) (items : List (Item F))
     story = ended s.story;
     heard = s.heard;
     gave = subst (λ (k : EarSettings). Gave m k k.ssrc (ended s.story) s.heard) (sym ends.settings) (ends.becomes.gave (settings_of l) (settings_of l).ssrc s.story s.heard s.gave);
-    hears = subst (λ (k : EarSettings). IsEarOf (hearing_of lc) (record d { closed = true }) k) (sym ends.settings) (record { payload_types = hears_now.payload_types; wait = hears_now.wait; sender = hears_now.sender });
+    hears = subst (λ (k : EarSettings). IsEarOf (hearing_of lc) (record d { closed = true }) k) (sym ends.settings) (record { payload_types = hears_now.payload_types; wait = hears_now.wait; cut = hears_now.cut; piece = hears_now.piece; sender = hears_now.sender });
     past = past_now;
     at_moment = λ q. absurd (true≢false (sym q));
     all = λ _. subst (λ (k : EarSettings). ready_chunks k k.ssrc (ended s.story) ≡ story_chunks k k.ssrc (ended s.story)) (sym ends.settings)
@@ -166,7 +170,7 @@ module _ {F : Type 0} (lc : LegSettings) (takes : Takes) (items : List (Item F))
       → EarStands m Parting moment octets (hearing_of lc) (record { at = t; came = link.Datagram octets } ∷ takes) items
   parts p x there at reads ends is =
       let later : d.moment ≤ moment = omega (arith, at) in
-      let soon = all_soon (hearing_of lc) takes (filter is_lively_chunk s.heard) moment open_still later (sym texts_now ∙ ready) in
+      let soon = all_soon (hearing_of lc) takes s.heard moment open_still later (sym texts_now ∙ ready) in
       record {
         part = d;
         story = ended s.story;
@@ -185,9 +189,9 @@ module _ {F : Type 0} (lc : LegSettings) (takes : Takes) (items : List (Item F))
   begins : (next : Takes) (p : Packet) → d.sender ≡ None → ssrc ≡ p.ssrc → moment ≡ max d.moment t → text_of octets None lc.ear.payload_types ≡ Ok p → BeginsWith l m ssrc moment octets
       → told_by (hearing_of lc) next ≡ taken_over d t p → EarStands m Giving moment octets (hearing_of lc) next items
   begins next p none same at reads b is =
-      let empty : filter is_lively_chunk s.heard ≡ [] = ready_part (hearing_of lc) takes (filter is_lively_chunk s.heard) open_still (sym texts_now ∙ ready)
+      let empty : s.heard ≡ [] = ready_part (hearing_of lc) takes s.heard open_still (sym texts_now ∙ ready)
       ∙ ap (λ (o : Option ℕ). filter (is_ready_by d.moment) (last_chunks (hearing_of lc) o d.past)) none in
-      first_heard lc l m Giving moment octets octets next items d t p ssrc s.story s.heard s.gave hears_now.payload_types hears_now.wait b same at reads is refl
+      first_heard lc l m Giving moment octets octets next items d t p ssrc s.story s.heard s.gave hears_now.payload_types hears_now.wait hears_now.cut hears_now.piece b same at reads is refl
       (texts_now ∙ (ap (λ cs. all_former (hearing_of lc) d.before ++ cs) empty
       ∙ (append-nil (all_former (hearing_of lc) d.before) ∙ ap (λ (o : Option ℕ). all_former (hearing_of lc) (former_after o d.past (max d.moment t) d.before)) (sym none))))
 

@@ -1,9 +1,8 @@
 -- What a leg gave, by what came.
-use Rattle.std.specs.Prelude.{◌≡◌, ◌≤◌, ◌⊎◌, ℕ, Bool, true, false, Option, None, Some, Ok, List, [], ◌∷◌, ◌++◌, filter, map}
+use Rattle.std.specs.Prelude.{◌≡◌, ◌≤◌, ◌⊎◌, ℕ, Bool, true, false, Option, None, Some, Ok, List, [], ◌∷◌, ◌++◌, map}
 use Rattle.rtt_base.specs.declared.limits.TheConstants.{MOST_ARRIVALS}
 use Rattle.stream_spec.specs.Fronts.{IsFront}
 use Rattle.stream_spec.specs.Ready.{Chunk}
-use Rattle.stream_spec.specs.Still.{is_lively_chunk}
 use Rattle.reorder_buffer.specs.Stories.{Story}
 use Rattle.wire_spec.specs.Packets.{Packet}
 use Rattle.wire_spec.specs.Text.{text_of}
@@ -119,8 +118,8 @@ abbrev pub is_last : State → Bool
 is_last state = elim state [ Parting ↦ true | Ending ↦ true | _ ↦ false ]
 
 -- What is known of the ear of a leg that is heard so and so far, of which these takes came, the last with these octets where
--- it gave a datagram: what it was told and gave. The texts of the leg's items are those of the senders before, and what the ear gave,
--- but for keep-alives.
+-- it gave a datagram: what it was told and gave. The texts of the leg's items are those of the senders before, and what the ear
+-- gave.
 pub record EarStands {F : Type 0} (e : Ear) (state : State) (moment : ℕ) (octets : List ℕ) (h : Hearing) (takes : Takes) (items : List (Item F)) : Type 0 where
   pub part : Told
   pub story : Story
@@ -131,7 +130,7 @@ pub record EarStands {F : Type 0} (e : Ear) (state : State) (moment : ℕ) (octe
   pub at_moment : is_going state ≡ true → story.moment ≡ part.moment
   pub all : is_last state ≡ true → ready_chunks (settings_of e) (settings_of e).ssrc story ≡ story_chunks (settings_of e) (settings_of e).ssrc story
   pub part_is : IsPart state h takes octets part
-  pub texts : texts_in 0 items ≡ all_former h part.before ++ given_as state moment (filter is_lively_chunk heard)
+  pub texts : texts_in 0 items ≡ all_former h part.before ++ given_as state moment heard
 
 module _ {A F : Type 0} (g : arrivals.Ghosts A F) where
   -- these takes came, newest first, and where it failed, it failed so behind them

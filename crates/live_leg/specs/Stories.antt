@@ -1,10 +1,11 @@
 -- What an ear was told, by what the takes of a link gave (profile).
-use Rattle.std.specs.Prelude.{◌≡◌, ℕ, Option, None, Some, List, []}
+use Rattle.std.specs.Prelude.{◌≡◌, true, ℕ, Option, None, Some, List, []}
 use Rattle.stream_spec.specs.Ready.{Chunk}
 use Rattle.wire_spec.specs.Packets.{Arrival}
 use Rattle.reorder_buffer.specs.Stories.{Story, begun, went, ended}
 use Rattle.receiver.specs.declared.settings.EarSettings.{EarSettings}
 use Rattle.receiver.specs.declared.ears.Ear.{Ear}
+use Rattle.receiver.specs.Cuts.{is_cut, most_of}
 use Rattle.receiver.specs.Hears.{AllReady, Becomes, Gave, settings_of, told, text_for}
 use Rattle.live_spec.specs.Told.{Hearing, Told}
 use Rattle.live_leg.specs.declared.settings.LegSettings.{LegSettings}
@@ -15,7 +16,7 @@ use Rattle.live_leg.specs.declared.states.State.TheVariants.{Giving, Parting}
 
 -- what is heard of a leg that is asked for this, its texts with the source 0: whose they are is set by who mixes
 abbrev pub hearing_of : LegSettings → Hearing
-hearing_of settings = record { leg = 0; ssrc = settings.ear.ssrc; payload_types = settings.ear.payload_types; wait = settings.ear.wait; follow = settings.follow }
+hearing_of settings = record { leg = 0; ssrc = settings.ear.ssrc; payload_types = settings.ear.payload_types; wait = settings.ear.wait; follow = settings.follow; piece = most_of settings.ear.cut }
 
 -- ---- what an ear is told
 -- a packet of the sender came at `now`
@@ -67,4 +68,6 @@ IsOf (Some s) ssrc past = ssrc ≡ s
 pub record IsEarOf (h : Hearing) (d : Told) (settings : EarSettings) : Type 0 where
   pub payload_types : settings.payload_types ≡ h.payload_types
   pub wait : settings.wait ≡ h.wait
+  pub cut : is_cut settings.cut ≡ true
+  pub piece : most_of settings.cut ≡ h.piece
   pub sender : IsOf d.sender settings.ssrc d.past

@@ -4,7 +4,8 @@ ghost use Rattle.rtt_base.specs.declared.limits.TheConstants.{LONGEST_WAIT, MOST
 ghost use Rattle.stream_spec.specs.Hearing.{marker};
 ghost use Rattle.stream_spec.specs.Ready.{chunk as heard_chunk, chunk_of};
 ghost use Rattle.live_spec.specs.Told.{ready_until};
-ghost use Rattle.live_leg.specs.Stepping.{seen_as, unless_blank};
+ghost use Rattle.live_leg.specs.Stepping.{seen_as};
+ghost use Rattle.receiver.specs.Cuts.{is_cut};
 ghost use Rattle.receiver.specs.Hears.{arrival_count};
 ghost use Rattle.live_leg.specs.Items.{Item, items_with};
 ghost use Rattle.live_leg.specs.Stands.{GetsOn, GivesOf, GivesThen, LegStands, Listens};
@@ -19,20 +20,10 @@ use crate::settings::LegSettings;
 use crate::states::State;
 use crate::takes::{begin_with, hear_taken};
 use crate::tallies::LegTally;
-use receiver::{Ear, is_blank};
+use receiver::Ear;
 use rtt_base::limits::MOST_ARRIVALS;
 use rtt_base::{Chunk, Packet};
 use std::alloc::Global;
-
-/// What a text that is heard comes to: a keep-alive (U+FEFF alone) is none, and is passed over.
-fn unless_blank<F>(chunk: &Chunk) -> Option<ItemKind<F>>
-    ensures { result ≡ unless_blank (chunk_of chunk.now) }
-{
-    if is_blank(chunk.text.as_slice()) {
-        return None;
-    }
-    Some(ItemKind::Text)
-}
 
 /// U+FFFD, which stands where text may be missing (T.140, Addendum 1).
 const MARKER: [u8; 3] = [0xEF, 0xBF, 0xBD];
@@ -65,9 +56,11 @@ fn seen_as<F>(state: State) -> ItemKind<F>
 }
 
 impl<A: Arrivals> Leg<A> {
-    /// A leg of which nothing was heard. It takes all memory that it needs; where there is not enough, the arrivals come back.
+    /// A leg of which nothing was heard, whose keep-alives (U+FEFF alone) are passed over. It takes all memory that it needs; where
+    /// there is not enough, the arrivals come back.
     pub fn new(alloc: Global, arrivals: A, settings: LegSettings) -> Result<Leg<A>, A>
         requires wait { settings.ear.wait ≤ LONGEST_WAIT }
+        requires cut { is_cut settings.ear.cut ≡ true }
         requires begins { A.Arrivals.came arrivals arrivals [] }
         ensures settings { IfOk result (λ leg. leg.settings ≡ settings) }
         ensures arrivals { IfOk result (λ leg. leg.arrivals ≡ arrivals) }
@@ -148,8 +141,7 @@ impl<A: Arrivals> Leg<A> {
         }
     }
 
-    /// Puts the next text that is ready in place of what is in `chunk`, or says that this was all. Where a keep-alive is heard, it
-    /// is passed over, and nothing is given.
+    /// Puts the next text that is ready in place of what is in `chunk`, or says that this was all.
     fn give_ready(&mut self, chunk: &mut Chunk) -> Option<ItemKind<A::Fault>>
         requires { is_heard self.old.state ≡ true }
         ensures gives { GivesOf A.Arrivals self.old self.new (items_with result (chunk_of chunk.new)) }
@@ -157,7 +149,7 @@ impl<A: Arrivals> Leg<A> {
         ensures later { result ≡ None → is_giving self.new.state ≡ true }
     {
         if self.ear.next(chunk) {
-            return unless_blank(chunk);
+            return Some(ItemKind::Text);
         }
         if self.state.is_ending() {
             self.state = State::Over;
@@ -178,7 +170,7 @@ impl<A: Arrivals> Leg<A> {
     {
         if self.ear.next(chunk) {
             hasten(chunk, self.senders.moment());
-            return unless_blank(chunk);
+            return Some(ItemKind::Text);
         }
         let moment = self.senders.moment();
         let octets = self.packet.as_slice();

@@ -1,9 +1,6 @@
-ghost use Rattle.std.specs.Prelude.{◌≤◌};
-ghost use Rattle.rtt_base.specs.declared.limits.TheConstants.{LONGEST_WAIT};
-
 use crate::{ItemKind, Leg, LegSettings, LegTally, LinkItem, LinkLeg, LinkStop, PacedLink};
 use link_io::{Came, MemIn, PlannedTake};
-use receiver::EarSettings;
+use receiver::{EarSettings, TextCut};
 use rtt_base::{NoMemory, PayloadTypes};
 use std::alloc::Global;
 use std::sync::atomic::AtomicBool;
@@ -15,16 +12,7 @@ const EAR: EarSettings = EarSettings {
     ssrc: 1001,
     payload_types: PayloadTypes { t140: 98, red: 100 },
     wait: 1000,
-};
-
-const ANN: LegSettings = LegSettings {
-    ear: EAR,
-    follow: false,
-};
-
-const FOLLOWED: LegSettings = LegSettings {
-    ear: EAR,
-    follow: true,
+    cut: TextCut::Long,
 };
 
 // Ann types A, and then nothing but U+FEFF.
@@ -45,11 +33,10 @@ const SHE_CLOSES: LinkEvent = (200, Came::Closed, b"");
 fn over(
     alloc: Global,
     link: MemIn,
-    settings: LegSettings,
+    follow: bool,
     is_stopped: bool,
-) -> Result<(LinkLeg<MemIn>, LinkItem), NoMemory>
-    requires { settings.ear.wait ≤ LONGEST_WAIT }
-{
+) -> Result<(LinkLeg<MemIn>, LinkItem), NoMemory> {
+    let settings = LegSettings { ear: EAR, follow };
     let item = LinkItem::blank(alloc)?;
     let Ok(stop) = Arc::new(alloc, AtomicBool::new(is_stopped)) else {
         return Err(NoMemory);
@@ -75,12 +62,12 @@ fn ann(
     comings: &[LinkEvent],
     is_stopped: bool,
 ) -> Result<(LinkLeg<MemIn>, LinkItem), NoMemory> {
-    over(alloc, linked(alloc, comings)?, ANN, is_stopped)
+    over(alloc, linked(alloc, comings)?, false, is_stopped)
 }
 
 // The same, where she is followed.
 fn followed(alloc: Global, comings: &[LinkEvent]) -> Result<(LinkLeg<MemIn>, LinkItem), NoMemory> {
-    over(alloc, linked(alloc, comings)?, FOLLOWED, false)
+    over(alloc, linked(alloc, comings)?, true, false)
 }
 
 // What a leg gives next, if it gives something.
@@ -120,7 +107,6 @@ fn what_is_heard_is_given_and_then_the_end(rt: HostRuntime) -> Result<(), Fail> 
 #[test]
 fn a_keep_alive_is_passed_over(rt: HostRuntime) -> Result<(), Fail> {
     let (mut leg, mut item) = ann(rt.alloc(), &[SHE_IDLES], false)?;
-    assert!(rt; !next(&rt, &mut leg, &mut item));
     assert!(rt; gives(&rt, &mut leg, &mut item, ItemKind::Seen));
     assert!(rt; gives(&rt, &mut leg, &mut item, ItemKind::Silent));
     Ok(())
@@ -140,7 +126,7 @@ fn a_leg_that_is_told_to_stop_asks_no_more(rt: HostRuntime) -> Result<(), Fail> 
 fn a_fault_is_the_last(rt: HostRuntime) -> Result<(), Fail> {
     let mut link = MemIn::new(rt.alloc(), 5001);
     link.fail_at(2)?;
-    let (mut leg, mut item) = over(rt.alloc(), link, ANN, false)?;
+    let (mut leg, mut item) = over(rt.alloc(), link, false, false)?;
     assert!(rt; gives(&rt, &mut leg, &mut item, ItemKind::Silent));
     assert!(rt; gives(&rt, &mut leg, &mut item, ItemKind::Fault(LinkStop::Failed)));
     assert!(rt; leg.is_over());

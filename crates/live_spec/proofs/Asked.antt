@@ -1,7 +1,7 @@
 -- A packet of one SSRC is read alike, whether that is asked for or any is.
-use Rattle.std.proofs.Common.{◌≡◌, ℕ, Bool, true, false, inl, inr, Some, None, List, Ok, Err, Result, refl, ap, sym, ◌∙◌}
+use Rattle.std.proofs.Common.{◌≡◌, ℕ, Bool, true, false, Some, None, List, Ok, Err, Result, refl, ap, sym, ◌∙◌}
 use Rattle.std.specs.Prelude.{◌==◌, length, nat_lt, if◌then◌else◌}
-use Rattle.std.proofs.lemmas.Bool.{cases_eq, eq-eqb, false≢true, ne_eqb}
+use Rattle.std.proofs.lemmas.Bool.{eq-eqb}
 use Rattle.rtt_base.specs.Steps.{◌>>=◌}
 use Rattle.rtt_base.proofs.Steps.{bind_ok}
 use Rattle.rtt_base.specs.declared.blocks.TextBlock.{TextBlock}
@@ -15,9 +15,7 @@ use Rattle.wire_spec.specs.Packets.{Packet}
 use Rattle.wire_spec.specs.Red.{red}
 use Rattle.wire_spec.specs.Rtp.{Reading, rtp}
 use Rattle.wire_spec.specs.Text.{accepted, refused_as, text_of, text_of_short, text_packet}
-
-pub eqb_true : (m n : ℕ) → (m == n) ≡ true → m ≡ n
-eqb_true m n e = elim (cases_eq m n) [ inl q ↦ q | inr k ↦ absurd (false≢true (sym (ne_eqb m n k) ∙ e)) ]
+pub use Rattle.std.proofs.lemmas.Bool.{eqb-true as eqb_true}
 
 -- ---- of a header that is read
 abbrev one_source : Reading → Result Reading TextFault

@@ -1,7 +1,7 @@
 -- A recording worked out by hand.
 use Rattle.std.proofs.Common.{◌≡◌, ℕ, List, [], ◌∷◌, ◌++◌, refl}
 use Rattle.std.specs.Prelude.{codes}
-use Rattle.live_spec.specs.Recorded.{Entry, Part, Parts, part_written, recorded}
+use Rattle.live_spec.specs.Recorded.{Entry, part_written, recorded}
 
 -- a receiver report without blocks of the SSRC 1001, and the header of a packet of the type 98
 report : List ℕ

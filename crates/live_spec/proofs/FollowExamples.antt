@@ -14,7 +14,7 @@ use Rattle.live_spec.specs.Told.{Hearing, all_by, heard_told, ready_by, told_by}
 
 -- Ann is named with the SSRC 1001, and followed
 abbrev pub ann : Hearing
-ann = record { leg = 0; ssrc = 1001; payload_types = record { t140 = 98; red = 100 }; wait = 1000; follow = true }
+ann = record { leg = 0; ssrc = 1001; payload_types = record { t140 = 98; red = 100 }; wait = 1000; follow = true; piece = 1023 }
 
 -- at the moment t, of this SSRC, with this number, this letter
 abbrev pub letter : ℕ → ℕ → ℕ → ℕ → Taken

@@ -1,6 +1,6 @@
 -- What is ready of a leg are the first of all its texts, and stays.
 use Rattle.std.proofs.Common.{◌≡◌, ℕ, ◌≤◌, Bool, true, false, inl, inr, Option, Some, None, List, [], ◌∷◌, ◌++◌, refl, ap, subst, sym, ◌∙◌, append_assoc, arith}
-use Rattle.std.specs.Prelude.{Result, Ok, Err, filter, map, max, min, ◌||◌, if◌then◌else◌}
+use Rattle.std.specs.Prelude.{Result, Ok, Err, filter, map, max, min, nat_le, ◌||◌, if◌then◌else◌}
 use Rattle.std.proofs.lemmas.Bool.{cases_lt, le-leb, lt-leb, or_parts}
 use Rattle.std.proofs.lemmas.List.{append-nil, map-append}
 use Rattle.std.proofs.lemmas.List.Elements.{filter-append}
@@ -10,13 +10,15 @@ use Rattle.wire_spec.specs.Text.{text_of}
 use Rattle.stream_spec.specs.Lists.{In}
 use Rattle.stream_spec.specs.Numbering.{Falling, Numbered, numbered}
 use Rattle.stream_spec.specs.Hearing.{marker}
-use Rattle.stream_spec.specs.Ready.{Chunk, chunk}
+use Rattle.stream_spec.specs.Ready.{Chunk, chunk, chunks}
 use Rattle.stream_spec.specs.Fronts.{IsFront, is_ready_by}
 use Rattle.stream_spec.specs.Still.{still, still_arrival}
 use Rattle.stream_spec.proofs.Fronts.{settled_front}
 use Rattle.stream_spec.proofs.Still.{falls_still}
 use Rattle.stream_spec.specs.Links.{Came, Closed, Datagram, Large, Quiet, Taken, Takes, is_closed, is_closing}
 use Rattle.live_spec.specs.Told.{Former, Hearing, Told, all_former, all_told, arrival_at, former_after, former_chunks, is_sender, last_chunks, ready_by, ready_told, ready_until, sender_chunks, taken_over, takes_over, told_by, told_came, told_moment, told_packet, with_packet}
+use Rattle.mixer_spec.specs.Pieces.{chunks_cut, pieces}
+use Rattle.mixer_spec.proofs.Chunks.{as_chunks, cut_append}
 use Rattle.live_spec.specs.ToldLaws.{ReadyIsFront, ReadyStays}
 
 -- ---- fronts
@@ -68,6 +70,29 @@ by_end t m l xs f = (
   ap (map (ready_until m)) f.1 ∙ (map-append (ready_until m) (filter (is_ready_by t) xs) f.0 ∙ ap (λ cs. cs ++ map (ready_until m) f.0) (as_it_was t m l xs)),
 )
 
+-- what is ready of pieces are the pieces of what is ready
+cut_ready : (cutting : List ℕ → List (List ℕ)) (t : ℕ) (c : Chunk) (ts : List (List ℕ)) → nat_le c.ready t ≡ true → filter (is_ready_by t) (as_chunks c ts) ≡ as_chunks c ts
+cut_ready cutting t c [] e = refl
+cut_ready cutting t c (x ∷ ts) e = rw e (ap (λ ds. record { source = c.source; ready = c.ready; text = x } ∷ ds) (cut_ready cutting t c ts e))
+
+cut_late : (cutting : List ℕ → List (List ℕ)) (t : ℕ) (c : Chunk) (ts : List (List ℕ)) → nat_le c.ready t ≡ false → filter (is_ready_by t) (as_chunks c ts) ≡ []
+cut_late cutting t c [] e = refl
+cut_late cutting t c (x ∷ ts) e = rw e (cut_late cutting t c ts e)
+
+pub ready_cut : (cutting : List ℕ → List (List ℕ)) (t : ℕ) (cs : List Chunk) → filter (is_ready_by t) (chunks_cut cutting cs) ≡ chunks_cut cutting (filter (is_ready_by t) cs)
+ready_cut cutting t [] = refl
+ready_cut cutting t (c ∷ cs) = filter-append (is_ready_by t) (as_chunks c (cutting c.text)) (chunks_cut cutting cs) ∙ go (nat_le c.ready t) refl (ready_cut cutting t cs)
+  where
+    go : (b : Bool) → nat_le c.ready t ≡ b → filter (is_ready_by t) (chunks_cut cutting cs) ≡ chunks_cut cutting (filter (is_ready_by t) cs)
+        → filter (is_ready_by t) (as_chunks c (cutting c.text)) ++ filter (is_ready_by t) (chunks_cut cutting cs) ≡ chunks_cut cutting (if b then c ∷ filter (is_ready_by t) cs else filter (is_ready_by t) cs)
+    go true e h = λ i. cut_ready cutting t c (cutting c.text) e i ++ h i
+    go false e h = λ i. cut_late cutting t c (cutting c.text) e i ++ h i
+
+-- so a front stays one in pieces
+cut_front : (cutting : List ℕ → List (List ℕ)) (t : ℕ) (xs ys : List Chunk) → IsFront (filter (is_ready_by t) xs) ys → IsFront (filter (is_ready_by t) (chunks_cut cutting xs)) (chunks_cut cutting ys)
+cut_front cutting t xs ys f = subst (λ (cs : List Chunk). IsFront cs (chunks_cut cutting ys)) (sym (ready_cut cutting t xs))
+    (chunks_cut cutting f.0, ap (chunks_cut cutting) f.1 ∙ cut_append cutting (filter (is_ready_by t) xs) f.0)
+
 -- ---- of those who were heard before
 former_soon : (h : Hearing) (t : ℕ) (f : Former) → f.until ≤ t → filter (is_ready_by t) (former_chunks h f) ≡ former_chunks h f
 former_soon h t f l =
@@ -84,13 +109,16 @@ formers_soon h t (f ∷ before) g =
 -- ---- of who is heard now
 last_front : (h : Hearing) (sender : Option ℕ) (t : ℕ) (past : List Arrival) → Falling (numbered past) → IsFront (filter (is_ready_by t) (last_chunks h sender past)) (last_chunks h sender past)
 last_front h None t past f = ([], refl)
-last_front h (Some ssrc) t past f = settled_front h.wait h.leg ssrc t [] (still past) (falls_still past f) (λ a i. absurd i)
+last_front h (Some ssrc) t past f =
+    let cs = chunks h.wait h.leg (still past) ssrc in
+    cut_front (pieces h.piece) t cs cs (settled_front h.wait h.leg ssrc t [] (still past) (falls_still past f) (λ a i. absurd i))
 
 last_more : (h : Hearing) (sender : Option ℕ) (t : ℕ) (a : Arrival) (past : List Arrival) → Falling (numbered past) → t ≤ a.time → IsFront (filter (is_ready_by t) (last_chunks h sender past)) (last_chunks h sender (a ∷ past))
 last_more h None t a past f l = ([], refl)
 last_more h (Some ssrc) t a past f l =
-    settled_front h.wait h.leg ssrc t (still_arrival a ∷ []) (still past) (falls_still past f)
-    (λ b i. elim i [ inl e ↦ subst (λ (x : Arrival). t ≤ x.time) (sym e) l | inr k ↦ absurd k ])
+    cut_front (pieces h.piece) t (chunks h.wait h.leg (still past) ssrc) (chunks h.wait h.leg (still (a ∷ past)) ssrc)
+    (settled_front h.wait h.leg ssrc t (still_arrival a ∷ []) (still past) (falls_still past f)
+    (λ b i. elim i [ inl e ↦ subst (λ (x : Arrival). t ≤ x.time) (sym e) l | inr k ↦ absurd k ]))
 
 -- ---- what was told, step by step
 -- nothing came, and none ended, behind the greatest moment

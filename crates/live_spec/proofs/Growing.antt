@@ -1,21 +1,18 @@
 -- The files of a recording, entry by entry.
-use Rattle.std.proofs.Common.{◌≡◌, ℕ, ◌+◌, ◌-◌, ◌≤◌, Bool, true, false, cond, List, [], ◌∷◌, ◌++◌, length, map, refl, ap, sym, ◌∙◌, subst, arith, append_assoc, length-append}
-use Rattle.std.specs.Prelude.{◌&&◌, nat_le, reverse}
+use Rattle.std.proofs.Common.{◌≡◌, ℕ, ◌+◌, ◌≤◌, Bool, true, false, cond, List, [], ◌∷◌, ◌++◌, length, refl, ap, sym, ◌∙◌, arith, append_assoc, length-append}
+use Rattle.std.specs.Prelude.{reverse}
 use Rattle.std.specs.List.{flat_map, AllByRecursion}
 use Rattle.std.proofs.lemmas.Bool.{and_parts, leb-true}
 use Rattle.std.proofs.lemmas.List.{append-nil, reverse-append}
 use Rattle.std.proofs.lemmas.Grind.{flat_map-append}
-use Rattle.wire_spec.specs.declared.limits.TheConstants.{LAST_RECORD_MOMENT, MOST_RECORDING_OCTETS}
-use Rattle.live_spec.specs.Recorded.{Entry, Part, Parts, head_written, record_in, part_written, has_room, all_parts, with_entry, begun_with, noted, nothing_noted, recorded}
+use Rattle.wire_spec.specs.declared.limits.TheConstants.{MOST_RECORDING_OCTETS}
+use Rattle.live_spec.specs.Recorded.{Entry, Part, Parts, head_written, record_in, part_written, has_room, all_parts, with_entry, begun_with, noted, recorded}
 use Rattle.live_spec.specs.Laws.{IsShort, IsEarly, IsWhole}
 use Rattle.live_spec.proofs.Heads.{started}
 use Rattle.live_spec.proofs.Reading.{record_size, head_size, file_read}
+use Rattle.command_spec.proofs.SentBack.{all_push}
 
 -- ---- lists
-pub all_push : {X : Type 0} (P : X → Type 0) (xs : List X) (x : X) → AllByRecursion P xs → P x → AllByRecursion P (xs ++ x ∷ [])
-all_push P [] x a p = (p, tt)
-all_push P (y ∷ xs) x a p = (a.0, all_push P xs x a.1 p)
-
 pub all_map : {X : Type 0} (P Q : X → Type 0) (f : (x : X) → P x → Q x) (xs : List X) → AllByRecursion P xs → AllByRecursion Q xs
 all_map P Q f [] a = tt
 all_map P Q f (x ∷ xs) a = (f x a.0, all_map P Q f xs a.1)

@@ -4,27 +4,28 @@ use Rattle.std.specs.Prelude.{Result, Ok, Err, max, reverse}
 use Rattle.std.specs.List.{flat_map, AllByRecursion}
 use Rattle.std.proofs.lemmas.Bool.Decides.{Decides-eqb}
 use Rattle.std.proofs.lemmas.List.{append-nil, map-append, reverse-append}
-use Rattle.std.proofs.lemmas.Grind.{flat_map-append}
 use Rattle.rtt_base.specs.declared.text_packets.PayloadTypes.{PayloadTypes}
 use Rattle.wire_spec.specs.declared.faults.TextFault.{TextFault}
 use Rattle.wire_spec.specs.Packets.{Packet, Arrival}
 use Rattle.wire_spec.specs.Rtp.{rtp}
 use Rattle.wire_spec.specs.Text.{text_of, text_of_short}
-use Rattle.wire_spec.specs.Dump.{What, Whole, Rtcp, Item, Recording, latest, arrived, arrivals_with, arrivals_after, arrivals}
+use Rattle.wire_spec.specs.Dump.{Whole, Rtcp, Item, Recording, latest, arrived, arrivals_with, arrivals_after, arrivals}
 use Rattle.stream_spec.specs.Ready.{chunks}
 use Rattle.stream_spec.specs.Still.{still}
 use Rattle.command_spec.specs.Streams as sorts
 use Rattle.command_spec.specs.Streams.{AreGiven, is_rtcp, is_name, stream_of, headed}
 use Rattle.command_spec.proofs.ShownAsRead.{arrives_alike}
 use Rattle.stream_spec.specs.Links.{Came, Datagram, Large, Quiet, Closed, Takes}
+use Rattle.mixer_spec.specs.Pieces.{chunks_cut, pieces}
 use Rattle.live_spec.specs.Told.{Hearing, Told, told_by, all_by}
-use Rattle.live_spec.specs.ToldLaws.{Plain, plain_by, plain_came, plain_packet}
+use Rattle.live_spec.specs.ToldLaws.{Plain, plain_by, plain_packet}
 use Rattle.live_spec.proofs.Unfollowed.{all_plain, unfollowed_law}
-use Rattle.live_spec.specs.Recorded.{Entry, Part, Parts, packet_size, part_written, has_room, with_entry, begun_with, noted, recorded}
-use Rattle.live_spec.specs.Came.{with_came, datagrams, later, part_arrivals, parts_arrivals}
-use Rattle.live_spec.specs.Laws.{IsShort, what_is, item_in, latest_take, NeverFall, AreTakesFor, last_file}
-use Rattle.live_spec.proofs.Growing.{IsGood, noted_by, recorded_good, all_push}
+use Rattle.live_spec.specs.Recorded.{Entry, Part, Parts, part_written, has_room, with_entry, begun_with, noted, recorded}
+use Rattle.live_spec.specs.Came.{datagrams, later, part_arrivals, parts_arrivals}
+use Rattle.live_spec.specs.Laws.{what_is, item_in, latest_take, NeverFall, AreTakesFor, last_file}
+use Rattle.live_spec.proofs.Growing.{IsGood, noted_by, recorded_good}
 use Rattle.live_spec.proofs.Reading.{file_read}
+use Rattle.command_spec.proofs.SentBack.{all_push}
 
 -- ---- what is no text
 
@@ -271,9 +272,9 @@ one_file start ssrc payload_types ps none zero =
     ∙ ap (λ (n : ℕ). map (later n) (arrivals (part_written start ps.last) ssrc payload_types)) zero
     ∙ no_later (arrivals (part_written start ps.last) ssrc payload_types)
 
-pub file_heard : (start : ℕ) (h : Hearing) (takes : Takes) → AreTakesFor h takes → (recorded start (datagrams takes)).over ≡ [] → chunks h.wait h.leg (still (arrivals (last_file start takes) h.ssrc h.payload_types)) h.ssrc ≡ all_by h takes
+pub file_heard : (start : ℕ) (h : Hearing) (takes : Takes) → AreTakesFor h takes → (recorded start (datagrams takes)).over ≡ [] → chunks_cut (pieces h.piece) (chunks h.wait h.leg (still (arrivals (last_file start takes) h.ssrc h.payload_types)) h.ssrc) ≡ all_by h takes
 file_heard start h takes a none =
     let ps = recorded start (datagrams takes) in
-    ap (λ (past : List Arrival). chunks h.wait h.leg (still past) h.ssrc)
+    ap (λ (past : List Arrival). chunks_cut (pieces h.piece) (chunks h.wait h.leg (still past) h.ssrc))
     (sym (one_file start h.ssrc h.payload_types ps none (first_begins start (datagrams takes) none)) ∙ files_heard start h takes a)
     ∙ sym (all_plain h takes a.alone)

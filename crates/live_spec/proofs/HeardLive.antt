@@ -1,6 +1,6 @@
 -- What is heard of a live leg are the texts of all its chunks, and those of one stream where nobody took over.
 use Rattle.std.proofs.Common.{◌≡◌, ℕ, Bool, true, false, Option, Some, None, Result, Ok, Err, List, [], ◌∷◌, ◌++◌, refl, ap, sym, ◌∙◌}
-use Rattle.std.specs.Prelude.{unwrap_or, if◌then◌else◌}
+use Rattle.std.specs.Prelude.{flat_map, unwrap_or, if◌then◌else◌}
 use Rattle.wire_spec.specs.declared.faults.TextFault.{TextFault}
 use Rattle.wire_spec.specs.Packets.{Arrival, Packet}
 use Rattle.wire_spec.specs.Text.{text_of}
@@ -8,6 +8,7 @@ use Rattle.stream_spec.specs.Hearing.{heard}
 use Rattle.stream_spec.specs.Still.{still}
 use Rattle.file_spec.specs.Conference.{Conference}
 use Rattle.mixer_spec.specs.Chunks.{texts_of}
+use Rattle.mixer_spec.specs.Pieces.{pieces}
 use Rattle.mixer_spec.specs.Setups.{leg_at, ssrc_of}
 use Rattle.stream_spec.specs.Links.{Came, Closed, Datagram, Large, Quiet, Takes}
 use Rattle.live_spec.specs.Told.{Former, Hearing, Told, former_texts, is_sender, last_texts, taken_over, takes_over, told_by, told_came, told_packet, with_packet}
@@ -47,8 +48,8 @@ pub begins : (h : Hearing) (takes : Takes) → Begins (told_by h takes)
 begins h [] = λ q. refl
 begins h (a ∷ past) = came_begins h (told_by h past) a.at a.came (begins h past)
 
-pub last_is : (h : Hearing) (sender : Option ℕ) (past : List Arrival) (x : ℕ) → (sender ≡ None → past ≡ []) → last_texts h sender past ≡ heard h.wait (still past) (unwrap_or sender x)
-last_is h None past x b = ap (λ (ps : List Arrival). heard h.wait (still ps) x) (sym (b refl))
+pub last_is : (h : Hearing) (sender : Option ℕ) (past : List Arrival) (x : ℕ) → (sender ≡ None → past ≡ []) → last_texts h sender past ≡ flat_map (pieces h.piece) (heard h.wait (still past) (unwrap_or sender x))
+last_is h None past x b = ap (λ (ps : List Arrival). flat_map (pieces h.piece) (heard h.wait (still ps) x)) (sym (b refl))
 last_is h (Some s) past x b = refl
 
 pub one_sender : OneSenderIsHeard

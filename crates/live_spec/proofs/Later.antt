@@ -1,11 +1,10 @@
 -- Items so many places later.
-use Rattle.std.proofs.Common.{◌≡◌, ℕ, ◌+◌, ◌-◌, ◌<◌, inl, inr, List, [], ◌∷◌, ◌++◌, length, refl, ap, subst, sym, ◌∙◌, arith}
+use Rattle.std.proofs.Common.{◌≡◌, ℕ, ◌+◌, ◌-◌, inl, inr, List, [], ◌∷◌, ◌++◌, refl, ap, subst, sym, ◌∙◌, arith}
 use Rattle.std.specs.Prelude.{map}
 use Rattle.stream_spec.specs.Lists.{In}
 use Rattle.stream_spec.specs.Hearing.{marker}
-use Rattle.stream_spec.specs.History.{Entry, Placed, placed_after}
+use Rattle.stream_spec.specs.History.{Placed}
 use Rattle.stream_spec.specs.Kept.{Item, Marker, Block, Rising, blocks_in, texts}
-use Rattle.mixer_spec.proofs.Through.{NoneEmpty}
 use Rattle.live_spec.specs.InTurn.{item_later, later}
 
 -- ---- an entry
@@ -19,11 +18,6 @@ back_later n k =
 
 pub same_later : (n : ℕ) (a b : Placed) → later n a ≡ later n b → a ≡ b
 same_later n a b e = sym (back_later n a) ∙ (ap (back n) e ∙ back_later n b)
-
-pub place_below : (before es : List Entry) (x : Placed) → In x (placed_after before es) → x.place < length before + length es
-place_below before [] x i = absurd i
-place_below before (e ∷ es) x (inl q) = let p : x.place ≡ length before = ap (λ (z : Placed). z.place) q in omega (arith, p)
-place_below before (e ∷ es) x (inr i) = let p = place_below (e ∷ before) es x i in omega (arith, p)
 
 -- ---- items
 pub texts_later : (n : ℕ) (xs : List Item) → texts (map (item_later n) xs) ≡ texts xs
@@ -67,15 +61,6 @@ rising_map n (k ∷ ks) r = (
 
 pub rising_later : (n : ℕ) (xs : List Item) → Rising (blocks_in xs) → Rising (blocks_in (map (item_later n) xs))
 rising_later n xs r = subst Rising (sym (blocks_later n xs)) (rising_map n (blocks_in xs) r)
-
-pub none_later : (n : ℕ) (xs : List Item) → NoneEmpty xs → NoneEmpty (map (item_later n) xs)
-none_later n [] e = tt
-none_later n (Marker ∷ xs) e = (e.0, none_later n xs e.1)
-none_later n (Block k ∷ xs) e = (e.0, none_later n xs e.1)
-
-pub none_both : (xs ys : List Item) → NoneEmpty xs → NoneEmpty ys → NoneEmpty (xs ++ ys)
-none_both [] ys a b = b
-none_both (x ∷ xs) ys a b = (a.0, none_both xs ys a.1 b)
 
 -- a marker among them
 pub later_append : (n : ℕ) (xs ys : List Item) → map (item_later n) (xs ++ ys) ≡ map (item_later n) xs ++ map (item_later n) ys

@@ -41,7 +41,7 @@ abbrev bob : LegLine
 bob = record { line = 2; name = codes "Bob"; aware = true; ssrc = 1002; input = codes "5006"; output = codes "127.0.0.1:6006"; payload_types = types; generations = 2; stay = for_good; follow = false }
 
 abbrev call : ℕ → Conference
-call turns = record { legs = ann ∷ bob ∷ []; tick = 100; spacing = 300; wait = 1000; turns = turns; relabel = None; mixer = record { ssrc = 9000; seq = 100; timestamp = 5000 }; plan = []; service = no_service }
+call turns = record { legs = ann ∷ bob ∷ []; tick = 100; spacing = 300; wait = 1000; turns = turns; relabel = None; mtu = None; mixer = record { ssrc = 9000; seq = 100; timestamp = 5000 }; plan = []; service = no_service }
 
 many_turns : conference_from Links legs ≡ Ok (call 5000000)
 unfolding entry time_or_other stay_or_plan leg_of mixer_of is_utf8 chars encode_utf8

@@ -17,12 +17,17 @@ use Rattle.mixer_spec.specs.Setups.{AllStay, IsAnother, generations_of, leg_at, 
 use Rattle.mixer_spec.specs.Table.{Table, chunks_taken, is_idle, is_quiet, shared}
 use Rattle.mixer_spec.specs.Legs.{left}
 use Rattle.mixer_spec.specs.Core.{Core, Event, after, turns_in}
-use Rattle.mixer_spec.specs.Laws.{chunks_given}
-use Rattle.mixer_spec.specs.Bridged.{IsOut, IsPair, IsRunning, hop_to, shared_texts, told_at, waiting_texts}
+use Rattle.mixer_spec.specs.Laws.{AllTexts, chunks_given}
+use Rattle.mixer_spec.specs.Bridged.{IsOut, IsPair, IsRunning, cutting_of, hop_to, shared_texts, told_at, waiting_texts}
 use Rattle.mixer_spec.specs.Headlines.{hop_behind}
 use Rattle.mixer_spec.proofs.After.{core_good}
 use Rattle.mixer_spec.proofs.Asks.{composed_law, given_law, texts_law}
-use Rattle.mixer_spec.proofs.Bridged.{any_front_law, any_out_law, hops_law}
+use Rattle.mixer_spec.proofs.Bridged.{any_front_law, any_out_law}
+use Rattle.mixer_spec.proofs.OfFiles.{four, is_cutting}
+use Rattle.mixer_spec.proofs.TwoHops.{hops_law}
+use Rattle.command_spec.specs.Mixing.{sent_to}
+use Rattle.command_spec.proofs.Fitting.{timed_within, written_within}
+use Rattle.std.proofs.lemmas.List.Elements.{All-from_recursion, All-same}
 use Rattle.mixer_spec.proofs.OneHop.{one_hop}
 use Rattle.stream_spec.proofs.Still.{come_still, lawful_still}
 use Rattle.mixer_spec.proofs.Carries.{texts_append}
@@ -88,11 +93,14 @@ module _ (c : Conference) (takes : ℕ → Takes) (given : ℕ → List (List �
   span : (setup c).step * turns_in past < 2 ^ 31
   span = let up = mul-le-mul_left (setup c).step r.few in let m = media_law c r.is in omega (arith, up, m)
 
+  heard_texts : AllTexts (chunks_live c takes)
+  heard_texts = live_texts (hearing_at c) takes (λ i. four c.mtu)
+
   running : IsRunning (setup c) (chunks_live c takes) past
-  running = record { setup = setup_law c r.is; texts = live_texts (hearing_at c) takes; span = span }
+  running = record { setup = setup_law c r.is; texts = heard_texts; span = span }
 
   timed : (j : ℕ) → j < (setup c).legs → Timed (setup c) w.seats j (turns_in past) w.media (w.terminals j).past
-  timed j low = (core_good (setup c) (setup_law c r.is) (chunks_live c takes) (live_texts (hearing_at c) takes) past).timed j low
+  timed j low = (core_good (setup c) (setup_law c r.is) (chunks_live c takes) heard_texts past).timed j low
 
   -- what is heard are the texts of all chunks
   heard_is : (i : ℕ) → texts_of (chunks_live c takes i) ≡ heard_live c takes i
@@ -116,6 +124,10 @@ module _ (c : Conference) (takes : ℕ → Takes) (given : ℕ → List (List �
           own = subst (λ (g : ℕ). Own g (told j)) generations out.own;
           packets = ap (map (λ octets. text_of octets (Some c.mixer.ssrc) leg.payload_types)) (v.gives j leg there) ∙ read_back c w (turns_in past) r.is r.fits span j leg there (timed j low) out.packets_are;
           closed = λ q. subst (λ (g : ℕ). histories.Closed g (told j)) generations (out.closed (quiet q j low));
+          fit = λ most limit.
+              All-same (λ (octets : List ℕ). length octets ≤ most) (given j) (given_to c w j leg) (v.gives j leg there)
+              (All-from_recursion (λ (octets : List ℕ). length octets ≤ most) (given_to c w j leg)
+              (written_within leg.payload_types most (sent_to c w j) (timed_within c w (turns_in past) r.is j leg there (timed j low) most limit)));
         }
 
     -- ---- an aware terminal
@@ -136,7 +148,7 @@ module _ (c : Conference) (takes : ℕ → Takes) (given : ℕ → List (List �
           left = (rest_of i, in_order (setup c) (chunks_live c takes) past i, refl);
           one_hop = λ wait came comes. one_hop (hop_behind (setup c) w j i wait came) (record { lawful = lawful; come = comes });
           headline = λ h from wait came comes.
-              hops_law (inward_live c takes i h) (hop_behind (setup c) w j i wait came) (record { lawful = lawful_still h from.lawful; come = come_still h (came_live c takes i) from.come })
+              hops_law (cutting_of c) (is_cutting c) (inward_live c takes i h) (hop_behind (setup c) w j i wait came) (record { lawful = lawful_still h from.lawful; come = come_still h (came_live c takes i) from.come })
               (record { lawful = lawful; come = comes }) 0 (heard_live c takes i) (waiting_texts w j i ++ back)
               (record { before = []; after = []; count = refl; whole = sym (one_sender c takes i from.alone) ∙ sym (nil (heard_live c takes i)) }) front;
           whole = λ q.

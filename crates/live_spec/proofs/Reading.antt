@@ -1,18 +1,19 @@
 -- A record that was written is read, and a whole file.
-use Rattle.std.proofs.Common.{◌≡◌, ℕ, suc, ◌+◌, ◌-◌, ◌<◌, ◌≤◌, ◌/◌, ◌%◌, Bool, true, false, cond, eqb, ltb, List, [], ◌∷◌, ◌++◌, length, take, drop, map, None, Ok, refl, ap, ◌∙◌, arith, length-append}
+use Rattle.std.proofs.Common.{◌≡◌, ℕ, ◌+◌, ◌-◌, ◌≤◌, ◌/◌, ◌%◌, Bool, true, false, cond, eqb, ltb, List, [], ◌∷◌, ◌++◌, length, map, None, refl, ap, ◌∙◌, arith, length-append}
 use Rattle.std.specs.List.{flat_map, AllByRecursion}
 use Rattle.std.specs.Int.{w16, w32, to_be_bytes}
 use Rattle.std.proofs.lemmas.Bool.{le-ltb, ne_eqb}
-use Rattle.std.proofs.lemmas.List.{take_at, take_all, drop_at}
+use Rattle.std.proofs.lemmas.List.{take_all}
 use Rattle.std.proofs.lemmas.Nat.{from_be_bytes-to_be_bytes_2, from_be_bytes-to_be_bytes_4}
 use Rattle.rtt_base.specs.declared.limits.TheConstants.{MOST_PACKET_OCTETS}
 use Rattle.wire_spec.specs.declared.limits.TheConstants.{LAST_RECORD_MOMENT, MOST_RECORDING_OCTETS}
-use Rattle.wire_spec.specs.Dump.{What, Whole, Rtcp, Large, Cut, Next, what_of, size_of, packet_size_of, time_of, step_or, dump_step, with_item, records_by, records, dump_from, dump, usual_limit}
+use Rattle.wire_spec.specs.Dump.{What, Whole, Rtcp, Next, what_of, size_of, packet_size_of, time_of, step_or, dump_step, with_item, records_by, records, dump_from, dump, usual_limit}
 use Rattle.wire_spec.proofs.Records.{unrolled}
 use Rattle.command_spec.specs.Streams.{is_rtcp}
-use Rattle.live_spec.specs.Recorded.{Entry, Part, packet_size, entry_written, record_in, part_written}
+use Rattle.live_spec.specs.Recorded.{Entry, Part, packet_size, record_in, part_written}
 use Rattle.live_spec.specs.Laws.{IsShort, IsEarly, what_is, item_in}
 use Rattle.live_spec.proofs.Heads.{opened}
+use Rattle.wire_spec.proofs.Recordings.{eight_taken, eight_dropped}
 
 -- ---- what a record is
 
@@ -38,16 +39,6 @@ size_small octets = go (is_rtcp octets)
     go false = omega arith
 
 -- ---- one record
-
-eight_taken : (a b c d e f g h n : ℕ) (octets more : List ℕ) → length octets ≡ n → drop 8 (take (n + 8) (a ∷ b ∷ c ∷ d ∷ e ∷ f ∷ g ∷ h ∷ (octets ++ more))) ≡ octets
-eight_taken a b c d e f g h n octets more e' =
-    let k : n + 8 ≡ suc (suc (suc (suc (suc (suc (suc (suc n))))))) = omega arith in
-    rw k (take_at octets more n e')
-
-eight_dropped : (a b c d e f g h n : ℕ) (octets more : List ℕ) → length octets ≡ n → drop (n + 8) (a ∷ b ∷ c ∷ d ∷ e ∷ f ∷ g ∷ h ∷ (octets ++ more)) ≡ more
-eight_dropped a b c d e f g h n octets more e' =
-    let k : n + 8 ≡ suc (suc (suc (suc (suc (suc (suc (suc n))))))) = omega arith in
-    rw k (drop_at octets more n e')
 
 -- a record of these octets, whatever size it has for its packet
 abbrev sized : ℕ → ℕ → List ℕ → List ℕ

@@ -1,18 +1,15 @@
 -- What is read of a file that breaks off.
-use Rattle.std.proofs.Common.{◌≡◌, ℕ, zero, suc, ◌+◌, ◌-◌, ◌<◌, ◌≤◌, ◌/◌, ◌%◌, Bool, true, false, cond, eqb, ltb, List, [], ◌∷◌, ◌++◌, length, take, drop, map, Result, Some, refl, ap, sym, ◌∙◌, subst, arith, length-append}
+use Rattle.std.proofs.Common.{◌≡◌, ℕ, zero, suc, ◌+◌, ◌-◌, ◌<◌, ◌≤◌, ◌/◌, ◌%◌, Bool, true, false, cond, eqb, ltb, List, [], ◌∷◌, ◌++◌, length, take, map, Result, Some, refl, ap, ◌∙◌, arith}
 use Rattle.std.specs.List.{flat_map, AllByRecursion}
 use Rattle.std.specs.Int.{w16, w32, to_be_bytes}
 use Rattle.std.proofs.Math.Seq.{take-nil, take-append-add}
 use Rattle.std.proofs.lemmas.Bool.{le-ltb, lt-ltb, ltb-true, ltb-false}
 use Rattle.std.proofs.lemmas.List.{take-append-le, length-take-le}
 use Rattle.std.proofs.lemmas.Nat.{from_be_bytes-to_be_bytes_2}
-use Rattle.rtt_base.specs.declared.limits.TheConstants.{MOST_PACKET_OCTETS}
-use Rattle.wire_spec.specs.declared.limits.TheConstants.{LAST_RECORD_MOMENT, MOST_RECORDING_OCTETS}
-use Rattle.wire_spec.specs.declared.faults.DumpKind.{DumpKind}
 use Rattle.wire_spec.specs.declared.faults.DumpKind.TheVariants.{EndsInside}
-use Rattle.wire_spec.specs.Dump.{Item, Place, Fault, Recording, Step, End, Broken, Next, size_of, step_or, record_fault, dump_step, with_item, records_by, records, dump_from, dump, usual_limit}
+use Rattle.wire_spec.specs.Dump.{Item, Place, Fault, Recording, Step, End, Broken, Next, size_of, step_or, record_fault, dump_step, records_by, records, dump_from, dump, usual_limit}
 use Rattle.wire_spec.proofs.Records.{unrolled}
-use Rattle.live_spec.specs.Recorded.{Entry, Part, packet_size, head_written, record_in, part_written}
+use Rattle.live_spec.specs.Recorded.{Entry, Part, packet_size, head_written, record_in}
 use Rattle.live_spec.specs.Laws.{IsShort, IsEarly, item_in, IsReadTo}
 use Rattle.live_spec.proofs.Heads.{opened}
 use Rattle.live_spec.proofs.Reading.{record_size, sizes, record_read, head_size}

@@ -1,5 +1,5 @@
 -- What is heard of a live leg are texts.
-use Rattle.std.proofs.Common.{◌≡◌, ℕ, Bool, true, false, Option, Some, None, Ok, Err, Result, List, [], ◌∷◌, ◌++◌, refl, subst}
+use Rattle.std.proofs.Common.{◌≡◌, ℕ, ◌≤◌, Bool, true, false, Option, Some, None, Ok, Err, Result, List, [], ◌∷◌, refl, subst}
 use Rattle.std.specs.Prelude.{map, max, if◌then◌else◌}
 use Rattle.rtt_base.specs.declared.text_packets.PayloadTypes.{PayloadTypes}
 use Rattle.wire_spec.specs.declared.faults.TextFault.{TextFault}
@@ -7,17 +7,19 @@ use Rattle.wire_spec.specs.Packets.{AreTextArrivals, Arrival, IsTextPacket, Pack
 use Rattle.wire_spec.specs.Text.{text_of}
 use Rattle.wire_spec.specs.Dump.{arrived, sent_item}
 use Rattle.stream_spec.specs.Hearing.{marker}
-use Rattle.stream_spec.specs.Ready.{Chunk, chunk}
+use Rattle.stream_spec.specs.Ready.{Chunk, chunk, chunks}
 use Rattle.stream_spec.specs.Still.{still}
 use Rattle.stream_spec.proofs.HeardTexts.{marker_utf8}
 use Rattle.stream_spec.proofs.Still.{texts_still}
 use Rattle.mixer_spec.specs.Laws.{AllTexts, AreTexts}
+use Rattle.mixer_spec.proofs.Chunks.{texts_law}
 use Rattle.mixer_spec.proofs.Heard.{chunks_law}
 use Rattle.mixer_spec.proofs.Recordings.{recordings_law}
 use Rattle.stream_spec.specs.Links.{Came, Datagram, Large, Quiet, Closed, Takes}
 use Rattle.live_spec.specs.Told.{Former, Hearing, Told, all_former, all_told, former_after, former_chunks, is_sender, last_chunks, ready_until, sender_chunks, taken_over, takes_over, told_by, told_came, told_packet, with_packet}
 use Rattle.live_spec.specs.Live.{live_chunks}
 use Rattle.live_spec.proofs.Asked.{own_asked}
+use Rattle.mixer_spec.proofs.After.{joined_texts as both_texts}
 
 -- ---- what was told are texts
 abbrev FormerTexts : List Former → Type 0
@@ -59,32 +61,30 @@ told_texts h [] = record { past = tt; before = tt }
 told_texts h (a ∷ past) = came_texts h (told_by h past) a.at a.came (told_texts h past)
 
 -- ---- so are the chunks
-both_texts : (xs ys : List Chunk) → AreTexts xs → AreTexts ys → AreTexts (xs ++ ys)
-both_texts [] ys a b = b
-both_texts (x ∷ xs) ys a b = (a.0, a.1, both_texts xs ys a.2 b)
-
 until_texts : (t : ℕ) (cs : List Chunk) → AreTexts cs → AreTexts (map (ready_until t) cs)
 until_texts t [] a = tt
 until_texts t (c ∷ cs) a = (a.0, a.1, until_texts t cs a.2)
 
-sender_are : (h : Hearing) (ssrc : ℕ) (past : List Arrival) → AreTextArrivals past → AreTexts (sender_chunks h ssrc past)
-sender_are h ssrc past a = chunks_law h.wait h.leg (still past) ssrc (texts_still past a)
+-- a character goes into a piece of each leg
+module _ (h : Hearing) (four : 4 ≤ h.piece) where
+  sender_are : (ssrc : ℕ) (past : List Arrival) → AreTextArrivals past → AreTexts (sender_chunks h ssrc past)
+  sender_are ssrc past a = texts_law h.piece four (chunks h.wait h.leg (still past) ssrc) (chunks_law h.wait h.leg (still past) ssrc (texts_still past a))
 
-last_are : (h : Hearing) (sender : Option ℕ) (past : List Arrival) → AreTextArrivals past → AreTexts (last_chunks h sender past)
-last_are h None past a = tt
-last_are h (Some ssrc) past a = sender_are h ssrc past a
+  last_are : (sender : Option ℕ) (past : List Arrival) → AreTextArrivals past → AreTexts (last_chunks h sender past)
+  last_are None past a = tt
+  last_are (Some ssrc) past a = sender_are ssrc past a
 
-former_are : (h : Hearing) (f : Former) → AreTextArrivals f.past → AreTexts (former_chunks h f)
-former_are h f a =
-    both_texts (map (ready_until f.until) (sender_chunks h f.ssrc f.past)) (chunk h.leg f.until marker ∷ [])
-    (until_texts f.until (sender_chunks h f.ssrc f.past) (sender_are h f.ssrc f.past a)) (refl, marker_utf8, tt)
+  former_are : (f : Former) → AreTextArrivals f.past → AreTexts (former_chunks h f)
+  former_are f a =
+      both_texts (map (ready_until f.until) (sender_chunks h f.ssrc f.past)) (chunk h.leg f.until marker ∷ [])
+      (until_texts f.until (sender_chunks h f.ssrc f.past) (sender_are f.ssrc f.past a)) (refl, marker_utf8, tt)
 
-formers_are : (h : Hearing) (before : List Former) → FormerTexts before → AreTexts (all_former h before)
-formers_are h [] a = tt
-formers_are h (f ∷ before) a = both_texts (all_former h before) (former_chunks h f) (formers_are h before a.1) (former_are h f a.0)
+  formers_are : (before : List Former) → FormerTexts before → AreTexts (all_former h before)
+  formers_are [] a = tt
+  formers_are (f ∷ before) a = both_texts (all_former h before) (former_chunks h f) (formers_are before a.1) (former_are f a.0)
 
-all_are : (h : Hearing) (d : Told) → ToldTexts d → AreTexts (all_told h d)
-all_are h d a = both_texts (all_former h d.before) (last_chunks h d.sender d.past) (formers_are h d.before a.before) (last_are h d.sender d.past a.past)
+  all_are : (d : Told) → ToldTexts d → AreTexts (all_told h d)
+  all_are d a = both_texts (all_former h d.before) (last_chunks h d.sender d.past) (formers_are d.before a.before) (last_are d.sender d.past a.past)
 
-pub live_texts : (hears : ℕ → Hearing) (takes : ℕ → Takes) → AllTexts (live_chunks hears takes)
-live_texts hears takes i = all_are (hears i) (told_by (hears i) (takes i)) (told_texts (hears i) (takes i))
+pub live_texts : (hears : ℕ → Hearing) (takes : ℕ → Takes) → ((i : ℕ) → 4 ≤ (hears i).piece) → AllTexts (live_chunks hears takes)
+live_texts hears takes four i = all_are (hears i) (four i) (told_by (hears i) (takes i)) (told_texts (hears i) (takes i))

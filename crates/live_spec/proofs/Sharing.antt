@@ -15,6 +15,7 @@ use Rattle.mixer_spec.proofs.Seats.{enter_with}
 use Rattle.stream_spec.specs.Links.{Takes}
 use Rattle.live_spec.specs.Told.{Hearing}
 use Rattle.live_spec.specs.Live.{AllSeated, AreLive, but_last}
+use Rattle.mixer_spec.proofs.Staying.{more_given as one_more}
 
 -- who holds a place listens
 abbrev Listen : Seats → Type 0
@@ -27,10 +28,6 @@ AllShare s taken = (j i : ℕ) → j < s.legs → IsAnother i j → AllGiven tru
 record Shares (s : Setup) (table : Table) : Type 0 where
   listen : Listen table.seats
   given : AllShare s table.taken
-
-one_more : (j : ℕ) (xs : List Taken) (x : Taken) → AllGiven true j xs → x.given j ≡ true → AllGiven true j (xs ++ x ∷ [])
-one_more j [] x a e = (e, tt)
-one_more j (y ∷ xs) x a e = (a.0, one_more j xs x a.1 e)
 
 -- ---- one comes
 came_listen : (s : Setup) (i t : ℕ) (table : Table) (p : ℕ) → AllStay s → Listen table.seats → Listen (come_to i (is_before_end t (s.until i)) table (Some p)).seats

@@ -1,15 +1,16 @@
 -- What is counted of a leg adds up.
 use Rattle.std.proofs.Common.{◌≡◌, ◌≤◌, ◌⊎◌, ◌+◌, ℕ, Bool, true, false, true≢false, inl, inr, Option, Some, None, List, [], ◌∷◌, Result, Ok, Err, refl, ap, sym, ◌∙◌, arith}
-use Rattle.std.specs.Prelude.{suc, max, length, ◌&&◌, if◌then◌else◌}
+use Rattle.std.specs.Prelude.{suc, max, length, if◌then◌else◌}
 use Rattle.wire_spec.specs.declared.faults.TextFault.{TextFault}
 use Rattle.wire_spec.specs.Packets.{Packet, Arrival}
 use Rattle.wire_spec.specs.Text.{text_of}
 use Rattle.stream_spec.specs.Links.{Came, Datagram, Large, Quiet, Closed, Takes}
-use Rattle.live_spec.specs.Told.{Former, Hearing, Told, former_after, is_sender, taken_over, takes_over, told_by, told_came, told_packet, untold, with_packet}
+use Rattle.live_spec.specs.Told.{Former, Hearing, Told, former_after, is_sender, taken_over, takes_over, told_by, told_came, told_packet, with_packet}
 use Rattle.view_spec.specs.declared.tallies.Tally.{Tally}
-use Rattle.live_spec.specs.Tally.{tally_by, tally_came, tally_packet, untallied, with_foreign, with_refused, with_sender, with_text}
-use Rattle.live_spec.specs.TallyLaws.{AddsUp, TalliesAddUp, all_packets, all_senders, datagrams_in, former_packets, is_datagram, one_if_any}
+use Rattle.live_spec.specs.Tally.{tally_by, tally_came, tally_packet, with_foreign, with_refused, with_sender, with_text}
+use Rattle.live_spec.specs.TallyLaws.{TalliesAddUp, all_packets, all_senders, datagrams_in, former_packets, is_datagram, one_if_any}
 use Rattle.live_spec.proofs.Unfollowed.{unfollowed_law}
+use Rattle.wire_spec.proofs.Plain.{and_left}
 
 -- 1, where there is a sender
 abbrev one_if_sent : Option ℕ → ℕ
@@ -86,10 +87,6 @@ refused_sums h d y n s = record { came = ap suc s.came; parts = (let parts = s.p
 
 foreign_sums : (h : Hearing) (d : Told) (y : Tally) (n : ℕ) → Sums h d y n → Sums h d (with_foreign y) (suc n)
 foreign_sums h d y n s = record { came = ap suc s.came; parts = (let parts = s.parts in omega (arith, parts)); text = s.text; senders = s.senders; begun = s.begun; followed = s.followed }
-
-and_left : (a b : Bool) → (a && b) ≡ true → a ≡ true
-and_left true b e = refl
-and_left false b e = e
 
 packet_sums : (h : Hearing) (d : Told) (t : ℕ) (r : Result Packet TextFault) (y : Tally) (n : ℕ) → Sums h d y n → Sums h (told_packet h d t r) (tally_packet h d t r y) (suc n)
 packet_sums h d t (Err fault) y n s = refused_sums h d y n s

@@ -1,5 +1,5 @@
 -- What is counted of the legs of `FollowExamples`, and of one that is not followed, worked out by hand.
-use Rattle.std.proofs.Common.{◌≡◌, ℕ, true, false, [], ◌∷◌, refl}
+use Rattle.std.proofs.Common.{◌≡◌, ℕ, false, [], ◌∷◌, refl}
 use Rattle.std.specs.Str.{is_utf8, chars}
 use Rattle.std.specs.Char.{encode_utf8}
 use Rattle.wire_spec.specs.Rtp.{rtp, rtp_of_header}
@@ -46,7 +46,7 @@ refused = refl
 
 -- where she has SSRC 5, and is not followed, SSRC 6 is passed over
 abbrev plain : Hearing
-plain = record { leg = 0; ssrc = 5; payload_types = record { t140 = 98; red = 100 }; wait = 1000; follow = false }
+plain = record { leg = 0; ssrc = 5; payload_types = record { t140 = 98; red = 100 }; wait = 1000; follow = false; piece = 1023 }
 
 unfollowed : tally_by plain again ≡ tally 4 2 0 2 1
 unfolding is_utf8 chars encode_utf8 text_of text_of_short rtp rtp_of_header red headers_at texts_at

@@ -1,13 +1,15 @@
 -- The texts of the chunks of a leg are what is heard of it.
 use Rattle.std.proofs.Common.{◌≡◌, ℕ, Option, Some, None, List, [], ◌∷◌, ◌++◌, refl, ap, ◌∙◌}
-use Rattle.std.specs.Prelude.{map}
+use Rattle.std.specs.Prelude.{flat_map, map}
 use Rattle.wire_spec.specs.Packets.{Arrival}
 use Rattle.stream_spec.specs.Hearing.{marker}
-use Rattle.stream_spec.specs.Ready.{Chunk, chunk}
+use Rattle.stream_spec.specs.Ready.{Chunk, chunk, chunks}
 use Rattle.stream_spec.specs.Still.{still}
 use Rattle.stream_spec.proofs.ChunkTexts.{chunk_texts}
 use Rattle.mixer_spec.specs.Chunks.{texts_of}
+use Rattle.mixer_spec.specs.Pieces.{pieces}
 use Rattle.mixer_spec.proofs.Carries.{texts_append}
+use Rattle.mixer_spec.proofs.Chunks.{texts_cut}
 use Rattle.live_spec.specs.Told.{Former, Hearing, Told, all_former, all_told, former_chunks, former_texts, heard_told, last_chunks, last_texts, ready_until, sender_chunks, sender_texts, told_by}
 use Rattle.live_spec.specs.ToldLaws.{TextsAreHeard}
 
@@ -16,7 +18,8 @@ same_texts t [] = refl
 same_texts t (c ∷ cs) = ap (λ ts. c.text ∷ ts) (same_texts t cs)
 
 of_sender : (h : Hearing) (ssrc : ℕ) (past : List Arrival) → texts_of (sender_chunks h ssrc past) ≡ sender_texts h ssrc past
-of_sender h ssrc past = chunk_texts h.wait h.leg (still past) ssrc
+of_sender h ssrc past =
+    texts_cut (pieces h.piece) (chunks h.wait h.leg (still past) ssrc) ∙ ap (flat_map (pieces h.piece)) (chunk_texts h.wait h.leg (still past) ssrc)
 
 of_last : (h : Hearing) (sender : Option ℕ) (past : List Arrival) → texts_of (last_chunks h sender past) ≡ last_texts h sender past
 of_last h None past = refl

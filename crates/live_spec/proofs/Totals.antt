@@ -15,6 +15,7 @@ use Rattle.live_spec.specs.Served.{End, chunks_live, heard_live}
 use Rattle.live_spec.proofs.HeardLive.{live_heard}
 use Rattle.live_spec.specs.HeadLive.{HeadLive, IsToldLive}
 use Rattle.live_spec.specs.Watched.{CoversTold, octets_told}
+use Rattle.mixer_spec.proofs.Plain.{octets_append as octets_both}
 
 nothing_before : (a b : ℕ) → a ≡ b → a ≡ 0 + b
 nothing_before a b e = omega (arith, e)
@@ -29,13 +30,6 @@ size_both xs ys = ap length (concat-append xs ys) ∙ length-append (concat xs) 
 octets_are : (cs : List Chunk) → octets cs ≡ size (texts_of cs)
 octets_are [] = refl
 octets_are (c ∷ cs) = ap (λ n. length c.text + n) (octets_are cs) ∙ sym (length-append c.text (concat (texts_of cs)))
-
-octets_both : (xs ys : List Chunk) → octets (xs ++ ys) ≡ octets xs + octets ys
-octets_both [] ys = nothing_before (octets ys) (octets ys) refl
-octets_both (x ∷ xs) ys = one_more (length x.text) (octets xs) (octets ys) (octets (xs ++ ys)) (octets_both xs ys)
-  where
-    one_more : (n a b both : ℕ) → both ≡ a + b → n + both ≡ n + a + b
-    one_more n a b both e = omega (arith, e)
 
 -- ---- groups
 one_group : (all group more text texts rest with_it : ℕ) → all ≡ group + more → text ≡ group → more ≡ texts + rest → with_it ≡ text + texts → all ≡ with_it + rest

@@ -1,42 +1,21 @@
 -- What several senders tell, one behind the other.
-use Rattle.std.proofs.Common.{◌≡◌, ℕ, ◌+◌, ◌<◌, ◌≤◌, ◌⊎◌, inl, inr, List, [], ◌∷◌, ◌++◌, length, refl, ap, subst, sym, ◌∙◌, arith, append_assoc}
+use Rattle.std.proofs.Common.{◌≡◌, ℕ, ◌+◌, ◌<◌, ◌≤◌, ◌⊎◌, inl, inr, List, [], ◌∷◌, ◌++◌, length, ap, subst, sym, ◌∙◌, arith, append_assoc}
 use Rattle.std.specs.Prelude.{map}
-use Rattle.std.proofs.lemmas.Bool.{cases_eq}
 use Rattle.std.proofs.lemmas.List.{map-append}
 use Rattle.stream_spec.specs.Lists.{In}
 use Rattle.stream_spec.specs.Hearing.{marker}
 use Rattle.stream_spec.specs.History.{Placed}
-use Rattle.stream_spec.specs.Kept.{Item, Marker, Block, Rising, blocks_in, text_of, texts}
+use Rattle.stream_spec.specs.Kept.{Marker, Block, Rising, blocks_in, text_of, texts}
 use Rattle.stream_spec.proofs.Blocks.{blocks_in_append, in_blocks_in, l2_rises, rising_append}
 use Rattle.stream_spec.proofs.Lists.{in_append, in_left, in_right}
-use Rattle.stream_spec.proofs.Places.{same_place_after}
 use Rattle.mixer_spec.specs.Laws.{PartsAt}
 use Rattle.mixer_spec.specs.Headline.{Hop, IsBlock, IsHop, hears, told, used}
 use Rattle.mixer_spec.proofs.OneHop.{absent_lost, block_is, lost_absent, one_hop, places_of}
-use Rattle.mixer_spec.proofs.Through.{NoneEmpty, kept_none_empty}
 use Rattle.live_spec.specs.InTurn.{AreHops, HoldsOfOne, IsLostBlock, IsMarkedBlock, heard_in_turn, item_later, later, told_in_turn}
-use Rattle.live_spec.proofs.Later.{in_later, later_append, later_in, none_both, none_later, place_below, rising_later, same_later, texts_later}
-
--- ---- a block is among the items of a hop, or it is not
-decide : (k : Placed) (items : List Item) → ((x : Placed) → In (Block x) items → x.place ≡ k.place → x ≡ k) → In (Block k) items ⊎ (In (Block k) items → ⊥)
-decide k [] f = inr (λ i. i)
-decide k (Marker ∷ xs) f = elim (decide k xs (λ x i. f x (inr i))) [
-  | inl i ↦ inl (inr i)
-  | inr n ↦ inr (λ i. elim i [ inl e ↦ absurd (cc e) | inr j ↦ n j ])
-]
-decide k (Block y ∷ xs) f = elim (cases_eq y.place k.place) [
-  | inl e ↦ inl (inl (ap Block (sym (f y (inl refl) e))))
-  | inr d ↦ elim (decide k xs (λ x i. f x (inr i))) [
-    | inl i ↦ inl (inr i)
-    | inr n ↦ inr (λ i. elim i [ inl e ↦ d (same k y e) | inr j ↦ n j ])
-  ]
-]
-  where
-    same : (a b : Placed) → Block a ≡ Block b → b.place ≡ a.place
-    same a b e = cc e
-
-pub is_told : (p : Hop) → IsHop p → (k : Placed) → IsBlock p k → In (Block k) (told p) ⊎ (In (Block k) (told p) → ⊥)
-is_told p q k b = decide k (told p) (λ x i e. same_place_after [] p.sent.entries x k (block_is p q x i).sent b.sent e)
+use Rattle.live_spec.proofs.Later.{in_later, later_append, later_in, rising_later, same_later, texts_later}
+use Rattle.stream_spec.proofs.Plain.{place_to as place_below}
+use Rattle.stream_spec.proofs.Places.{same_place_after}
+use Rattle.mixer_spec.proofs.BothHops.{is_told}
 
 -- ---- one hop
 told_below : (p : Hop) → IsHop p → (k : Placed) → In (Block k) (told p) → k.place < length p.sent.entries
@@ -44,9 +23,6 @@ told_below p ip k i = let l = place_below [] p.sent.entries k (block_is p ip k i
 
 told_rises : (p : Hop) → IsHop p → Rising (blocks_in (told p))
 told_rises p ip = l2_rises p.sent (used p) p.source (places_of p ip)
-
-told_none : (p : Hop) → IsHop p → NoneEmpty (told p)
-told_none p ip = kept_none_empty p.sent (used p) p.source (places_of p ip)
 
 -- ---- where they stand
 pub turn_from : (n : ℕ) (before : List Hop) (last : Hop) (x : Placed) → In (Block x) (told_in_turn n before last) → n ≤ x.place
@@ -76,12 +52,6 @@ turn_rises n (p ∷ before) last a =
     let m = turn_from (n + length p.sent.entries) before last y (in_blocks_in y rest j) in
     omega (arith, l, m)))
 
-pub turn_none : (n : ℕ) (before : List Hop) (last : Hop) → AreHops before last → NoneEmpty (told_in_turn n before last)
-turn_none n [] last a = none_later n (told last) (told_none last a.last)
-turn_none n (p ∷ before) last a =
-    none_both (map (item_later n) (told p)) (Marker ∷ told_in_turn (n + length p.sent.entries) before last) (none_later n (told p) (told_none p a.before.0))
-    (omega arith, turn_none (n + length p.sent.entries) before last (record { before = a.before.1; last = a.last }))
-
 pub turn_texts : (n : ℕ) (before : List Hop) (last : Hop) → AreHops before last → texts (told_in_turn n before last) ≡ heard_in_turn before last
 turn_texts n [] last a = texts_later n (told last) ∙ sym (one_hop last a.last).text
 turn_texts n (p ∷ before) last a =
@@ -110,6 +80,41 @@ turn_of n (p ∷ before) last x i = elim (in_append (Block x) (map (item_later n
 
 pub turn_blocks : (n : ℕ) (before : List Hop) (last : Hop) (x : Placed) → AreHops before last → In (Block x) (told_in_turn n before last) → HoldsOfOne IsBlock n before last x
 turn_blocks n before last x a i = of_one IsToldBlock IsBlock (λ p ip k j. block_is p ip k j) n before last x a (turn_of n before last x i)
+
+-- each is at its place, and short
+one_from : (n : ℕ) (before : List Hop) (last : Hop) (x : Placed) → HoldsOfOne IsBlock n before last x → n ≤ x.place
+one_from n [] last x h = let q : x.place ≡ n + h.0.place = ap (λ (z : Placed). z.place) h.1 in omega (arith, q)
+one_from n (p ∷ before) last x (inl h) = let q : x.place ≡ n + h.0.place = ap (λ (z : Placed). z.place) h.1 in omega (arith, q)
+one_from n (p ∷ before) last x (inr h) = let l = one_from (n + length p.sent.entries) before last x h in omega (arith, l)
+
+same_block : (n : ℕ) (p : Hop) (x y a b : Placed) → x ≡ later n a → y ≡ later n b → IsBlock p a → IsBlock p b → x.place ≡ y.place → x ≡ y
+same_block n p x y a b e f u v q =
+    let s : x.place ≡ n + a.place = ap (λ (z : Placed). z.place) e in
+    let t : y.place ≡ n + b.place = ap (λ (z : Placed). z.place) f in
+    e ∙ (ap (later n) (same_place_after [] p.sent.entries a b u.sent v.sent (omega (arith, s, t, q))) ∙ sym f)
+
+pub turn_same : (n : ℕ) (before : List Hop) (last : Hop) (x y : Placed) → HoldsOfOne IsBlock n before last x → HoldsOfOne IsBlock n before last y → x.place ≡ y.place → x ≡ y
+turn_same n [] last x y h k q = same_block n last x y h.0 k.0 h.1 k.1 h.2 k.2 q
+turn_same n (p ∷ before) last x y h k q = go (λ u v. turn_same (n + length p.sent.entries) before last x y u v q) h k
+  where
+    -- one of p stands before those behind
+    below : (z : Placed) → (a : Placed) × (z ≡ later n a) × IsBlock p a → z.place < n + length p.sent.entries
+    below z g = let l = place_below [] p.sent.entries g.0 g.2.sent in let t : z.place ≡ n + g.0.place = ap (λ (w : Placed). w.place) g.1 in omega (arith, l, t)
+
+    go : (HoldsOfOne IsBlock (n + length p.sent.entries) before last x → HoldsOfOne IsBlock (n + length p.sent.entries) before last y → x ≡ y)
+        → HoldsOfOne IsBlock n (p ∷ before) last x → HoldsOfOne IsBlock n (p ∷ before) last y → x ≡ y
+    go f (inl h) (inl k) = same_block n p x y h.0 k.0 h.1 k.1 h.2 k.2 q
+    go f (inr h) (inr k) = f h k
+    go f (inl h) (inr k) = let l = below x h in let m = one_from (n + length p.sent.entries) before last y k in absurd (omega (arith, l, m, q))
+    go f (inr h) (inl k) = let l = below y k in let m = one_from (n + length p.sent.entries) before last x h in absurd (omega (arith, l, m, q))
+
+one_fits : (n : ℕ) (p : Hop) → IsHop p → (x k : Placed) → x ≡ later n k → IsBlock p k → length x.text ≤ 8192
+one_fits n p ip x k e b = let t = (ip.lawful.text k b.sent).0 in let s : length x.text ≡ length k.text = ap (λ (z : Placed). length z.text) e in omega (arith, t, s)
+
+pub turn_fits : (n : ℕ) (before : List Hop) (last : Hop) (x : Placed) → AreHops before last → HoldsOfOne IsBlock n before last x → length x.text ≤ 8192
+turn_fits n [] last x a h = one_fits n last a.last x h.0 h.1 h.2
+turn_fits n (p ∷ before) last x a (inl h) = one_fits n p a.before.0 x h.0 h.1 h.2
+turn_fits n (p ∷ before) last x a (inr h) = turn_fits (n + length p.sent.entries) before last x (record { before = a.before.1; last = a.last }) h
 
 -- ---- told or lost
 one_told : (n : ℕ) (p : Hop) → IsHop p → (k : Placed) → IsBlock p k → In (Block (later n k)) (map (item_later n) (told p)) ⊎ IsLostBlock p k

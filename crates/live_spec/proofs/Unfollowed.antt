@@ -6,11 +6,8 @@ use Rattle.rtt_base.specs.declared.text_packets.PayloadTypes.{PayloadTypes}
 use Rattle.wire_spec.specs.declared.faults.TextFault.{TextFault}
 use Rattle.wire_spec.specs.Packets.{Packet, Arrival}
 use Rattle.wire_spec.specs.Text.{text_of}
-use Rattle.stream_spec.specs.Hearing.{heard}
-use Rattle.stream_spec.specs.Ready.{chunks}
-use Rattle.stream_spec.specs.Still.{still}
 use Rattle.stream_spec.specs.Links.{Came, Datagram, Large, Quiet, Closed, Takes}
-use Rattle.live_spec.specs.Told.{Hearing, Told, all_by, all_told, heard_told, ready_told, told_by, told_came, told_packet}
+use Rattle.live_spec.specs.Told.{Hearing, Told, all_by, all_told, heard_told, ready_told, sender_chunks, sender_texts, told_by, told_came, told_packet}
 use Rattle.live_spec.specs.ToldLaws.{IsPlain, Plain, Unfollowed, plain_by, plain_came, plain_packet}
 use Rattle.live_spec.proofs.Asked.{any_asked, eqb_true, own_asked}
 
@@ -23,7 +20,7 @@ record Same (ssrc : ℕ) (d : Told) (p : Plain) : Type 0 where
   closed : d.closed ≡ p.closed
 
 abbrev plain : Hearing → Hearing
-plain h = record { leg = h.leg; ssrc = h.ssrc; payload_types = h.payload_types; wait = h.wait; follow = false }
+plain h = record { leg = h.leg; ssrc = h.ssrc; payload_types = h.payload_types; wait = h.wait; follow = false; piece = h.piece }
 
 -- a packet is read alike where its SSRC is asked for
 record Alike (ssrc : ℕ) (any own : Result Packet TextFault) : Type 0 where
@@ -99,12 +96,12 @@ plain_law h takes =
 
 pub unfollowed_law : Unfollowed
 unfollowed_law h takes e =
-    let same : plain h ≡ h = λ i. record { leg = h.leg; ssrc = h.ssrc; payload_types = h.payload_types; wait = h.wait; follow = sym e i } in
+    let same : plain h ≡ h = λ i. record { leg = h.leg; ssrc = h.ssrc; payload_types = h.payload_types; wait = h.wait; follow = sym e i; piece = h.piece } in
     subst (λ (x : Hearing). IsPlain x takes) same (plain_law h takes)
 
 -- the same by what was told
-pub all_plain : (h : Hearing) (takes : Takes) → h.follow ≡ false → all_by h takes ≡ chunks h.wait h.leg (still (told_by h takes).past) h.ssrc
-all_plain h takes e = let u = unfollowed_law h takes e in u.all ∙ ap (λ (d : Told). chunks h.wait h.leg (still d.past) h.ssrc) (sym u.told)
+pub all_plain : (h : Hearing) (takes : Takes) → h.follow ≡ false → all_by h takes ≡ sender_chunks h h.ssrc (told_by h takes).past
+all_plain h takes e = let u = unfollowed_law h takes e in u.all ∙ ap (λ (d : Told). sender_chunks h h.ssrc d.past) (sym u.told)
 
-pub heard_plain : (h : Hearing) (takes : Takes) → h.follow ≡ false → heard_told h (told_by h takes) ≡ heard h.wait (still (told_by h takes).past) h.ssrc
-heard_plain h takes e = let u = unfollowed_law h takes e in u.texts ∙ ap (λ (d : Told). heard h.wait (still d.past) h.ssrc) (sym u.told)
+pub heard_plain : (h : Hearing) (takes : Takes) → h.follow ≡ false → heard_told h (told_by h takes) ≡ sender_texts h h.ssrc (told_by h takes).past
+heard_plain h takes e = let u = unfollowed_law h takes e in u.texts ∙ ap (λ (d : Told). sender_texts h h.ssrc d.past) (sym u.told)

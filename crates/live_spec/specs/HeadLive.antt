@@ -1,5 +1,6 @@
 -- What a live call promises, whatever its links gave, and at whatever moments (profile).
-use Rattle.std.specs.Prelude.{◌≡◌, ◌<◌, ℕ, false, Some, Ok, List, [], ◌++◌, length, map, IsSome}
+use Rattle.std.specs.Prelude.{◌≡◌, ◌<◌, ◌≤◌, ℕ, false, Some, Ok, List, [], ◌++◌, length, map, flat_map, All, IsSome}
+use Rattle.std.specs.Option.{ForSome}
 use Rattle.wire_spec.specs.Packets.{Arrival}
 use Rattle.wire_spec.specs.Text.{text_of}
 use Rattle.file_spec.specs.declared.conference_lines.Form.TheVariants.{Links}
@@ -18,8 +19,9 @@ use Rattle.mixer_spec.specs.Chunks.{texts_of}
 use Rattle.mixer_spec.specs.Setups.{AllStay, IsAnother, leg_at, setup}
 use Rattle.mixer_spec.specs.Table.{Table, chunks_taken}
 use Rattle.mixer_spec.specs.Laws.{IsComposed, SendsGiven, chunks_given}
-use Rattle.mixer_spec.specs.Bridged.{IsPair, hop_to, told_at, waiting_texts}
-use Rattle.mixer_spec.specs.Headline.{HeadlineAt, Hop, OneHop}
+use Rattle.mixer_spec.specs.Bridged.{IsPair, cutting_of, hop_to, told_at, waiting_texts}
+use Rattle.mixer_spec.specs.Headline.{Hop, OneHop}
+use Rattle.mixer_spec.specs.PieceHeadline.{PieceHeadlineAt}
 use Rattle.mixer_spec.specs.Headlines.{hop_behind}
 use Rattle.command_spec.specs.Heard.{HearsNamed}
 use Rattle.command_spec.specs.Seen.{ShowsNamed}
@@ -33,6 +35,8 @@ pub record IsGiven (c : Conference) (table : Table) (end : End) (j : ℕ) (leg :
   pub own : Own leg.generations (told_at (setup c) table j)
   pub packets : map (λ octets. text_of octets (Some c.mixer.ssrc) leg.payload_types) given ≡ map (λ x. Ok (own_packet (told_at (setup c) table j) x)) (placed (told_at (setup c) table j))
   pub closed : end ≡ Closed → histories.Closed leg.generations (told_at (setup c) table j)
+  -- Where packets have a limit none has more octets.
+  pub fit : ForSome c.mtu (λ most. All (λ octets. length octets ≤ most) given)
 
 -- nobody took over from the sender of the leg i
 abbrev pub HasOneSender : Conference → (ℕ → Takes) → ℕ → Type 0
@@ -56,17 +60,19 @@ pub record IsToldLive (c : Conference) (takes : ℕ → Takes) (table : Table) (
   -- What is left waits for its turn at the terminal, or was not taken by the mixer.
   pub left : (behind : List Chunk) × (chunks_taken (table.taken i) ++ behind ≡ chunks_live c takes i) × (rest ≡ waiting_texts table j i ++ texts_of behind)
   -- The hop to the terminal by itself, whatever comes of what it is given.
-  pub one_hop : (wait : ℕ) (came : List Arrival) → Come (told_at (setup c) table j) came → OneHop (hop_behind (setup c) table j i wait came)
+  pub one_hop : (wait : ℕ) (came : List Arrival) → Come (told_at (setup c) table j) came
+      → OneHop (hop_behind (setup c) table j i wait came)
   -- The headline, for every lawful history of which the leg's packets come, and whatever comes to the terminal of what it is given.
   pub headline : (h : History) → IsFromLive c takes i h
       → (wait : ℕ) (came : List Arrival) → Come (told_at (setup c) table j) came
-      → HeadlineAt (inward_live c takes i h) (hop_behind (setup c) table j i wait came) [] rest []
+      → PieceHeadlineAt (cutting_of c) (inward_live c takes i h) (hop_behind (setup c) table j i wait came) [] rest []
 
 -- A terminal that is not aware is given one text, of the mixer: what the composer gives of what is heard of the other legs. What it
 -- gives of each is a front of that, in order. At `Closed` it is all of that.
 pub record IsToldAsOne (c : Conference) (takes : ℕ → Takes) (table : Table) (end : End) (j : ℕ) : Type 0 where
   pub source : (x : Placed) → In x (placed (told_at (setup c) table j)) → x.source ≡ c.mixer.ssrc
-  pub one_hop : (wait : ℕ) (came : List Arrival) → Come (told_at (setup c) table j) came → OneHop (hop_to (told_at (setup c) table j) c.mixer.ssrc wait came)
+  pub one_hop : (wait : ℕ) (came : List Arrival) → Come (told_at (setup c) table j) came
+      → OneHop (hop_to (told_at (setup c) table j) c.mixer.ssrc wait came)
   pub composed : IsComposed (setup c) (chunks_live c takes) j (table.terminals j).asks
   pub sent : SendsGiven table j
   -- Whatever comes of it, however long a gap is waited for: what is heard are stretches of that text, with a marker between each
@@ -78,8 +84,10 @@ pub record IsToldAsOne (c : Conference) (takes : ℕ → Takes) (table : Table) 
   -- whole, and behind each label, up to the next, what prints of what its leg typed there.
   pub shown_named : (wait : ℕ) (came : List Arrival) (comes : Come (told_at (setup c) table j) came)
       → ShowsNamed (setup c) (table.terminals j).asks (hop_to (told_at (setup c) table j) c.mixer.ssrc wait came) (named wait came comes)
-  pub front : (i : ℕ) → i < length c.legs → IsAnother i j → IsFront (texts_of (chunks_given i (table.terminals j).asks)) (heard_live c takes i)
-  pub whole : end ≡ Closed → (i : ℕ) → i < length c.legs → IsAnother i j → texts_of (chunks_given i (table.terminals j).asks) ≡ heard_live c takes i
+  pub front : (i : ℕ) → i < length c.legs → IsAnother i j
+      → IsFront (texts_of (chunks_given i (table.terminals j).asks)) (heard_live c takes i)
+  pub whole : end ≡ Closed → (i : ℕ) → i < length c.legs → IsAnother i j
+      → texts_of (chunks_given i (table.terminals j).asks) ≡ heard_live c takes i
 
 -- A live call: what its links gave was mixed in time, and is told to each terminal so. What is printed is seen of what was given.
 pub record HeadLive (c : Conference) (takes : ℕ → Takes) (given : ℕ → List (List ℕ)) (end : End) (printed : List ℕ) : Type 0 where
@@ -102,7 +110,8 @@ abbrev pub OneSenderIsHeard : Type 0
 OneSenderIsHeard =
     (c : Conference) (takes : ℕ → Takes) (i : ℕ)
     → HasOneSender c takes i
-    → heard_live c takes i ≡ heard c.wait (still (came_live c takes i)) (sender_live c takes i)
+    → heard_live c takes i
+    ≡ flat_map (cutting_of c) (heard c.wait (still (came_live c takes i)) (sender_live c takes i))
 
 -- From the sender of a leg that is not followed nobody takes over, and that is the SSRC of the conference.
 abbrev pub UnfollowedHasOneSender : Type 0

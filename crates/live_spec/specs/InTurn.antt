@@ -5,8 +5,9 @@ use Rattle.std.specs.List.{AllByRecursion, concat}
 use Rattle.stream_spec.specs.Lists.{In}
 use Rattle.stream_spec.specs.Hearing.{marker}
 use Rattle.stream_spec.specs.History.{Placed}
-use Rattle.stream_spec.specs.Kept.{Item, Marker, Block, Rising, blocks_in}
+use Rattle.stream_spec.specs.Kept.{Item, Marker, Block, blocks_in}
 use Rattle.mixer_spec.specs.Laws.{PartsAt}
+use Rattle.mixer_spec.specs.Pieces.{Apart, IsPieceOf, in_pieces}
 use Rattle.mixer_spec.specs.Headline.{AllLost, AllUsed, Hop, IsBetween, IsBlock, IsHop, IsLostBehind, IsMarkerBehind, OneHop, groups, hears, said, told, told_by}
 
 -- ---- one behind the other
@@ -54,27 +55,37 @@ pub record IsMarkedBlock (p : Hop) (k : Placed) : Type 0 where
   pub parts : PartsAt k (told p)
 
 -- ---- two hops
--- The hop q carries of what these tell `sent`, and `waiting` is not sent on yet.
-pub record InTurn (before : List Hop) (last q : Hop) (sent waiting : List Item) : Type 0 where
+-- what they tell, in pieces
+abbrev pub pieces_in_turn : (List ℕ → List (List ℕ)) → List Hop → Hop → List Item
+pieces_in_turn cutting before last = in_pieces cutting (told_in_turn 0 before last)
+
+-- The hop q carries of the pieces of what these tell `sent`, in entries of whole pieces, and `waiting` is not sent on yet.
+pub record InTurn (cutting : List ℕ → List (List ℕ)) (before : List Hop) (last q : Hop) (sent waiting : List Item) : Type 0 where
   pub firsts : AllByRecursion OneHop before
   pub first : OneHop last
   pub second : OneHop q
-  pub is : told_in_turn 0 before last ≡ sent ++ waiting
-  -- What is heard is, piece by piece, the text of what both tell.
+  pub is : pieces_in_turn cutting before last ≡ sent ++ waiting
+  -- What is heard is, entry by entry, the text of what both tell.
   pub text : hears q ≡ map said (groups sent q (told q))
   pub joined : concat (hears q) ≡ said (told_by sent q)
-  -- Those are blocks of the senders, in order, each at most once.
-  pub blocks : (x : Placed) → In (Block x) (told_by sent q) → HoldsOfOne IsBlock 0 before last x
-  pub order : Rising (blocks_in (told_by sent q))
-  -- A block is absent exactly where every packet carrying it on one hop was lost or late, or where it is not sent on yet.
-  pub absent : (x : Placed) → HoldsOfOne IsBlock 0 before last x
-      → ((In (Block x) (told_by sent q) → ⊥) ↔ (HoldsOfOne IsLostBlock 0 before last x ⊎ (IsLostBehind q sent x ⊎ In (Block x) waiting)))
+  -- Those are pieces of blocks of the senders,
+  pub pieces : (k : Placed) → In (Block k) (told_by sent q)
+      → (x : Placed) × HoldsOfOne IsBlock 0 before last x × IsPieceOf cutting x k
+  -- and their octets are in order, each at most once.
+  pub order : Apart (blocks_in (told_by sent q))
+  -- A piece is absent exactly where every packet carrying its block on the first hop, or every packet carrying the piece on the second,
+  -- was lost or late, or where it is not sent on yet.
+  pub absent : (x k : Placed) → HoldsOfOne IsBlock 0 before last x → IsPieceOf cutting x k
+      → ((In (Block k) (told_by sent q) → ⊥)
+      ↔ (HoldsOfOne IsLostBlock 0 before last x ⊎ (IsLostBehind q sent k ⊎ In (Block k) waiting)))
   -- Where it was lost on the second hop, a marker stands there between packets that came.
-  pub marked_behind : (x : Placed) (lost : IsLostBehind q sent x) → IsBetween q lost.entry → PartsAt x (told_by sent q)
-  -- Each marker of a first hop stands among what they tell; it is sent on too, or is not sent on yet; and where it is sent on, so
-  -- does one stand behind both.
-  pub marker_stands : (x : Placed) → HoldsOfOne IsMarkedBlock 0 before last x → PartsAt x (told_in_turn 0 before last)
-  pub marker_is : (x : Placed) (parts : PartsAt x (told_in_turn 0 before last)) → PartsAt x sent ⊎ (length sent ≤ length parts.0)
-  pub marked : (x : Placed) → PartsAt x sent → IsMarkerBehind q sent x
+  pub marked_behind : (k : Placed) (lost : IsLostBehind q sent k) → IsBetween q lost.entry → PartsAt k (told_by sent q)
+  -- Each marker of a first hop stands among what they tell, for each piece of its block; it is sent on too, or is not sent on yet; and
+  -- where it is sent on, so does one stand behind both.
+  pub marker_stands : (x k : Placed) → HoldsOfOne IsMarkedBlock 0 before last x → IsPieceOf cutting x k
+      → PartsAt k (pieces_in_turn cutting before last)
+  pub marker_is : (k : Placed) (parts : PartsAt k (pieces_in_turn cutting before last))
+      → PartsAt k sent ⊎ (length sent ≤ length parts.0)
+  pub marked : (k : Placed) → PartsAt k sent → IsMarkerBehind q sent k
   -- With every packet of the second hop used, both tell all that was sent on.
   pub passed : AllUsed q → told_by sent q ≡ sent

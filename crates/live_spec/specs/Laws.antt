@@ -1,5 +1,5 @@
 -- What holds of the recordings of a call.
-use Rattle.std.specs.Prelude.{◌≡◌, ℕ, ◌+◌, ◌-◌, ◌*◌, ◌^◌, ◌<◌, ◌≤◌, ◌==◌, false, Option, None, Some, List, [], ◌∷◌, length, map, flat_map, reverse, take, if◌then◌else◌}
+use Rattle.std.specs.Prelude.{◌≡◌, ℕ, ◌+◌, ◌-◌, ◌*◌, ◌^◌, ◌<◌, ◌≤◌, ◌==◌, false, None, Some, List, [], ◌∷◌, length, map, flat_map, reverse, take, if◌then◌else◌}
 use Rattle.std.specs.List.{AllByRecursion}
 use Rattle.rtt_base.specs.declared.limits.TheConstants.{MOST_PACKET_OCTETS}
 use Rattle.wire_spec.specs.declared.limits.TheConstants.{LAST_RECORD_MOMENT, MOST_RECORDING_OCTETS}
@@ -8,9 +8,10 @@ use Rattle.stream_spec.specs.Ready.{chunks}
 use Rattle.stream_spec.specs.Still.{still}
 use Rattle.command_spec.specs.Streams.{AreGiven}
 use Rattle.report_spec.specs.Times.{start_of}
+use Rattle.mixer_spec.specs.Pieces.{chunks_cut, pieces}
 use Rattle.stream_spec.specs.Links.{Takes}
 use Rattle.live_spec.specs.Told.{Hearing, told_by, all_by}
-use Rattle.live_spec.specs.Recorded.{Entry, Part, Parts, packet_size, part_written, all_parts, recorded}
+use Rattle.live_spec.specs.Recorded.{Entry, Part, packet_size, part_written, all_parts, recorded}
 use Rattle.live_spec.specs.Came.{datagrams, parts_arrivals}
 
 -- at most as many octets as a packet has
@@ -52,7 +53,8 @@ pub record IsReadTo (start n : ℕ) (p : Part) : Type 0 where
   pub many : ℕ
   pub read : (dump usual_limit (take n (part_written start p))).items ≡ map (item_in p.begins) (take many p.entries)
   -- each record that is there whole is among them
-  pub all : (k : ℕ) → k ≤ length p.entries → length (part_written start (record { begins = p.begins; entries = take k p.entries })) ≤ n → k ≤ many
+  pub all : (k : ℕ) → k ≤ length p.entries
+      → length (part_written start (record { begins = p.begins; entries = take k p.entries })) ≤ n → k ≤ many
 
 abbrev pub FrontsAreRead : Type 0
 FrontsAreRead =
@@ -95,4 +97,5 @@ RecordedIsHeard =
     (start : ℕ) (h : Hearing) (takes : Takes)
     → AreTakesFor h takes
     → (recorded start (datagrams takes)).over ≡ []
-    → chunks h.wait h.leg (still (arrivals (last_file start takes) h.ssrc h.payload_types)) h.ssrc ≡ all_by h takes
+    → chunks_cut (pieces h.piece) (chunks h.wait h.leg (still (arrivals (last_file start takes) h.ssrc h.payload_types)) h.ssrc)
+    ≡ all_by h takes

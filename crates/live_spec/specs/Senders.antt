@@ -6,7 +6,7 @@ use Rattle.stream_spec.specs.History.{Come, History}
 use Rattle.stream_spec.specs.Kept.{Item, texts}
 use Rattle.stream_spec.specs.Still.{still, still_history}
 use Rattle.mixer_spec.specs.Setups.{setup}
-use Rattle.mixer_spec.specs.Bridged.{IsPair, told_at}
+use Rattle.mixer_spec.specs.Bridged.{IsPair, cutting_of, told_at}
 use Rattle.mixer_spec.specs.Headline.{Hop}
 use Rattle.mixer_spec.specs.Headlines.{hop_behind}
 use Rattle.stream_spec.specs.Links.{Takes}
@@ -42,4 +42,5 @@ CallsTellInTurn =
     → (of : ℕ → History) → ComeInTurn (told_live c takes i) of
     → (wait : ℕ) (came : List Arrival) → Come (told_at (setup c) live.served.table j) came
     → (sent : List Item) × (waiting : List Item) × (texts waiting ≡ (live.told j i pair).rest)
-    × InTurn (hops_before c.wait of (told_live c takes i).before) (last_hop c takes i of) (hop_behind (setup c) live.served.table j i wait came) sent waiting
+    × InTurn (cutting_of c) (hops_before c.wait of (told_live c takes i).before) (last_hop c takes i of)
+    (hop_behind (setup c) live.served.table j i wait came) sent waiting

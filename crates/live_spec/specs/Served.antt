@@ -11,6 +11,7 @@ use Rattle.file_spec.specs.declared.conference_lines.LegLine.{LegLine}
 use Rattle.file_spec.specs.Conference.{Conference}
 use Rattle.mixer_spec.specs.Setups.{leg_at, setup, ssrc_of}
 use Rattle.mixer_spec.specs.Table.{Table, chunks_taken, is_idle, turned}
+use Rattle.mixer_spec.specs.Rooms.{piece_within}
 use Rattle.view_spec.specs.Seen.{aware_seen, unaware_seen}
 use Rattle.view_spec.specs.Tallies.{tally_line}
 use Rattle.command_spec.specs.Mixing.{reception_of, sent_to, speaker_of}
@@ -37,12 +38,12 @@ is_followed (Some leg) = leg.follow
 
 -- how the leg i is heard
 abbrev pub hearing_at : Conference → ℕ → Hearing
-hearing_at c i = record { leg = i; ssrc = ssrc_of (leg_at c.legs i); payload_types = payload_types_of (leg_at c.legs i); wait = c.wait; follow = is_followed (leg_at c.legs i) }
+hearing_at c i = record { leg = i; ssrc = ssrc_of (leg_at c.legs i); payload_types = payload_types_of (leg_at c.legs i); wait = c.wait; follow = is_followed (leg_at c.legs i); piece = piece_within c.mtu }
 
 abbrev pub told_live : Conference → (ℕ → Takes) → ℕ → Told
 told_live c takes i = told_by (hearing_at c i) (takes i)
 
--- its texts, but for keep-alives
+-- its texts, but for keep-alives, in pieces
 abbrev pub heard_live : Conference → (ℕ → Takes) → ℕ → List (List ℕ)
 heard_live c takes i = heard_told (hearing_at c i) (told_live c takes i)
 

@@ -1,6 +1,6 @@
 -- What is counted of a leg by the takes of its link (profile): the datagrams that came, and what became of each. Takes stand newest
 -- first.
-use Rattle.std.specs.Prelude.{ℕ, suc, ◌-◌, ◌^◌, max, min, List, [], ◌∷◌, Option, None, Result, Ok, Err, if◌then◌else◌}
+use Rattle.std.specs.Prelude.{ℕ, suc, ◌-◌, ◌^◌, max, min, [], ◌∷◌, None, Result, Ok, Err, if◌then◌else◌}
 use Rattle.wire_spec.specs.declared.faults.TextFault.{TextFault}
 use Rattle.wire_spec.specs.Packets.{Packet}
 use Rattle.wire_spec.specs.Text.{text_of}

@@ -1,7 +1,7 @@
 -- What is heard of a leg by the takes of its link, and which of its texts are ready by then (profile). Takes stand newest first,
 -- as arrivals do; moments are in milliseconds. Keep-alives are no text to a mixer. A terminal that begins anew draws a new SSRC (RFC
 -- 3550, section 8): of a leg that is followed one sender takes over from another.
-use Rattle.std.specs.Prelude.{ℕ, ◌+◌, ◌==◌, ◌&&◌, ◌||◌, Bool, true, false, not, nat_le, Option, None, Some, List, [], ◌∷◌, ◌++◌, filter, map, take, max, min, Result, Ok, Err, if◌then◌else◌}
+use Rattle.std.specs.Prelude.{ℕ, ◌+◌, ◌==◌, ◌&&◌, ◌||◌, Bool, true, false, not, nat_le, Option, None, Some, List, [], ◌∷◌, ◌++◌, filter, flat_map, map, take, max, min, Result, Ok, Err, if◌then◌else◌}
 use Rattle.std.specs.List.{list_any}
 use Rattle.rtt_base.specs.declared.text_packets.PayloadTypes.{PayloadTypes}
 use Rattle.wire_spec.specs.declared.faults.TextFault.{TextFault}
@@ -11,16 +11,18 @@ use Rattle.stream_spec.specs.Hearing.{heard, marker}
 use Rattle.stream_spec.specs.Ready.{Chunk, chunk, chunks}
 use Rattle.stream_spec.specs.Fronts.{is_ready_by}
 use Rattle.stream_spec.specs.Still.{still}
+use Rattle.mixer_spec.specs.Pieces.{chunks_cut, pieces}
 use Rattle.stream_spec.specs.Links.{Came, Datagram, Large, Quiet, Closed, Takes}
 
 -- Which packets of a leg are heard: those with these payload types, of this SSRC, or, where the leg is followed, of whoever sends.
--- A gap in their numbers is waited for so long.
+-- A gap in their numbers is waited for so long, and texts are cut into pieces of at most `piece` octets.
 pub record Hearing : Type 0 where
   pub leg : ℕ
   pub ssrc : ℕ
   pub payload_types : PayloadTypes
   pub wait : ℕ
   pub follow : Bool
+  pub piece : ℕ
 
 -- a sender before: its SSRC, its packets, newest first, and the moment at which another took over from it
 pub record Former : Type 0 where
@@ -124,9 +126,9 @@ told_by h [] = untold h
 told_by h (a ∷ past) = told_came h (told_by h past) a.at a.came
 
 -- ---- what is heard
--- all texts of these packets of one sender, but for keep-alives
+-- all texts of these packets of one sender, but for keep-alives, in pieces
 abbrev pub sender_chunks : Hearing → ℕ → List Arrival → List Chunk
-sender_chunks h ssrc past = chunks h.wait h.leg (still past) ssrc
+sender_chunks h ssrc past = chunks_cut (pieces h.piece) (chunks h.wait h.leg (still past) ssrc)
 
 -- of the sender, if there is one
 abbrev pub last_chunks : Hearing → Option ℕ → List Arrival → List Chunk
@@ -162,7 +164,7 @@ ready_by h takes = ready_told h (told_by h takes)
 
 -- ---- the same without moments
 abbrev pub sender_texts : Hearing → ℕ → List Arrival → List (List ℕ)
-sender_texts h ssrc past = heard h.wait (still past) ssrc
+sender_texts h ssrc past = flat_map (pieces h.piece) (heard h.wait (still past) ssrc)
 
 abbrev pub last_texts : Hearing → Option ℕ → List Arrival → List (List ℕ)
 last_texts h None past = []

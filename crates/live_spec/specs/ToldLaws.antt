@@ -1,18 +1,18 @@
 -- What the laws say of what is heard of a leg by the takes of its link.
-use Rattle.std.specs.Prelude.{◌≡◌, ℕ, Bool, true, false, Option, None, Some, List, [], ◌∷◌, ◌++◌, length, max, Result, Ok, Err, if◌then◌else◌}
+use Rattle.std.specs.Prelude.{◌≡◌, ℕ, Bool, true, false, Option, None, Some, List, [], ◌∷◌, ◌++◌, length, filter, flat_map, max, Result, Ok, Err, if◌then◌else◌}
 use Rattle.wire_spec.specs.declared.faults.TextFault.{TextFault}
 use Rattle.wire_spec.specs.Packets.{Packet, Arrival}
 use Rattle.wire_spec.specs.Text.{text_of}
 use Rattle.stream_spec.specs.Lists.{In}
-use Rattle.stream_spec.specs.Hearing.{heard, marker}
+use Rattle.stream_spec.specs.Hearing.{marker}
 use Rattle.stream_spec.specs.History.{History, Lawful, Come, places}
 use Rattle.stream_spec.specs.Kept.{kept, texts}
-use Rattle.stream_spec.specs.Ready.{chunks}
-use Rattle.stream_spec.specs.Fronts.{IsFront, chunks_ready_by}
+use Rattle.stream_spec.specs.Fronts.{IsFront, is_ready_by}
 use Rattle.stream_spec.specs.Still.{still, still_history}
 use Rattle.mixer_spec.specs.Chunks.{texts_of}
+use Rattle.mixer_spec.specs.Pieces.{pieces}
 use Rattle.stream_spec.specs.Links.{Came, Datagram, Large, Quiet, Closed, Taken, Takes, is_closed}
-use Rattle.live_spec.specs.Told.{Former, Hearing, Told, all_by, all_former, heard_told, ready_by, told_by}
+use Rattle.live_spec.specs.Told.{Former, Hearing, Told, all_by, all_former, heard_told, ready_by, sender_chunks, sender_texts, told_by}
 
 -- ---- a leg that is not followed
 -- the packets that came of its SSRC, newest first; the greatest moment handed in; and whether the link is closed
@@ -39,12 +39,15 @@ plain_by h (a ∷ past) = plain_came h (plain_by h past) a.at a.came
 abbrev pub as_plain : Hearing → Plain → Told
 as_plain h p = record { before = []; sender = Some h.ssrc; past = p.past; moment = p.moment; closed = p.closed }
 
--- it is heard by the packets of its SSRC, as one stream
+-- it is heard by the packets of its SSRC, as one stream, in pieces
 pub record IsPlain (h : Hearing) (takes : Takes) : Type 0 where
   pub told : told_by h takes ≡ as_plain h (plain_by h takes)
-  pub all : all_by h takes ≡ chunks h.wait h.leg (still (plain_by h takes).past) h.ssrc
-  pub ready : ready_by h takes ≡ (let d = plain_by h takes in if d.closed then chunks h.wait h.leg (still d.past) h.ssrc else chunks_ready_by h.wait h.leg d.moment (still d.past) h.ssrc)
-  pub texts : heard_told h (told_by h takes) ≡ heard h.wait (still (plain_by h takes).past) h.ssrc
+  pub all : all_by h takes ≡ sender_chunks h h.ssrc (plain_by h takes).past
+  pub ready : ready_by h takes
+      ≡ (let d = plain_by h takes in
+      let cs = sender_chunks h h.ssrc d.past in
+      if d.closed then cs else filter (is_ready_by d.moment) cs)
+  pub texts : heard_told h (told_by h takes) ≡ sender_texts h h.ssrc (plain_by h takes).past
 
 -- A leg that is not followed is heard so.
 abbrev pub Unfollowed : Type 0
@@ -90,9 +93,10 @@ FormersStay =
     → IsFront (all_former h (told_by h earlier).before) (all_by h (later ++ earlier))
 
 -- ---- the first hop, sender by sender
--- Where each time that one was the sender has a history, by its number from 0: what is kept of one.
+-- Where each time that one was the sender has a history, by its number from 0: what is kept of one, in pieces.
 abbrev pub kept_of : Hearing → History → ℕ → List Arrival → List (List ℕ)
-kept_of h history ssrc past = texts (kept (still_history history) (places h.wait (still_history history) (still past)) ssrc)
+kept_of h history ssrc past =
+    flat_map (pieces h.piece) (texts (kept (still_history history) (places h.wait (still_history history) (still past)) ssrc))
 
 abbrev pub kept_last : Hearing → History → Option ℕ → List Arrival → List (List ℕ)
 kept_last h history None past = []

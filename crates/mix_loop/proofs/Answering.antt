@@ -13,14 +13,11 @@ use Rattle.mix_loop.specs.Answers.{EndsOnce, GaveAs, GivesAnswer, gave_from, gav
 use Rattle.mix_loop.specs.Items.{Gave, IsSaid, gave_more, goes_on, is_open, nothing}
 use Rattle.mix_loop.specs.Lanes.{LaneStands}
 use Rattle.mix_loop.specs.Texts.{HasText}
+use Rattle.stream_spec.proofs.Plain.{none_left as nothing_behind}
 
 by_cases : {P : Type 0} (b : Bool) → (b ≡ true → P) → (b ≡ false → P) → P
 by_cases true t f = t refl
 by_cases false t f = f refl
-
-nothing_behind : {X : Type 0} (xs ys : List X) → xs ++ ys ≡ [] → ys ≡ []
-nothing_behind [] ys e = e
-nothing_behind (x ∷ xs) ys e = absurd (cc e)
 
 module _ {F : Type 0} where
   -- ---- one answer

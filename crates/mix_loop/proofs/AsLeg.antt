@@ -5,14 +5,15 @@ use Rattle.std.proofs.lemmas.List.{map-append}
 use Rattle.stream_spec.specs.Fronts.{IsFront, is_ready_by}
 use Rattle.wire_spec.specs.Packets.{Arrival}
 use Rattle.stream_spec.specs.Hearing.{marker}
-use Rattle.stream_spec.specs.Ready.{Chunk, chunk}
+use Rattle.stream_spec.specs.Ready.{Chunk, chunk, chunks}
 use Rattle.stream_spec.specs.Still.{still}
 use Rattle.stream_spec.specs.Links.{Came, Datagram, Large, Quiet, Closed, Takes}
 use Rattle.live_spec.specs.Told.{Former, Hearing, Told, all_by, all_former, all_told, former_chunks, last_chunks, ready_by, ready_told, ready_until, sender_chunks, told_by, told_came}
 use Rattle.view_spec.specs.declared.tallies.Tally.{Tally}
 use Rattle.live_spec.specs.Tally.{tally_by, tally_came}
+use Rattle.mixer_spec.specs.Pieces.{chunks_cut, pieces}
 use Rattle.mix_loop.specs.Ports.{of_leg}
-use Rattle.mix_loop.proofs.OfLeg.{chunks_of_leg, filter_of_leg}
+use Rattle.mix_loop.proofs.OfLeg.{chunks_of_leg, cut_of_leg, filter_of_leg}
 use Rattle.live_leg.specs.LinkLegs.{Item}
 use Rattle.live_leg.specs.Items.{AreItems, text_in, texts_in}
 use Rattle.live_leg.specs.Items as item
@@ -60,15 +61,19 @@ module _ (leg : ℕ) (h : Hearing) where
       let same = tally_as past in
       came_tally (told_by (as_leg leg h) past) a.at a.came (tally_by (as_leg leg h) past) ∙ (λ ι. tally_came h (told ι) a.at a.came (same ι))
 
+  sender_as : (ssrc : ℕ) (past : List Arrival) → map (of_leg leg) (sender_chunks h ssrc past) ≡ sender_chunks (as_leg leg h) ssrc past
+  sender_as ssrc past =
+      sym (cut_of_leg (pieces h.piece) leg (chunks h.wait h.leg (still past) ssrc)) ∙ ap (λ cs. chunks_cut (pieces h.piece) cs) (chunks_of_leg leg h.leg h.wait (still past) ssrc)
+
   last_as : (sender : Option ℕ) (past : List Arrival) → map (of_leg leg) (last_chunks h sender past) ≡ last_chunks (as_leg leg h) sender past
   last_as None past = refl
-  last_as (Some ssrc) past = chunks_of_leg leg h.leg h.wait (still past) ssrc
+  last_as (Some ssrc) past = sender_as ssrc past
 
   former_as : (f : Former) → map (of_leg leg) (former_chunks h f) ≡ former_chunks (as_leg leg h) f
   former_as f =
       let cs = sender_chunks h f.ssrc f.past in
       map-append (of_leg leg) (map (ready_until f.until) cs) (chunk h.leg f.until marker ∷ [])
-      ∙ ap (λ ds. ds ++ chunk leg f.until marker ∷ []) (until_as leg f.until cs ∙ ap (map (ready_until f.until)) (chunks_of_leg leg h.leg h.wait (still f.past) f.ssrc))
+      ∙ ap (λ ds. ds ++ chunk leg f.until marker ∷ []) (until_as leg f.until cs ∙ ap (map (ready_until f.until)) (sender_as f.ssrc f.past))
 
   formers_as : (before : List Former) → map (of_leg leg) (all_former h before) ≡ all_former (as_leg leg h) before
   formers_as [] = refl

@@ -5,12 +5,9 @@ use Rattle.stream_spec.specs.Links.{Takes, Came, Datagram, Large, Quiet, Closed,
 use Rattle.live_spec.specs.Told.{Hearing, Told, told_by, told_came}
 use Rattle.live_spec.proofs.Fronts.{came_closed}
 use Rattle.mix_loop.specs.Signals.{IsOpenBefore}
+use Rattle.std.proofs.Math.Bool.{or-true as or_true}
 
 -- ---- once closed, for good
-or_true : (b : Bool) → (b || true) ≡ true
-or_true true = refl
-or_true false = refl
-
 pub stays_closed : (h : Hearing) (d : Told) (t : ℕ) (w : Came) → d.closed ≡ true → (told_came h d t w).closed ≡ true
 stays_closed h d t w e = came_closed h d t w ∙ (ap (λ (b : Bool). is_closing w || b) e ∙ or_true (is_closing w))
 

@@ -15,10 +15,11 @@ use Rattle.mix_loop.specs.Items.{Gave, is_open}
 use Rattle.mix_loop.specs.Ports.{SeatAt, hand_with, is_away}
 use Rattle.mix_loop.specs.Calm.{IsCalm, AreCalm}
 use Rattle.mix_loop.specs.Turns.{Known, desk_of, MayComeAll, IsNow, KnownAt, OffersBy, SettlesBy, comes}
-use Rattle.mix_loop.proofs.Lists.{get_at, set_still}
+use Rattle.mix_loop.proofs.Lists.{set_still}
 use Rattle.mix_loop.proofs.Places.{stopped_still, entered_still, entered_early}
 use Rattle.mix_loop.proofs.Reaching.{gone_is}
 use Rattle.mix_loop.proofs.Turning.{finds_going}
+use Rattle.stream_spec.proofs.Plain.{get_at}
 
 -- of these chunks none is ready
 none_taken : (s : Setup) (i t : ℕ) (table : Table) (hand : Option Chunk) (rest : List Chunk) → ((c : Chunk) → hand ≡ Some c → t < c.ready) → (hand ≡ None → rest ≡ [])

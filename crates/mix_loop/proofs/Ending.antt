@@ -1,5 +1,5 @@
 -- What a mixing of ports tells of their inlets.
-use Rattle.std.proofs.Common.{◌≡◌, ◌<◌, ◌≤◌, ℕ, zero, suc, inl, inr, Some, None, Option, List, [], ◌∷◌, length, map, refl, ap, sym, subst, ◌∙◌, arith}
+use Rattle.std.proofs.Common.{◌≡◌, ◌≤◌, ℕ, zero, suc, inl, inr, Some, None, Option, List, [], ◌∷◌, length, map, refl, ap, sym, subst, ◌∙◌, arith}
 use Rattle.std.specs.Prelude.{◌&&◌, filter, nat_le, slice_get}
 use Rattle.std.proofs.lemmas.List.{length-map}
 use Rattle.file_spec.specs.Stays.{is_before_end}
@@ -12,29 +12,16 @@ use Rattle.mix_loop.specs.Items.{Gave, nothing, is_open}
 use Rattle.mix_loop.specs.Mixing.{GaveAll, MixedAll, NoneGave, StayAs, part_of}
 use Rattle.mix_loop.specs.Ports.{AreNew, StaysAs, counted, of_leg}
 use Rattle.mix_loop.specs.Turns.{AllFresh, AreSound, MixedAs, TellsMixing}
-use Rattle.mix_loop.proofs.Lists.{funext, lt_or_ge}
+use Rattle.mix_loop.proofs.Lists.{lt_or_ge}
 use Rattle.mix_loop.proofs.Opening.{inlet_in}
+use Rattle.wire_spec.proofs.Plain.{get_map as map_get, map_from, funext}
+use Rattle.stream_spec.proofs.Plain.{get_at as some_at}
 
 -- ---- elements of lists
-some_at : {X : Type 0} (xs : List X) (j : ℕ) → j < length xs → (x : X) × (slice_get xs j ≡ Some x)
-some_at [] j low = absurd (omega arith)
-some_at (x ∷ xs) zero low = (x, refl)
-some_at (x ∷ xs) (suc j) low = some_at xs j (omega arith)
-
 none_at : {X : Type 0} (xs : List X) (j : ℕ) → length xs ≤ j → slice_get xs j ≡ None
 none_at [] j high = refl
 none_at (x ∷ xs) zero high = absurd (omega arith)
 none_at (x ∷ xs) (suc j) high = none_at xs j (omega arith)
-
-map_get : {X Y : Type 0} (f : X → Y) (xs : List X) (j : ℕ) (x : X) → slice_get xs j ≡ Some x → slice_get (map f xs) j ≡ Some (f x)
-map_get f [] j x e = absurd (cc e)
-map_get f (y ∷ xs) zero x e = let same : y ≡ x = cc e in ap (λ z. Some (f z)) same
-map_get f (y ∷ xs) (suc j) x e = map_get f xs j x e
-
-map_from : {X Y : Type 0} (f : X → Y) (xs : List X) (j : ℕ) (y : Y) → slice_get (map f xs) j ≡ Some y → (x : X) × (slice_get xs j ≡ Some x) × (f x ≡ y)
-map_from f [] j y e = absurd (cc e)
-map_from f (x ∷ xs) zero y e = (x, refl, cc e)
-map_from f (x ∷ xs) (suc j) y e = map_from f xs j y e
 
 -- ---- before
 module _ {I F : Type 0} where

@@ -5,6 +5,7 @@ use Rattle.live_leg.specs.LinkLegs.{Item, has_fault}
 use Rattle.live_leg.specs.Items.{signals_in}
 use Rattle.live_leg.proofs.Pacing.{fault_append}
 use Rattle.mix_loop.specs.Handed.{HasSignals, IsEnough, has_end, is_end}
+use Rattle.std.proofs.Math.Bool.{or-true as or_some}
 
 pub signals_append : (xs ys : List Item) → signals_in (xs ++ ys) ≡ signals_in xs + signals_in ys
 signals_append [] ys = omega arith
@@ -13,10 +14,6 @@ signals_append (x ∷ xs) ys = let r = signals_append xs ys in omega (arith, r)
 pub or_none : (b : Bool) → (b || false) ≡ b
 or_none true = refl
 or_none false = refl
-
-pub or_some : (b : Bool) → (b || true) ≡ true
-or_some true = refl
-or_some false = refl
 
 pub end_both : (xs ys : List Item) → has_end (xs ++ ys) ≡ (has_end xs || has_end ys)
 end_both [] ys = refl

@@ -1,8 +1,7 @@
 -- Each leg is read to its end; the lowest fault, and what a mixing tells in the end.
-use Rattle.std.proofs.Common.{◌≡◌, ◌<◌, ◌≤◌, ◌+◌, ℕ, zero, suc, true, false, true≢false, inl, inr, Some, None, Option, List, [], ◌∷◌, length, set, refl, ap, sym, subst, ◌∙◌, arith}
+use Rattle.std.proofs.Common.{◌≡◌, ◌<◌, ◌≤◌, ◌+◌, ℕ, zero, suc, true, false, true≢false, inl, inr, Some, None, Option, List, [], ◌∷◌, length, set, refl, ap, sym, subst, ◌∙◌, arith, length-set as set_length}
 use Rattle.std.specs.Prelude.{slice_get}
 use Rattle.std.proofs.lemmas.Bool.{cases_eq}
-use Rattle.file_spec.specs.declared.conference_lines.Stay.{Stay}
 use Rattle.mixer_spec.specs.Rounds.{set_at}
 use Rattle.mixer_spec.specs.Setups.{Setup}
 use Rattle.mixer_spec.specs.Table.{Table, Call}
@@ -17,9 +16,10 @@ use Rattle.mix_loop.specs.declared.turns.MixEnd.TheVariants as mixing
 use Rattle.mix_loop.specs.Items.{Gave, nothing, is_open, is_fault, fault_in}
 use Rattle.mix_loop.specs.Mixers.{At}
 use Rattle.mix_loop.specs.Ports.{MayCome, SameSeat, StaysAs, PortHolds, DrainedTo, Grows, hand_of}
-use Rattle.mix_loop.specs.Turns.{Known, all_of, Answers, AnswersAs, GrowsAll, AllAtEnd, mixing_of, KnownAt, AllKnown, TurnsTo, DrainsTo, ended_at, NoFaultBelow, IsLowestAt, GaveAt, MixedAs, TellsMixing, UnlessStopped, UnlessUnsent}
-use Rattle.mix_loop.proofs.Lists.{funext, lt_or_ge, get_within, set_length}
+use Rattle.mix_loop.specs.Turns.{Known, all_of, Answers, AnswersAs, GrowsAll, AllAtEnd, mixing_of, AllKnown, TurnsTo, DrainsTo, ended_at, NoFaultBelow, IsLowestAt, GaveAt, MixedAs, TellsMixing, UnlessStopped, UnlessUnsent}
+use Rattle.mix_loop.proofs.Lists.{lt_or_ge, get_within}
 use Rattle.mix_loop.proofs.Reaching.{known_set, back, back_may, back_all, known_on}
+use Rattle.wire_spec.proofs.Plain.{funext}
 
 -- ---- draining
 module _ {F : Type 0} (kn kn' : ℕ → Known F) (i : ℕ) (y : Known F) (o : GrowsAll kn kn') (g : Grows (kn' i).gave y.gave) where

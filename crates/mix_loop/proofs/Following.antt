@@ -1,5 +1,5 @@
 -- The calls of a live run as events of the core.
-use Rattle.std.proofs.Common.{◌≡◌, ◌<◌, ◌+◌, ℕ, suc, true, false, cond, inl, inr, Some, None, List, [], ◌∷◌, ◌++◌, length, length-append, refl, ap, sym, not, ◌∙◌, subst, append_assoc, arith}
+use Rattle.std.proofs.Common.{◌≡◌, ◌<◌, ℕ, suc, true, false, cond, inl, inr, Some, None, List, [], ◌∷◌, ◌++◌, length, length-append, refl, ap, sym, not, ◌∙◌, subst, append_assoc, arith}
 use Rattle.std.specs.Prelude.{Bool, Option, nat_le, ◌&&◌, if◌then◌else◌}
 use Rattle.std.proofs.lemmas.Bool.{cases_eq, le-leb, lt-ltb}
 use Rattle.std.proofs.lemmas.List.{append-nil}

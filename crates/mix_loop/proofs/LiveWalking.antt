@@ -9,7 +9,7 @@ use Rattle.mixer_spec.specs.Setups.{Setup}
 use Rattle.mixer_spec.specs.Table.{Admit, Call, Hush, Leave, Offer, Seats, Table, Turn, after_calls, given, has_room, is_seated}
 use Rattle.mixer_spec.specs.Calls.{turns_made}
 use Rattle.mix_loop.specs.Mixers.{TellsIdle, Turns}
-use Rattle.mix_loop.proofs.Lists.{get_set_other, get_set_same, get_within}
+use Rattle.mix_loop.proofs.Lists.{get_set_other, get_within}
 use Rattle.live_spec.specs.Live.{AllSeated, at_last}
 use Rattle.live_leg.specs.LinkLegs.{Item}
 use Rattle.live_leg.specs.Items.{signals_in}
@@ -22,6 +22,7 @@ use Rattle.mix_loop.specs.Walks.{AllGrew, AllNext, AreAt, AreOf, HasFailed, IsSe
 use Rattle.mix_loop.proofs.Advancing.{offers_append, same_grew, then_grew}
 use Rattle.mix_loop.proofs.Others.{others_at, others_blocked}
 use Rattle.mix_loop.proofs.Ordering.{ups_same}
+use Rattle.stream_spec.proofs.Plain.{get_set_same, get_at as some_there}
 
 -- ---- offers
 all_append : (s : Setup) (i : ℕ) (more offers : List Chunk) (calls : List Call) → i < s.legs → AreNext s i more (with_offers offers calls) → AllNext s offers calls → AllNext s (more ++ offers) calls
@@ -81,11 +82,6 @@ live_offers s items counts [] calls seated a l = l
 live_offers s items counts (c ∷ offers) calls seated a l = (a.0, a.1, seated_still s offers calls seated, live_offers s items counts offers calls seated a.2 l)
 
 -- ---- ports
-some_there : {X : Type 0} (xs : List X) (i : ℕ) → i < length xs → (x : X) × (slice_get xs i ≡ Some x)
-some_there [] i low = absurd (omega arith)
-some_there (y ∷ xs) zero low = (y, refl)
-some_there (y ∷ xs) (suc i) low = some_there xs i (omega arith)
-
 pub is_and : (a b : Bool) → a ≡ true → b ≡ false → (a && not b) ≡ true
 is_and true true a b = absurd (true≢false b)
 is_and true false a b = refl

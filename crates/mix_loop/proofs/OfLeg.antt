@@ -1,11 +1,12 @@
 -- Chunks as those of another leg.
-use Rattle.std.proofs.Common.{◌≡◌, ℕ, Bool, true, false, cond, Option, Some, None, List, [], ◌∷◌, ◌++◌, refl, ap, ◌∙◌}
+use Rattle.std.proofs.Common.{◌≡◌, ℕ, Bool, true, false, cond, Option, Some, None, List, [], ◌∷◌, ◌++◌, refl, ap, sym, ◌∙◌}
 use Rattle.std.specs.Prelude.{filter, map}
 use Rattle.std.proofs.lemmas.List.{map-append}
 use Rattle.wire_spec.specs.Packets.{Arrival}
 use Rattle.stream_spec.specs.Numbering.{Numbered, first_number, has_number, numbered, used}
 use Rattle.stream_spec.specs.Hearing.{is_packet_of, piece}
 use Rattle.stream_spec.specs.Ready.{Chunk, chunk, chunks, chunks_over, ready_of}
+use Rattle.mixer_spec.specs.Pieces.{chunk_pieces, chunks_cut}
 use Rattle.mix_loop.specs.Ports.{of_leg}
 
 texts_of_leg : (j p r : ℕ) (xs : List (List ℕ)) → map (of_leg j) (map (chunk p r) xs) ≡ map (chunk j r) xs
@@ -32,3 +33,14 @@ filter_of_leg q j same (c ∷ cs) = ap (λ b. cond b (of_leg j c ∷ filter q (m
     go : (b : Bool) → filter q (map (of_leg j) cs) ≡ map (of_leg j) (filter q cs) → cond b (of_leg j c ∷ filter q (map (of_leg j) cs)) (filter q (map (of_leg j) cs)) ≡ map (of_leg j) (cond b (c ∷ filter q cs) (filter q cs))
     go true e = ap (λ xs. of_leg j c ∷ xs) e
     go false e = e
+
+-- in pieces, however they are cut
+pieces_of_leg : (j : ℕ) (c : Chunk) (ts : List (List ℕ))
+    → map (λ (t : List ℕ). let d : Chunk = record { source = j; ready = c.ready; text = t } in d) ts ≡ map (of_leg j) (map (λ (t : List ℕ). let d : Chunk = record { source = c.source; ready = c.ready; text = t } in d) ts)
+pieces_of_leg j c [] = refl
+pieces_of_leg j c (t ∷ ts) = ap (λ (cs : List Chunk). record { source = j; ready = c.ready; text = t } ∷ cs) (pieces_of_leg j c ts)
+
+pub cut_of_leg : (cutting : List ℕ → List (List ℕ)) (j : ℕ) (cs : List Chunk) → chunks_cut cutting (map (of_leg j) cs) ≡ map (of_leg j) (chunks_cut cutting cs)
+cut_of_leg cutting j [] = refl
+cut_of_leg cutting j (c ∷ cs) =
+    (λ ι. pieces_of_leg j c (cutting c.text) ι ++ cut_of_leg cutting j cs ι) ∙ sym (map-append (of_leg j) (chunk_pieces cutting c) (chunks_cut cutting cs))

@@ -11,6 +11,7 @@ use Rattle.mix_loop.specs.declared.ports.SeatState.{SeatState}
 use Rattle.mix_loop.specs.declared.ports.SeatState.TheVariants.{Away, Listens, Hushed, Left}
 use Rattle.mix_loop.specs.Ports.{SeatAt, SeatsKept, is_away, seat_with}
 use Rattle.mix_loop.proofs.Lists.{set_still}
+use Rattle.mixer_spec.proofs.Plain.{freed_same as freed_still}
 
 -- ---- seats
 pub listening_is : (seat : SeatState) (over : Bool) → elim seat [ Listens ↦ over | _ ↦ false ] ≡ true → (seat ≡ Listens) × (over ≡ true)
@@ -34,9 +35,6 @@ away_is Left e = absurd (true≢false (sym e))
 -- ---- where nothing changes
 pub hushed_still : (i : ℕ) (table : Table) → table.seats.listens i ≡ false → hushed i table ≡ table
 hushed_still i table e = λ ι. record table { seats = record table.seats { listens = set_still table.seats.listens i false e ι } }
-
-pub freed_still : (i : ℕ) (table : Table) → table.seats.place i ≡ None → freed i table ≡ table
-freed_still i table e = λ ι. record table { seats = record table.seats { place = set_still table.seats.place i None e ι } }
 
 -- ---- a leg listens no more
 module _ (s : Setup) (i t : ℕ) (table : Table) where

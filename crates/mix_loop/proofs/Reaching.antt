@@ -1,5 +1,5 @@
 -- Steps of a mixing, whatever the legs still give.
-use Rattle.std.proofs.Common.{◌≡◌, ◌<◌, ℕ, Bool, true, false, true≢false, cond, not, inl, inr, Option, Some, None, List, ◌++◌, length, set, refl, ap, sym, subst, ◌∙◌, arith}
+use Rattle.std.proofs.Common.{◌≡◌, ◌<◌, ℕ, Bool, true, false, true≢false, cond, not, inl, inr, Option, Some, None, List, ◌++◌, length, set, refl, ap, sym, subst, ◌∙◌, arith, length-set as set_length}
 use Rattle.std.specs.Prelude.{◌&&◌, is_some, slice_get}
 use Rattle.std.proofs.lemmas.Bool.{cases_eq}
 use Rattle.stream_spec.specs.Ready.{Chunk, chunk_of}
@@ -17,9 +17,11 @@ use Rattle.mix_loop.specs.Items.{Gave, is_open}
 use Rattle.mix_loop.specs.Mixers.{At}
 use Rattle.mix_loop.specs.Ports.{MayCome, SeatAt, SeatsKept, Gathered, hand_of, hand_with, is_away, is_to_leave, SameSeat, PortHolds}
 use Rattle.mix_loop.specs.Turns.{Known, all_of, desk_of, MayComeAll, Reaches, Settled, KnownAt, AllKnown, IsNow, BecomesBy, comes}
-use Rattle.mix_loop.proofs.Lists.{funext, get_set_same, get_set_other, set_length}
+use Rattle.mix_loop.proofs.Lists.{get_set_other}
 use Rattle.mix_loop.proofs.Places.{gone_still}
 use Rattle.file_spec.specs.declared.conference_lines.Stay.{Stay}
+use Rattle.wire_spec.proofs.Plain.{funext}
+use Rattle.stream_spec.proofs.Plain.{get_set_same}
 
 -- ---- one step behind the other
 pub reaches_none : {F : Type 0} (kn : ℕ → Known F) (table : Table) → Reaches (λ d. d) kn table kn table

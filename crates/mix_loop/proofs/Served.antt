@@ -23,7 +23,8 @@ use Rattle.live_spec.specs.Served.{IsDrained, hearing_at}
 use Rattle.mix_loop.specs.Covers.{Covers}
 use Rattle.mix_loop.specs.Served.{BrokenIsServed, ClosedIsServed, DoneIsServed, IsOfConference}
 use Rattle.mix_loop.proofs.Draining.{covered_end}
-use Rattle.mix_loop.proofs.Serving.{serving, serving_to, some_there}
+use Rattle.mix_loop.proofs.Serving.{serving, serving_to}
+use Rattle.stream_spec.proofs.Plain.{get_at as some_there}
 
 module _ {I M : Type 0} (popped : I → List Item) (stands : M → Setup → (ℕ → PayloadTypes) → List Call → Type 0) where
   -- all of a leg was popped and taken

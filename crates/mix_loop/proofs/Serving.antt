@@ -30,6 +30,7 @@ use Rattle.mix_loop.specs.Laws.{IsAnswered, IsJoined}
 use Rattle.mix_loop.proofs.Covering.{covers, covers_by}
 use Rattle.mix_loop.proofs.CallFinding.{closed_by_more, closed_ends}
 use Rattle.mix_loop.proofs.Following.{runs_to}
+use Rattle.stream_spec.proofs.Plain.{get_at as some_there}
 
 pub answered : {L G : Type 0} (g : links.Ghosts L) (first back : LinkLeg L) (started now : Worker LinkItem (LinkLeg L) G) → IsJoined g first back started now → IsAnswered g first back now
 answered g first back started now w =
@@ -50,11 +51,6 @@ none_took s items counts (Offer c ∷ past) i l high =
     let r = none_took s items counts past i l.3 high in
     (other_took s i past c away ∙ r.0, other_hand s i past c away ∙ r.1)
 none_took s items counts (Turn now ∷ past) i l high = none_took s items (but_last counts) past i l.1 high
-
-pub some_there : {X : Type 0} (xs : List X) (i : ℕ) → i < length xs → (x : X) × (slice_get xs i ≡ Some x)
-some_there [] i low = absurd (omega arith)
-some_there (y ∷ xs) zero low = (y, refl)
-some_there (y ∷ xs) (suc i) low = some_there xs i (omega (arith, low))
 
 module _ {I M : Type 0} (popped : I → List Item) (stands : M → Setup → (ℕ → PayloadTypes) → List Call → Type 0) where
   abbrev items_at : List (LivePort I) → ℕ → List Item

@@ -20,6 +20,7 @@ use Rattle.mix_loop.proofs.Lists.{lt_or_ge}
 use Rattle.mix_loop.proofs.Reaching.{becomes_then}
 use Rattle.mix_loop.specs.declared.turns.Before.{Before}
 use Rattle.mix_loop.specs.declared.turns.TurnsEnd.{TurnsEnd}
+use Rattle.mixer_spec.proofs.Plain.{all_same}
 
 -- ---- plain mixing, cut behind what is done before a turn
 pick : (b : Bool) (x : Option Table) → cond b x None ≡ elim b as (λ b. Option Table) [ true ↦ x | false ↦ None ]
@@ -71,10 +72,6 @@ all_front p (suc n) = ap (λ b. p (suc n) && b) (all_front p n) ∙ swap (p (suc
     swap true false c = refl
     swap false true c = refl
     swap false false c = refl
-
-all_same : (p q : ℕ → Bool) (n : ℕ) → ((i : ℕ) → i < n → p i ≡ q i) → all_below p n ≡ all_below q n
-all_same p q zero h = refl
-all_same p q (suc n) h = ap (λ b. b && all_below p n) (h n (omega arith)) ∙ ap (λ b. q n && b) (all_same p q n (λ i l. h i (omega arith)))
 
 none_left : (h : Option Chunk) (r : List Chunk) → (h ≡ None → r ≡ []) → not (has_chunk (held h ++ r)) ≡ is_none h
 none_left None r e = ap (λ x. not (has_chunk x)) (e refl)

@@ -11,9 +11,10 @@ use Rattle.mix_loop.specs.Items.{Gave, is_open}
 use Rattle.mix_loop.specs.Mixers.{At}
 use Rattle.mix_loop.specs.Ports.{SeatAt, SeatsKept, StaysAs, OnlySeat, SameSeat, PortIsSound, PortHolds, Gathered, GatheredTo, hand_of, is_away, is_to_leave}
 use Rattle.mix_loop.specs.Turns.{Known, AreSound, KnownAt, IsNow, BecomesBy, GoesBy, OffersBy, Settled, comes}
-use Rattle.mix_loop.proofs.Lists.{get_there, get_within, get_set_same, get_set_other}
+use Rattle.mix_loop.proofs.Lists.{get_there, get_within, get_set_other}
 use Rattle.mix_loop.proofs.Places.{stopped_kept, departed_kept, entered_kept}
 use Rattle.mix_loop.proofs.Reaching.{seated, goes_one, comes_one, offers_one, settled_same, kept_more, no_others, becomes_none, becomes_more, known_on}
+use Rattle.stream_spec.proofs.Plain.{get_set_same}
 
 -- ---- ports that are sound
 module _ {I F : Type 0} (good : I → Type 0) where

@@ -7,7 +7,7 @@ ghost use Rattle.mix_loop.specs.Walks.{AreAt};
 use crate::{LivePort, MixerCalls, TurnsEnd, drain_all, live_inlets_of, ports_over, take_turns};
 use link_io::{Beat, Came, LinkIn, Links, MemIn, MemLinks, PlannedTake};
 use live_leg::{Leg, LegSettings, LinkItem, LinkLeg, PacedLink};
-use receiver::EarSettings;
+use receiver::{EarSettings, TextCut};
 use rtt_base::{Bytes, Chunk, Full, NoMemory, PayloadTypes};
 use rtt_io::StillGate;
 use std::alloc::Global;
@@ -167,6 +167,7 @@ const ANN: LegSettings = LegSettings {
         ssrc: 1001,
         payload_types: PayloadTypes { t140: 98, red: 100 },
         wait: 1000,
+        cut: TextCut::Long,
     },
     follow: false,
 };

@@ -18,6 +18,7 @@ use Rattle.mixer_spec.proofs.Calls.{resting, move, none_more, offer_gives, ahead
 use Rattle.mixer.specs.Allowed.{AreAllowed}
 use Rattle.mixer.proofs.Leaving.{AreAll, all_before, left_away, departed_idle}
 pub use Rattle.mixer.proofs.Leaving.{seated}
+use Rattle.mixer_spec.proofs.After.{joined_texts as texts_more}
 
 -- ---- what a call comes to: a chunk that is taken goes its whole way, and what changes nothing is no event
 abbrev pub events_of : (s : Setup) (calls : List Call) → AreAllowed s calls → List Event
@@ -114,10 +115,6 @@ pub events_law : (s : Setup) (calls : List Call) → AreAllowed s calls → AreE
 events_law s calls a = record { past = events_of s calls a; turns = turns_same s calls a; table = table_law s calls a }
 
 -- ---- what was taken
-pub texts_more : (xs ys : List Chunk) → AreTexts xs → AreTexts ys → AreTexts (xs ++ ys)
-texts_more [] ys a b = b
-texts_more (x ∷ xs) ys a b = (a.0, a.1, texts_more xs ys a.2 b)
-
 pub short_more : (xs ys : List Chunk) → AreShort xs → AreShort ys → AreShort (xs ++ ys)
 short_more [] ys a b = b
 short_more (x ∷ xs) ys a b = (a.0, short_more xs ys a.1 b)

@@ -1,9 +1,8 @@
 -- What each call of the mixer changes of what it stands for.
-use Rattle.std.proofs.Common.{◌≡◌, ℕ, ◌<◌, Bool, true, false, cond, Option, Some, None, Result, Ok, Err, List, [], ◌∷◌, ◌++◌, length, refl, ap, subst, sym, ◌∙◌, arith}
-use Rattle.std.specs.Prelude.{◌↔◌, ◌&&◌, is_some, slice_index_or, OnOk}
+use Rattle.std.proofs.Common.{◌≡◌, ℕ, ◌<◌, Bool, true, false, cond, Option, Some, None, List, [], ◌∷◌, ◌++◌, length, refl, ap, subst, sym, ◌∙◌, arith}
+use Rattle.std.specs.Prelude.{◌↔◌, ◌&&◌, is_some, slice_index_or}
 use Rattle.std.proofs.lemmas.Option.{slice_get_within}
 use Rattle.std.proofs.lemmas.Bool.{true≢false}
-use Rattle.rtt_base.specs.declared.errors.Full.{Full}
 use Rattle.stream_spec.specs.Ready.{Chunk}
 use Rattle.mixer_spec.specs.Setups.{Setup}
 use Rattle.mixer_spec.specs.Rounds.{set_at}
@@ -147,12 +146,3 @@ stands_taken s m calls c waiting all h a room x w =
     (subst (λ (t : Table). Keeps s (record m { slots = waiting; schedulers = all }) t) (sym is)
     (kept_by s m (given c.source c table) m.seating waiting all h.keeps.legs h.keeps.names h.keeps.seats x w.count (woken_stand s m.schedulers all table c.source c w h.keeps.schedulers)))
     (ap (λ (t : Table). t.media) is) refl
-
--- no room was found
-pub not_true : (b : Bool) → (b ≡ true → ⊥) → b ≡ false
-not_true true f = absurd (f refl)
-not_true false f = refl
-
-pub on_ok_of : {P Q : Type 0} (r : Result (Unit {0}) Full) → OnOk r P → (P → Q) → OnOk r Q
-on_ok_of (Ok x) p f = f p
-on_ok_of (Err x) p f = p

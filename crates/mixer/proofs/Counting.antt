@@ -6,11 +6,7 @@ use Rattle.std.proofs.lemmas.Option.{slice_get_within}
 use Rattle.terminal_scheduler.specs.declared.schedulers.TerminalScheduler.{TerminalScheduler}
 use Rattle.terminal_scheduler.specs.Schedulers.{sources_of}
 use Rattle.mixer.specs.Waking.{AreWoken}
-
-pub get_map : {A B : Type 0} (f : A → B) (xs : List A) (n : ℕ) (x : A) → slice_get xs n ≡ Some x → slice_get (map f xs) n ≡ Some (f x)
-get_map f [] n x e = absurd (cc e)
-get_map f (y ∷ ys) zero x e = let is : y ≡ x = cc e in ap (λ z. Some (f z)) is
-get_map f (y ∷ ys) (suc n) x e = get_map f ys n x e
+use Rattle.wire_spec.proofs.Plain.{get_map}
 
 -- at the place of a terminal stands its count
 pub count_there : (all : List TerminalScheduler) (n : ℕ) (o : TerminalScheduler) → slice_get all n ≡ Some o → slice_index (map sources_of all) n ≡ sources_of o

@@ -3,13 +3,13 @@ use Rattle.std.proofs.Common.{◌≡◌, ℕ, Bool, true, false, cond, inl, inr,
 use Rattle.std.specs.Prelude.{is_some, ◌&&◌}
 use Rattle.std.proofs.lemmas.Bool.{cases_eq, true≢false, and_parts, and_from}
 use Rattle.stream_spec.specs.Ready.{Chunk}
-use Rattle.mixer_spec.specs.Rounds.{set_at}
 use Rattle.mixer_spec.specs.Setups.{Setup}
 use Rattle.mixer_spec.specs.Table.{Call, Admit, Hush, Leave, Offer, Turn, Table, chunks_taken, is_seated, is_given, is_fit, span_with, has_room, given, offered, freed, free_place, come_to, may_leave, departed, after_calls}
 use Rattle.mixer_spec.specs.Calls.{took}
 use Rattle.mixer_spec.proofs.Lists.{set_same, set_other}
 use Rattle.mixer_spec.proofs.Seats.{Seated, none_seated, none_of, come_seated, free_comes, leave_with, hush_seated, free_seated}
 use Rattle.mixer.specs.Allowed.{AreAllowed}
+use Rattle.mixer_spec.proofs.Plain.{freed_same}
 
 -- ---- seats
 pub seated : (s : Setup) (calls : List Call) → AreAllowed s calls → Seated s (after_calls s calls).seats
@@ -28,16 +28,6 @@ seated s (Offer c ∷ past) a = go (has_room s c.source c (after_calls s past)) 
     go true h = h
     go false h = h
 seated s (Turn now ∷ past) a = seated s past a
-
--- ---- a leg that is told to leave and holds no place
-freed_same : (i : ℕ) (table : Table) → table.seats.place i ≡ None → freed i table ≡ table
-freed_same i table e =
-    let point : (k : ℕ) → set_at table.seats.place i None k ≡ table.seats.place k = λ k. elim (cases_eq k i) [
-      | inl q ↦ set_same table.seats.place i None k q ∙ sym (ap table.seats.place q ∙ e)
-      | inr n ↦ set_other table.seats.place i None k n
-    ] in
-    let whole : set_at table.seats.place i None ≡ table.seats.place = λ d. λ k. point k d in
-    ap (λ (f : ℕ → Option ℕ). record table { seats = record table.seats { place = f } }) whole
 
 -- ---- a leg that left
 -- it came, and holds no place

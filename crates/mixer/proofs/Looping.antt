@@ -9,7 +9,7 @@ use Rattle.mixer_spec.specs.Setups.{Setup}
 use Rattle.mixer_spec.specs.Table.{Table, turn_at, turned_to}
 use Rattle.mixer_places.specs.Lanes.{Waiting}
 use Rattle.mixer_places.specs.SlotStanding as slots
-use Rattle.mixer_places.proofs.Lists.{get_read, get_set_same}
+use Rattle.mixer_places.proofs.Lists.{get_set_same}
 use Rattle.mixer_places.specs.States as seating
 use Rattle.terminal_scheduler.specs.declared.schedulers.TerminalScheduler.{TerminalScheduler}
 use Rattle.terminal_scheduler.specs.Schedulers as schedulers
@@ -20,6 +20,7 @@ use Rattle.mixer.specs.Turns.{IsSchedulerOf, AreSchedulersOf, turned_below, post
 use Rattle.mixer.proofs.Counting.{count_there, counts_kept}
 use Rattle.mixer.proofs.Turning.{slots_turned}
 use Rattle.mixer_spec.proofs.Lists.{get_set_other}
+use Rattle.stream_spec.proofs.Plain.{get_read}
 
 -- the first n terminals had their turn
 pub record TurnedSoFar (s : Setup) (table : Table) (now t n : ℕ) (all : List TerminalScheduler) (waiting : List Waiting) (batch : List Post) : Type 0 where

@@ -7,7 +7,7 @@ use Rattle.mixer_spec.specs.Setups.{Setup, stream}
 use Rattle.mixer_spec.specs.Table.{Terminal, Seats, Table, is_seated, turn_at}
 use Rattle.mixer_spec.specs.Laws.{AreTexts}
 use Rattle.mixer_places.specs.Lanes.{Waiting}
-use Rattle.mixer_places.proofs.Lists.{get_set_same, get_read}
+use Rattle.mixer_places.proofs.Lists.{get_set_same}
 use Rattle.mixer_places.specs.States as seating
 use Rattle.mixer_places.specs.SeatStanding as seatings
 use Rattle.terminal_scheduler.specs.declared.schedulers.TerminalScheduler.{TerminalScheduler}
@@ -18,6 +18,7 @@ use Rattle.mixer.specs.declared.batches.Post.{Post}
 use Rattle.mixer.specs.Posts.{ArePosts, IsPost}
 use Rattle.mixer.specs.Turns.{turned_below, IsPut, Reaches, LegMayTurn, LegTurned}
 use Rattle.mixer.proofs.Turning.{seats_below, still_there, no_turn, reach_past, reach_more}
+use Rattle.stream_spec.proofs.Plain.{get_read}
 
 -- ---- the batch
 pub len_is : (items : List Post) (len : ℕ) (old : List Post) → old ≡ take len items → length items ≡ 16 → len ≤ 16 → length old ≡ len

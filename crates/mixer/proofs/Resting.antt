@@ -1,17 +1,15 @@
 -- A turn at which no terminal changes.
-use Rattle.std.proofs.Common.{◌≡◌, ℕ, zero, suc, ◌+◌, ◌<◌, Bool, true, false, inl, inr, Some, List, [], ◌∷◌, ◌++◌, length, refl, ap, subst, sym, ◌∙◌, arith}
-use Rattle.std.specs.Prelude.{is_some, map, slice_get}
+use Rattle.std.proofs.Common.{◌≡◌, ℕ, zero, suc, ◌+◌, ◌<◌, Bool, true, false, inl, inr, List, [], ◌++◌, refl, ap, subst, sym, ◌∙◌, arith}
+use Rattle.std.specs.Prelude.{is_some, map}
 use Rattle.std.proofs.lemmas.Bool.{cases_lt}
 use Rattle.mixer_spec.specs.Setups.{Setup}
 use Rattle.mixer_spec.specs.Table.{TurnEntry, Terminal, Table, is_seated, turn_at, turned_to}
 use Rattle.mixer_spec.proofs.Lists.{nil}
 use Rattle.mixer_places.specs.Lanes.{Waiting}
-use Rattle.mixer_places.specs.SlotStanding as slots
 use Rattle.mixer_places.proofs.Sources.{stands_same}
 use Rattle.mixer_places.specs.declared.seats.Seat.{Seat}
 use Rattle.mixer_places.specs.Places.{has_place, place_on}
 use Rattle.mixer_places.specs.States as seating
-use Rattle.mixer_places.specs.SeatStanding as seatings
 use Rattle.terminal_scheduler.specs.declared.schedulers.TerminalScheduler.{TerminalScheduler}
 use Rattle.terminal_scheduler.specs.Schedulers as schedulers
 use Rattle.terminal_scheduler.specs.Turns.{new_entry}
@@ -20,12 +18,7 @@ use Rattle.mixer.specs.Calm.{AreCalmBefore}
 use Rattle.mixer.specs.Turns.{AreSchedulersOf, posts_between, post_of, AllMayTurn, AllTurned}
 use Rattle.mixer.proofs.Few.{none_new}
 use Rattle.mixer.proofs.Turning.{no_turn, not_seated}
-
--- an index within a list has an element
-get_at : {X : Type 0} (xs : List X) (i : ℕ) → i < length xs → (x : X) × (slice_get xs i ≡ Some x)
-get_at [] i low = absurd (omega arith)
-get_at (y ∷ xs) zero low = (y, refl)
-get_at (y ∷ xs) (suc i) low = get_at xs i (omega (arith, low))
+use Rattle.stream_spec.proofs.Plain.{get_at}
 
 module _ (s : Setup) (table : Table) (now t : ℕ) (all : List TerminalScheduler) (places : seating.State) (waiting : List Waiting) (called : List (List ℕ)) (may : AllMayTurn s table now t all places waiting called) (calm : ℕ) (early : t < calm) (are : AreCalmBefore calm places all) where
   -- who holds a place in the table holds one

@@ -39,8 +39,8 @@ within_step g n l = go (nat_le g 2)
     go false = l
 
 -- the last of what was sent could be sent
-last_is_next : (s : Setup) → gap s ≤ 5000 → (j k t : ℕ) (e : TurnEntry) (past : List TurnEntry) → s.step * k < 2 ^ 31 → Paced s j k (Some t) (e ∷ past) → IsNext (stream s j) (sents past) e.sent
-last_is_next s near j k t e past span p = record {
+last_is_next : (s : Setup) → IsSetup s → gap s ≤ 5000 → (j k t : ℕ) (e : TurnEntry) (past : List TurnEntry) → s.step * k < 2 ^ 31 → Paced s j k (Some t) (e ∷ past) → IsNext (stream s j) (sents past) e.sent
+last_is_next s is near j k t e past span p = record {
   later = λ x i. let r = sent_in past x i in
       let l = p.falling.0 r.0 r.1 in
       let a = p.within r.0 (inr r.1) in
@@ -48,7 +48,7 @@ last_is_next s near j k t e past span p = record {
       let m : x.media ≡ r.0.sent.media = ap (λ (y : Sent). y.media) r.2 in
       (omega (arith, l, m), omega (arith, a, b, m, span));
   near = near_last (s.generations j) (gap s) (longest_step (s.generations j)) e.sent.media (sent_of e.sent.source (sents past)) (within_step (s.generations j) (gap s) near) own.0;
-  text = p.texts e (inl refl);
+  text = let t = p.texts e (inl refl) in (omega (arith, t.0, (is.rooms j).1), t.1);
 }
   where
     own : Tight (s.generations j) (gap s) (e.sent ∷ sent_of e.sent.source (sents past))
@@ -69,7 +69,7 @@ pub any_law : (s : Setup) (calls : List Call) (now j : ℕ) → MayTurn s calls
     → let w = after_calls s calls in
     SendsNext (stream s j) (w.terminals j).past (turn_at s w.seats j now (next_media s.step w.media now) (w.terminals j)).past
 any_law s calls now j m e q = elim (cases_lt j s.legs) [
-  | inl l ↦ last_is_next s m.near j (suc (turns_made calls)) t e (w.terminals j).past span (subst (Paced s j (suc (turns_made calls)) (Some t)) q (then.timed j l).paced)
+  | inl l ↦ last_is_next s m.setup m.near j (suc (turns_made calls)) t e (w.terminals j).past span (subst (Paced s j (suc (turns_made calls)) (Some t)) q (then.timed j l).paced)
   | inr l ↦ absurd (longer e (w.terminals j).past (sym (ap (λ (d : Terminal). d.past) (none_there s w.seats j now t (w.terminals j) (seated s calls m.allowed) l)) ∙ q))
 ]
   where

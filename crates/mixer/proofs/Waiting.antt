@@ -20,7 +20,6 @@ use Rattle.unaware_view.specs.Standing.{least_ask}
 use Rattle.mixer.specs.Allowed.{AreAllowed}
 use Rattle.mixer.proofs.Allowing.{events_law, good_taken}
 use Rattle.mixer.proofs.Sending.{good}
-use Rattle.rtt_base.specs.declared.limits.TheConstants.{MOST_TEXT_OCTETS}
 
 -- ---- nothing of its own waits at a terminal
 abbrev NoneOwn : Table → Type 0
@@ -42,11 +41,11 @@ rest_own waits u j cs rest f e = elim (cases_eq j u) [
   | inr n ↦ set_other waits u rest j n ∙ e
 ]
 
-serve_leg_own : (s : Setup) (j now t p : ℕ) (d : Terminal) (o : Option ℕ) → d.waits j ≡ [] → (serve_leg s now t d p o).waits j ≡ []
+serve_leg_own : (s : Setup) (j now t p : ℕ) (d : Terminal) (o : Option ℕ) → d.waits j ≡ [] → (serve_leg s j now t d p o).waits j ≡ []
 serve_leg_own s j now t p d None e = e
-serve_leg_own s j now t p d (Some u) e = rest_own d.waits u j (front MOST_TEXT_OCTETS (d.waits u)) (behind MOST_TEXT_OCTETS (d.waits u)) (Rattle.mixer_spec.proofs.Kept.front_behind MOST_TEXT_OCTETS (d.waits u)) e
+serve_leg_own s j now t p d (Some u) e = rest_own d.waits u j (front (s.room j) (d.waits u)) (behind (s.room j) (d.waits u)) (Rattle.mixer_spec.proofs.Kept.front_behind (s.room j) (d.waits u)) e
 
-serve_own : (s : Setup) (seats : Seats) (j now t : ℕ) (d : Terminal) (o : Option ℕ) → d.waits j ≡ [] → (serve s seats now t d o).waits j ≡ []
+serve_own : (s : Setup) (seats : Seats) (j now t : ℕ) (d : Terminal) (o : Option ℕ) → d.waits j ≡ [] → (serve s seats j now t d o).waits j ≡ []
 serve_own s seats j now t d None e = e
 serve_own s seats j now t d (Some p) e = serve_leg_own s j now t p d (leg_in seats s.legs p) e
 
@@ -146,11 +145,11 @@ asked_later s l (Some m) now asks e = let n = next_is s.step (Some m) now l in o
 turn_asked : (s : Setup) (seats : Seats) (j now t : ℕ) (d : Terminal) → least_ask d.asks ≤ t → least_ask (turn_at s seats j now t d).asks ≤ t + 1
 turn_asked s seats j now t d e = go (is_seated seats j) (s.aware j)
   where
-    serve_leg_is : (p : ℕ) (o : Option ℕ) → least_ask (serve_leg s now t d p o).asks ≤ t + 1
+    serve_leg_is : (p : ℕ) (o : Option ℕ) → least_ask (serve_leg s j now t d p o).asks ≤ t + 1
     serve_leg_is p None = omega (arith, e)
     serve_leg_is p (Some u) = omega (arith, e)
 
-    serve_is : (o : Option ℕ) → least_ask (serve s seats now t d o).asks ≤ t + 1
+    serve_is : (o : Option ℕ) → least_ask (serve s seats j now t d o).asks ≤ t + 1
     serve_is None = omega (arith, e)
     serve_is (Some p) = serve_leg_is p (leg_in seats s.legs p)
 

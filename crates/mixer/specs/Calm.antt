@@ -7,4 +7,5 @@ use Rattle.terminal_scheduler.specs.Schedulers.{IsCalmBefore}
 
 -- at each whose leg holds a place no turn before this media time changes anything
 abbrev pub AreCalmBefore : ℕ → State → List TerminalScheduler → Type 0
-AreCalmBefore calm seating all = (j : ℕ) (o : TerminalScheduler) → slice_get all j ≡ Some o → has_place seating j ≡ true → IsCalmBefore calm o
+AreCalmBefore calm seating all = (j : ℕ) (o : TerminalScheduler) → slice_get all j ≡ Some o
+    → has_place seating j ≡ true → IsCalmBefore calm o

@@ -149,7 +149,8 @@ abbrev pub DueAreServed : Type 0
 DueAreServed = WhereDue (λ s before es j i q p now.
     let w = after_calls s before in
     let v = after_calls s (es ++ Turn now ∷ before) in
-    other_places s ≤ turns_made (es ++ Turn now ∷ []) → count_of i (w.terminals j).past < count_of i (v.terminals j).past)
+    other_places s ≤ turns_made (es ++ Turn now ∷ [])
+    → count_of i (w.terminals j).past < count_of i (v.terminals j).past)
 
 -- it was served again, or each turn brought it nearer
 abbrev pub DueComeNearer : Type 0

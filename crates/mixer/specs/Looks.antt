@@ -1,4 +1,4 @@
--- What outlets and slots tell of the tables for which they stand.
+-- What schedulers and slots tell of the tables for which they stand.
 use Rattle.std.specs.Prelude.{◌≡◌, ◌==◌, ◌||◌, not, ℕ, Bool, Some, List, slice_get}
 use Rattle.mixer_spec.specs.Setups.{Setup}
 use Rattle.mixer_spec.specs.Table.{Table, Terminal, has_work}
@@ -14,7 +14,8 @@ AreAll legs all = (j : ℕ) (o : TerminalScheduler) → slice_get all j ≡ Some
 
 -- of each such table
 abbrev pub OfTables : List TerminalScheduler → List Waiting → (Setup → Table → Type 0) → Type 0
-OfTables all waiting P = (s : Setup) (table : Table) → AreSchedulers s all table.terminals → slots.SlotsStandFor s waiting table → P s table
+OfTables all waiting P = (s : Setup) (table : Table) → AreSchedulers s all table.terminals
+    → slots.SlotsStandFor s waiting table → P s table
 
 -- the terminal j is the leg's own, or nothing of the leg waits or is to be repeated there
 abbrev pub is_free_of : Setup → ℕ → ℕ → Terminal → Bool

@@ -12,4 +12,5 @@ ArePosts sources posts = All (IsPost sources) posts
 
 -- what is put behind these is to the terminal of that leg, which has so many sources, if anything is
 abbrev pub KeepsPosts : (leg count : ℕ) → List Post → List Post → Type 0
-KeepsPosts leg count old new = (sources : List ℕ) → leg < length sources → slice_index sources leg ≡ count → ArePosts sources old → ArePosts sources new
+KeepsPosts leg count old new = (sources : List ℕ) → leg < length sources → slice_index sources leg ≡ count
+    → ArePosts sources old → ArePosts sources new

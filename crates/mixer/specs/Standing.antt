@@ -13,7 +13,8 @@ use Rattle.rtt_base.specs.declared.limits.TheConstants.{LONGEST_STEP}
 
 -- each stands for the terminal of its leg
 abbrev pub AreSchedulers : Setup → List TerminalScheduler → (ℕ → Terminal) → Type 0
-AreSchedulers s all terminals = (j : ℕ) (o : TerminalScheduler) → slice_get all j ≡ Some o → schedulers.SchedulerStandsFor s j o (terminals j)
+AreSchedulers s all terminals = (j : ℕ) (o : TerminalScheduler) → slice_get all j ≡ Some o
+    → schedulers.SchedulerStandsFor s j o (terminals j)
 
 -- The parts of the mixer stand for those of the table, and the names are those of the legs.
 pub record Keeps (s : Setup) (m : State) (table : Table) : Type 0 where
@@ -39,4 +40,5 @@ MixerTells m P = (s : Setup) (calls : List Call) → MixerStandsFor s m calls �
 
 -- from all calls for which it stood to these and one call more, where that is allowed
 abbrev pub LeadsByCall : State → State → Call → Type 0
-LeadsByCall old new call = (s : Setup) (calls : List Call) → MixerStandsFor s old calls → AreAllowed s (call ∷ calls) → MixerStandsFor s new (call ∷ calls)
+LeadsByCall old new call = (s : Setup) (calls : List Call) → MixerStandsFor s old calls
+    → AreAllowed s (call ∷ calls) → MixerStandsFor s new (call ∷ calls)

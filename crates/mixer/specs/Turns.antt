@@ -16,7 +16,7 @@ use Rattle.mixer.specs.States.{State}
 use Rattle.mixer.specs.Standing as mixers
 use Rattle.mixer.specs.Standing.{AreSchedulers}
 
--- ---- outlets
+-- ---- schedulers
 -- the terminal_scheduler of the leg j, of so many legs, whose next turn may have this media time
 pub record IsSchedulerOf (legs media j : ℕ) (o : TerminalScheduler) : Type 0 where
   pub own : own_of o ≡ j
@@ -24,7 +24,8 @@ pub record IsSchedulerOf (legs media j : ℕ) (o : TerminalScheduler) : Type 0 w
   pub next : next_turn o ≤ media
 
 abbrev pub AreSchedulersOf : ℕ → ℕ → List TerminalScheduler → Type 0
-AreSchedulersOf legs media all = (j : ℕ) (o : TerminalScheduler) → slice_get all j ≡ Some o → IsSchedulerOf legs media j o
+AreSchedulersOf legs media all = (j : ℕ) (o : TerminalScheduler) → slice_get all j ≡ Some o
+    → IsSchedulerOf legs media j o
 
 -- ---- what a turn rests on
 -- each place that is held is one of the mixer's, and one of its legs holds it
@@ -112,7 +113,8 @@ pub record AllTurned (s : Setup) (table : Table) (now t : ℕ) (all : List Termi
   pub posts : batch ≡ posts_between s table (turned_to s now t table) s.legs
 
 -- of all mixers that have these parts
-abbrev pub OfMixers : List TerminalScheduler → seating.State → List Waiting → List (List ℕ) → ℕ → (Setup → Table → ℕ → Type 0) → Type 0
+abbrev pub OfMixers : List TerminalScheduler → seating.State → List Waiting → List (List ℕ) → ℕ
+    → (Setup → Table → ℕ → Type 0) → Type 0
 OfMixers all places waiting called t P =
     (s : Setup) (table : Table) (now : ℕ) → AllMayTurn s table now t all places waiting called → P s table now
 

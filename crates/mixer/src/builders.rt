@@ -1,14 +1,19 @@
 //! What a mixer is made of.
-ghost use Rattle.std.specs.Prelude.{◌≡◌, ◌<◌, IfOk, length, map};
-ghost use Rattle.mixer_spec.specs.Setups.{Setup, setup};
+ghost use Rattle.std.specs.Prelude.{◌≡◌, ◌<◌, ◌≤◌, IfOk, length, map};
+ghost use Rattle.std.specs.Option.{ForSome};
+ghost use Rattle.mixer_spec.specs.Rooms.{room_within};
+ghost use Rattle.mixer_spec.specs.Setups.{IsRoom, Setup, setup};
 ghost use Rattle.mixer_spec.specs.Table.{empty};
 ghost use Rattle.mixer_places.specs.SlotStanding as slots;
 ghost use Rattle.file_spec.specs.Conferences.{meaning_of};
+ghost use Rattle.file_spec.specs.Kept.{IsMtu};
 ghost use Rattle.file_spec.specs.Speakers.{AreNamed};
 ghost use Rattle.mixer.specs.Making.{AreMade, IsMade};
+ghost use Rattle.file_spec.specs.declared.limits.TheConstants.{MOST_GENERATIONS};
 
 use file_spec::{Conference, LegLine, name_of};
 use mixer_places::Slots;
+use rtt_base::limits::MOST_TEXT_OCTETS;
 use rtt_base::{Name, NoMemory};
 use std::alloc::Global;
 use terminal_scheduler::TerminalScheduler;
@@ -37,6 +42,22 @@ pub fn silent_slots(alloc: Global, legs: usize) -> Result<Slots, NoMemory>
     Ok(slots)
 }
 
+/// How many octets each text may have to a terminal to which so many are repeated, where a packet has at most so many, if that
+/// is said.
+fn room_of(mtu: Option<u32>, generations: u8) -> usize
+    requires mtu { ForSome mtu (λ n. IsMtu n) }
+    requires few { generations ≤ MOST_GENERATIONS }
+    ensures value { result ≡ room_within mtu generations }
+    ensures room { IsRoom result }
+{
+    let Some(most) = mtu else {
+        return MOST_TEXT_OCTETS;
+    };
+    let repeats = usize::from(generations);
+    let texts = most as usize - (17 + 4 * repeats);
+    MOST_TEXT_OCTETS.min(texts / (repeats + 1))
+}
+
 /// The terminal_scheduler of the terminal of the leg with this number.
 fn scheduler_of(
     alloc: Global,
@@ -47,12 +68,14 @@ fn scheduler_of(
     ensures { IfOk result (λ o. IsMade (meaning_of conference.now) own o) }
 {
     let leg = &conference.legs.as_slice()[own];
+    let room = room_of(conference.mtu, leg.generations);
     TerminalScheduler::new(
         alloc,
         leg.aware,
         leg.generations,
         conference.legs.len(),
         own,
+        room,
         conference.spacing,
         conference.relabel,
     )

@@ -1,4 +1,4 @@
-//! The mixer's turn (profile).
+//! The mixer of a conference (profile): calls that bring legs in and offer texts, and a turn that says what is sent to whom.
 #![tactic(auto)]
 
 mod batches;

@@ -18,8 +18,8 @@ use terminal_scheduler::TerminalScheduler;
 /// The most that media time rises by in a turn, in milliseconds (profile).
 const STEP: u64 = 200;
 
-/// One turn of the terminal of this leg, which holds a place: answers of which source text is sent, if any is; `post` is the
-/// rest of what is sent then.
+/// One turn of the terminal of this leg, which holds a place. The answer is the source whose text is sent, if one is; the rest of
+/// what is sent is put into `post`.
 fn turn_into(
     post: &mut Post,
     leg: usize,

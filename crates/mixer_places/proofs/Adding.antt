@@ -6,16 +6,13 @@ use Rattle.std.proofs.lemmas.List.{map-append}
 use Rattle.stream_spec.specs.Ready.{Chunk}
 use Rattle.mixer_spec.specs.Chunks.{joined}
 use Rattle.mixer_spec.specs.Table.{Taken, chunks_taken}
-use Rattle.mixer_spec.specs.Laws.{AllGiven}
 use Rattle.mixer_places.specs.declared.parts.Part.{Part}
 use Rattle.mixer_places.specs.Rings.{pushed}
 use Rattle.mixer_places.specs.Lanes.{Waiting}
 use Rattle.mixer_places.specs.SlotStanding.{kept_of, IsPart, SlotHolds}
-use Rattle.mixer_places.proofs.Sizes.{same_chunks, joined_taken, taken_append}
-
-given_last : (b : Bool) (j : ℕ) (xs : List Taken) (x : Taken) → AllGiven b j xs → x.given j ≡ b → AllGiven b j (xs ++ x ∷ [])
-given_last b j [] x h e = (e, tt)
-given_last b j (y ∷ ys) x h e = (h.0, given_last b j ys x h.1 e)
+use Rattle.mixer_places.proofs.Sizes.{same_chunks, joined_taken}
+use Rattle.mixer_spec.proofs.Parts.{given_last}
+use Rattle.mixer_spec.proofs.Shares.{chunks_append as taken_append}
 
 part_added : (j : ℕ) (l : Bool) (ws : List Chunk) (kept : List Taken) (p : Part) (x : Taken) → IsPart j l ws kept p → x.given j ≡ l
     → IsPart j l (if l then ws ++ x.chunk ∷ [] else ws) (kept ++ x ∷ []) p

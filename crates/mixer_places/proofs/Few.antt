@@ -11,7 +11,8 @@ use Rattle.mixer_places.specs.declared.seats.Seat.{Seat}
 use Rattle.mixer_places.specs.Places.{is_vacant, place_on, has_place}
 use Rattle.mixer_places.specs.States.{State}
 use Rattle.mixer_places.proofs.Keeping.{all_same}
-use Rattle.mixer_spec.proofs.Lists.{get_set_same, get_set_other}
+use Rattle.mixer_spec.proofs.Lists.{get_set_other}
+use Rattle.stream_spec.proofs.Plain.{get_set_same}
 
 -- ---- the place of each seat is held by its leg
 -- each of these seats whose place is known is there

@@ -14,8 +14,9 @@ use Rattle.mixer_places.specs.Rings.{Chunks, IsPlace, end_of}
 use Rattle.mixer_places.specs.Lanes.{Waiting, part_end, part_heard}
 use Rattle.mixer_places.specs.LaneInsides.{IsLane, waiting_in}
 use Rattle.mixer_places.specs.SlotStanding.{kept_of, place_of, IsPart, SlotHolds}
-use Rattle.mixer_places.proofs.Lists.{get_set_same, get_read}
+use Rattle.mixer_places.proofs.Lists.{get_set_same}
 use Rattle.mixer_places.proofs.Sizes.{joined_size, end_is, is_place, octets_taken, has_chunk_is}
+use Rattle.stream_spec.proofs.Plain.{get_read}
 
 -- ---- parts
 pub part_same : (j : ℕ) (l m : Bool) (ws vs : List Chunk) (kept : List Taken) (p : Part) → m ≡ l → vs ≡ ws → IsPart j l ws kept p → IsPart j m vs kept p

@@ -5,7 +5,7 @@ use Rattle.std.proofs.lemmas.Bool.{cases_eq, ne_eqb}
 use Rattle.std.proofs.lemmas.Option.{slice_get_within, slice_get-get_or, unwrap_or-slice_get}
 use Rattle.mixer_spec.specs.Rounds.{first_from, set_at}
 use Rattle.mixer_spec.proofs.Rounds.{first_some}
-use Rattle.mixer_spec.proofs.Lists.{set_same, set_other, get_set_same, get_set_other}
+use Rattle.mixer_spec.proofs.Lists.{set_same, set_other, get_set_other}
 use Rattle.mixer_spec.proofs.Seats.{leg_in_found, leg_in_some}
 use Rattle.mixer_spec.specs.Setups.{Setup}
 use Rattle.mixer_spec.specs.Table.{Seats, Table, no_seats, is_at, leg_in, is_free, free_place, come_to, admitted, hushed, freed}
@@ -13,8 +13,8 @@ use Rattle.mixer_places.specs.declared.seats.Seat.{Seat}
 use Rattle.mixer_places.specs.States.{State}
 use Rattle.mixer_places.specs.Places.{is_vacant}
 use Rattle.mixer_places.specs.SeatStanding.{SeatingStandsFor, seat_of}
+use Rattle.stream_spec.proofs.Plain.{get_set_same}
 
--- ---- lists
 -- ---- what holds of all places
 pub places_set : (xs : List Seat) (i : ℕ) (y : Seat) → ((k : ℕ) (x : Seat) (p : ℕ) → slice_get xs k ≡ Some x → x.place ≡ Some p → p < 16) → ((p : ℕ) → y.place ≡ Some p → p < 16)
     → (k : ℕ) (x : Seat) (p : ℕ) → slice_get (set xs i y) k ≡ Some x → x.place ≡ Some p → p < 16

@@ -1,15 +1,10 @@
 -- Small facts on lists.
-use Rattle.std.proofs.Common.{◌≡◌, ℕ, zero, suc, ◌+◌, ◌-◌, ◌<◌, ◌≤◌, min, inl, inr, List, [], ◌∷◌, ◌++◌, length, map, set, take, drop, refl, ap, sym, ◌∙◌, arith, rules, Result, Ok, Err, Option, Some, get_or}
-use Rattle.std.specs.Prelude.{slice_get, slice_index, sum, unwrap_or, IsOk, OnOk}
+use Rattle.std.proofs.Common.{◌≡◌, ℕ, zero, suc, ◌+◌, ◌-◌, ◌≤◌, min, inl, inr, List, [], ◌∷◌, ◌++◌, length, map, set, take, drop, refl, ap, sym, ◌∙◌, arith, Option, Some}
+use Rattle.std.specs.Prelude.{slice_get, slice_index, sum, unwrap_or}
 use Rattle.std.proofs.lemmas.Option.{unwrap_or-slice_get}
 use Rattle.std.proofs.lemmas.List.{take_all, drop_min, length-drop}
 use Rattle.std.proofs.lemmas.List.Sums.{sum_by-take-drop}
 use Rattle.std.proofs.lemmas.Bool.{cases_lt}
-
--- what holds where it went well, and it did
-pub on_ok : {T E P : Type 0} (r : Result T E) → IsOk r → OnOk r P → P
-on_ok (Ok x) i p = p
-on_ok (Err x) i p = absurd (search (rules, i))
 
 pub number_at : (xs : List ℕ) (i : ℕ) (o : Option ℕ) → o ≡ slice_get xs i → unwrap_or o 0 ≡ slice_index xs i
 number_at xs i o e = ap (λ (p : Option ℕ). unwrap_or p 0) e ∙ unwrap_or-slice_get xs i 0
@@ -56,14 +51,3 @@ pub get_map : {X Y : Type 0} (f : X → Y) (xs : List X) (i : ℕ) (y : Y) → s
 get_map f [] i y e = absurd (cc e)
 get_map f (x ∷ xs) zero y e = (x, refl, cc e)
 get_map f (x ∷ xs) (suc i) y e = get_map f xs i y e
-
-pub get_within : {X : Type 0} (xs : List X) (i : ℕ) → i < length xs → (x : X) × (slice_get xs i ≡ Some x)
-get_within [] i l = absurd (omega arith)
-get_within (x ∷ xs) zero l = (x, refl)
-get_within (x ∷ xs) (suc i) l = get_within xs i (omega arith)
-
--- what was read at an index
-pub get_read : {X : Type 0} (xs : List X) (i : ℕ) (x : X) → i < length xs → x ≡ get_or xs i x → slice_get xs i ≡ Some x
-get_read [] i x l e = absurd (omega arith)
-get_read (y ∷ xs) zero x l e = ap Some (sym e)
-get_read (y ∷ xs) (suc i) x l e = get_read xs i x (omega arith) e

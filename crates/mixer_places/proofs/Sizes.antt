@@ -1,8 +1,7 @@
 -- How many octets chunks have, one behind the other, and the places between them.
-use Rattle.std.proofs.Common.{◌≡◌, ℕ, suc, ◌+◌, ◌-◌, ◌≤◌, Bool, true, false, cond, inl, inr, List, [], ◌∷◌, ◌++◌, length, length-append, map, take, drop, append_assoc, refl, ap, sym, ◌∙◌, arith}
+use Rattle.std.proofs.Common.{◌≡◌, ℕ, suc, ◌+◌, ◌-◌, ◌≤◌, Bool, true, false, cond, inl, inr, List, [], ◌∷◌, ◌++◌, length, length-append, map, take, drop, refl, ap, sym, ◌∙◌, arith}
 use Rattle.std.specs.Prelude.{sum, nat_le, nat_lt}
 use Rattle.std.proofs.lemmas.List.{map-append, length-map, take-append-le, take-map}
-use Rattle.std.proofs.lemmas.List.Sums.{sum_by-append}
 use Rattle.std.proofs.lemmas.Bool.{cases_lt, lt-ltb, le-ltb}
 use Rattle.std.proofs.Math.Seq.{take-append_seam, drop-append_seam}
 use Rattle.stream_spec.specs.Ready.{Chunk}
@@ -12,31 +11,21 @@ use Rattle.mixer_places.specs.declared.rings.RingPosition.{RingPosition}
 use Rattle.mixer_places.specs.Rings.{Chunks, IsPlace, end_of, chunks_between, count_fitting}
 use Rattle.mixer_places.specs.SlotStanding.{kept_of, place_of}
 use Rattle.mixer_places.proofs.Fronts.{fits_more, fits_none}
+use Rattle.mixer_spec.proofs.Shares.{chunks_append as taken_append}
+pub use Rattle.mixer_spec.proofs.Plain.{joined_append}
+use Rattle.mixer_spec.proofs.Plain.{octets_append}
+use Rattle.stream_spec.proofs.Plain.{sum_cons}
 
 abbrev pub lengths_of : List Taken → List ℕ
 lengths_of xs = map (λ x. length x.chunk.text) xs
-
-pub sum_cons : (n : ℕ) (ns : List ℕ) → sum (n ∷ ns) ≡ n + sum ns
-sum_cons n ns = omega (arith, sum_by-append (λ x. x) (n ∷ []) ns)
-
-pub joined_append : (cs ds : List Chunk) → joined (cs ++ ds) ≡ joined cs ++ joined ds
-joined_append [] ds = refl
-joined_append (c ∷ cs) ds = ap (λ (l : List ℕ). c.text ++ l) (joined_append cs ds) ∙ sym (append_assoc c.text (joined cs) (joined ds))
 
 pub joined_size : (cs : List Chunk) → length (joined cs) ≡ octets cs
 joined_size [] = refl
 joined_size (c ∷ cs) = omega (arith, length-append c.text (joined cs), joined_size cs)
 
-pub octets_append : (cs ds : List Chunk) → octets (cs ++ ds) ≡ octets cs + octets ds
-octets_append [] ds = omega arith
-octets_append (c ∷ cs) ds = omega (arith, octets_append cs ds)
-
 pub sum_lengths : (xs : List Taken) → sum (lengths_of xs) ≡ octets (chunks_taken xs)
 sum_lengths [] = refl
 sum_lengths (x ∷ xs) = omega (arith, sum_cons (length x.chunk.text) (lengths_of xs), sum_lengths xs)
-
-pub taken_append : (xs ys : List Taken) → chunks_taken (xs ++ ys) ≡ chunks_taken xs ++ chunks_taken ys
-taken_append xs ys = map-append (λ (x : Taken). x.chunk) xs ys
 
 pub octets_taken : (xs ys : List Taken) → octets (chunks_taken (xs ++ ys)) ≡ octets (chunks_taken xs) + octets (chunks_taken ys)
 octets_taken xs ys = ap octets (taken_append xs ys) ∙ octets_append (chunks_taken xs) (chunks_taken ys)

@@ -1,5 +1,5 @@
 -- All sources together.
-use Rattle.std.proofs.Common.{◌≡◌, ℕ, zero, suc, ◌+◌, ◌<◌, ◌≤◌, ◌⊎◌, inl, inr, Bool, true, false, Some, List, [], ◌∷◌, ◌++◌, length, set, refl, ap, subst, sym, ◌∙◌, arith}
+use Rattle.std.proofs.Common.{◌≡◌, ℕ, ◌+◌, ◌<◌, ◌≤◌, inl, inr, Bool, true, false, Some, List, [], ◌∷◌, ◌++◌, length, set, refl, ap, subst, sym, ◌∙◌, arith}
 use Rattle.std.specs.Prelude.{slice_get, not, ◌&&◌, ◌==◌, if◌then◌else◌}
 use Rattle.std.proofs.lemmas.Bool.{cases_eq}
 use Rattle.std.proofs.lemmas.List.{length-set}
@@ -15,6 +15,8 @@ use Rattle.mixer_places.specs.Words.{all_listen, listening, take_front, fetched,
 use Rattle.mixer_places.specs.SlotStanding.{SlotHolds, SourceStands, SlotsStandFor}
 use Rattle.mixer_places.proofs.Lists.{get_set_same}
 use Rattle.mixer_places.proofs.Holding.{part_same}
+use Rattle.stream_spec.proofs.Typing.{and_second as right_of}
+use Rattle.stream_spec.proofs.Plain.{get_push}
 
 pub holds_same : (w : Waiting) (taken us : List Taken) (listens ms : ℕ → Bool) (waits vs : ℕ → List Chunk) → SlotHolds w taken listens waits → us ≡ taken → ((j : ℕ) → ms j ≡ listens j) → ((j : ℕ) → vs j ≡ waits j) → SlotHolds w us ms vs
 holds_same w taken us listens ms waits vs h e f g = record {
@@ -161,10 +163,6 @@ waits_same j true waits x f = elim (cases_eq x j) [
 ]
 waits_same j false waits x f = refl
 
-pub right_of : (a b : Bool) → (a && b) ≡ true → b ≡ true
-right_of true b e = e
-right_of false b e = cc e
-
 pub stands_told : (s : Setup) (old new : List Waiting) (table : Table) (j : ℕ) (on : Bool) → SlotsStandFor s old table → Told j on (length old) old new → (on ≡ true → NoneWaits s j table) → SlotsStandFor s new (listening j on table)
 stands_told s old new table j on h t none = record {
   legs = t.legs ∙ h.legs;
@@ -193,12 +191,6 @@ stands_new s slots legs e l f = record {
   legs = l ∙ sym e;
   sources = λ k w g. record { terminals = (f k w g).parts ∙ sym e; holds = (f k w g).holds };
 }
-
-pub get_push : {X : Type 0} (xs : List X) (y : X) (k : ℕ) (x : X) → slice_get (xs ++ y ∷ []) k ≡ Some x → (slice_get xs k ≡ Some x) ⊎ ((k ≡ length xs) × (x ≡ y))
-get_push [] y zero x e = inr (refl, cc e)
-get_push [] y (suc k) x e = absurd (cc e)
-get_push (z ∷ xs) y zero x e = inl e
-get_push (z ∷ xs) y (suc k) x e = elim (get_push xs y k x e) [ inl g ↦ inl g | inr p ↦ inr (ap suc p.0, p.1) ]
 
 pub starts_more : (legs : ℕ) (xs : List Waiting) (y : Waiting) → ((k : ℕ) (w : Waiting) → slice_get xs k ≡ Some w → Starts legs k w) → Starts legs (length xs) y → (k : ℕ) (w : Waiting) → slice_get (xs ++ y ∷ []) k ≡ Some w → Starts legs k w
 starts_more legs xs y f n k w e = elim (get_push xs y k w e) [

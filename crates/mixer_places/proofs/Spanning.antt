@@ -1,7 +1,7 @@
 -- The span of a source, where its lane holds what the table says.
-use Rattle.std.proofs.Common.{◌≡◌, ℕ, zero, suc, ◌+◌, ◌-◌, ◌<◌, ◌≤◌, ◌⊎◌, inl, inr, Bool, true, false, Some, List, [], ◌∷◌, ◌++◌, length, length-append, take, drop, append_assoc, refl, ap, sym, ◌∙◌, arith}
-use Rattle.std.specs.Prelude.{slice_get, nat_le, nat_lt, ◌&&◌, ◌||◌, if◌then◌else◌}
-use Rattle.std.proofs.lemmas.Bool.{cases_eq, le-leb, lt-leb}
+use Rattle.std.proofs.Common.{◌≡◌, ℕ, suc, ◌+◌, ◌-◌, ◌<◌, ◌≤◌, ◌⊎◌, inl, inr, Bool, true, false, Some, List, [], ◌∷◌, ◌++◌, length, length-append, take, drop, append_assoc, refl, ap, sym, ◌∙◌, arith}
+use Rattle.std.specs.Prelude.{slice_get, nat_le, nat_lt, ◌&&◌, if◌then◌else◌}
+use Rattle.std.proofs.lemmas.Bool.{le-leb, lt-leb}
 use Rattle.std.proofs.lemmas.List.{length-drop, length-map, take-append-drop, drop_all}
 use Rattle.stream_spec.specs.Ready.{Chunk}
 use Rattle.mixer_spec.specs.Rounds.{any_below}
@@ -14,28 +14,17 @@ use Rattle.mixer_places.specs.declared.parts.Part.{Part}
 use Rattle.mixer_places.specs.Rings.{Chunks, end_of}
 use Rattle.mixer_places.specs.Lanes.{Waiting, Waits, IsOldest, part_end}
 use Rattle.mixer_places.specs.SlotStanding.{SourceStands}
-use Rattle.mixer_places.proofs.Lists.{drop-append, get_within}
-use Rattle.mixer_places.proofs.Sizes.{octets_append, octets_taken, joined_size, end_is}
+use Rattle.mixer_places.proofs.Lists.{drop-append}
+use Rattle.mixer_places.proofs.Sizes.{octets_taken, joined_size, end_is}
 use Rattle.mixer_places.proofs.Holding.{part_end_is}
 use Rattle.mixer_places.proofs.Rebasing.{oldest_cuts, early}
 use Rattle.std.proofs.Math.Seq.{drop-append_seam}
 use Rattle.std.proofs.lemmas.Option.{slice_get_within}
 use Rattle.mixer_spec.specs.declared.limits.TheConstants.{MOST_SPAN_CHUNKS, MOST_SPAN_OCTETS}
-
-any_yes : (p : ℕ → Bool) (n x : ℕ) → x < n → p x ≡ true → any_below p n ≡ true
-any_yes p zero x l e = absurd (omega arith)
-any_yes p (suc n) x l e = elim (cases_eq x n) [
-  | inl same ↦ ap (λ b. b || any_below p n) (ap p (sym same) ∙ e)
-  | inr other ↦ right (p n) (any_yes p n x (omega (arith, l, other)) e)
-]
-  where
-    right : (b : Bool) {c : Bool} → c ≡ true → (b || c) ≡ true
-    right true e = refl
-    right false e = e
-
-any_no : (p : ℕ → Bool) (n : ℕ) → ((x : ℕ) → x < n → p x ≡ false) → any_below p n ≡ false
-any_no p zero f = refl
-any_no p (suc n) f = ap (λ b. b || any_below p n) (f n (omega arith)) ∙ any_no p n (λ x l. f x (omega arith))
+use Rattle.mixer_spec.proofs.Plain.{octets_append}
+use Rattle.mixer_spec.proofs.Growth.{any_at as any_yes}
+use Rattle.mixer_spec.proofs.Finish.{none_below as any_no}
+use Rattle.stream_spec.proofs.Plain.{get_at as get_within}
 
 count_more : (j : ℕ) (xs ys : List Taken) → count_given j ys ≤ count_given j (xs ++ ys)
 count_more j [] ys = omega arith

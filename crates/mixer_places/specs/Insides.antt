@@ -11,7 +11,8 @@ state_of i = record { legs = i.seats.items; places = i.holders }
 pub record IsSeating (i : Inside) : Type 0 where
   pub sixteen : length i.holders ≡ PLACES
   pub places : (k : ℕ) (x : Seat) (p : ℕ) → slice_get i.seats.items k ≡ Some x → x.place ≡ Some p → p < PLACES
-  pub held : (k : ℕ) (x : Seat) (p : ℕ) → slice_get i.seats.items k ≡ Some x → x.place ≡ Some p → slice_get i.holders p ≡ Some (Some k)
+  pub held : (k : ℕ) (x : Seat) (p : ℕ) → slice_get i.seats.items k ≡ Some x → x.place ≡ Some p
+      → slice_get i.holders p ≡ Some (Some k)
   pub legs : (p k : ℕ) → slice_get i.holders p ≡ Some (Some k) → k < length i.seats.items
   pub few : i.reach ≤ PLACES
   pub reach : (p k : ℕ) → slice_get i.holders p ≡ Some (Some k) → p < i.reach

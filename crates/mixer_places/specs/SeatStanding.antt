@@ -23,4 +23,5 @@ SeatingTells m P = (s : Setup) (table : Table) → SeatingStandsFor s m table.se
 
 -- from the seats of each table for which they stood they come to those of another one
 abbrev pub LeadsSeats : State → State → (Table → Table) → Type 0
-LeadsSeats old new f = (s : Setup) (table : Table) → SeatingStandsFor s old table.seats → SeatingStandsFor s new (f table).seats
+LeadsSeats old new f = (s : Setup) (table : Table) → SeatingStandsFor s old table.seats
+    → SeatingStandsFor s new (f table).seats

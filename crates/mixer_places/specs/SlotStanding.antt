@@ -44,7 +44,8 @@ pub record SlotHolds (w : Waiting) (taken : List Taken) (listens : ℕ → Bool)
 
 -- of whatever the lane holds
 abbrev pub LaneTells : Waiting → (List Taken → (ℕ → Bool) → (ℕ → List Chunk) → Type 0) → Type 0
-LaneTells w P = (taken : List Taken) (listens : ℕ → Bool) (waits : ℕ → List Chunk) → SlotHolds w taken listens waits → P taken listens waits
+LaneTells w P = (taken : List Taken) (listens : ℕ → Bool) (waits : ℕ → List Chunk)
+    → SlotHolds w taken listens waits → P taken listens waits
 
 -- a chunk may have this text
 pub record FitsChunk (text : List ℕ) : Type 0 where
@@ -53,7 +54,8 @@ pub record FitsChunk (text : List ℕ) : Type 0 where
 
 -- a chunk with this text comes behind the others, for each terminal that listens
 abbrev pub AddsText : List ℕ → Waiting → Waiting → Type 0
-AddsText text old new = (taken : List Taken) (listens : ℕ → Bool) (waits : ℕ → List Chunk) (c : Chunk) → SlotHolds old taken listens waits → c.text ≡ text
+AddsText text old new = (taken : List Taken) (listens : ℕ → Bool) (waits : ℕ → List Chunk) (c : Chunk)
+    → SlotHolds old taken listens waits → c.text ≡ text
     → SlotHolds new (taken ++ record { chunk = c; given = listens } ∷ []) listens (λ j. if listens j then waits j ++ c ∷ [] else waits j)
 
 -- the source i
@@ -63,7 +65,8 @@ pub record SourceStands (s : Setup) (i : ℕ) (w : Waiting) (table : Table) : Ty
 
 -- it is so exactly where the span has room for a chunk with this text
 abbrev pub TellsRoom : List ℕ → Waiting → Type 0 → Type 0
-TellsRoom text w P = (s : Setup) (i : ℕ) (table : Table) (c : Chunk) → SourceStands s i w table → c.text ≡ text → P ↔ (is_fit (span_with s i c table) ≡ true)
+TellsRoom text w P = (s : Setup) (i : ℕ) (table : Table) (c : Chunk) → SourceStands s i w table → c.text ≡ text
+    → P ↔ (is_fit (span_with s i c table) ≡ true)
 
 -- each source; of the table nothing else counts, and of the setup nothing but how many legs there are
 pub record SlotsStandFor (s : Setup) (slots : List Waiting) (table : Table) : Type 0 where

@@ -78,7 +78,8 @@ impl SourceQueue {
         requires terminal { terminal < length self.old.parts }
         requires fits { length text.old + room ≤ MOST_TEXT_OCTETS }
         ensures terminals { length self.new.parts ≡ length self.old.parts }
-        ensures text { LaneTells self.old (λ taken listens waits. text.new ≡ text.old ++ joined (front room (waits terminal))) }
+        ensures text { LaneTells self.old
+            (λ taken listens waits. text.new ≡ text.old ++ joined (front room (waits terminal))) }
         ensures fits { length text.new ≤ length text.old + room }
         ensures utf8 { IsUtf8 text.old → IsUtf8 text.new }
         ensures holds { LaneTells self.old (λ taken listens waits.

@@ -80,7 +80,8 @@ impl Ring {
     /// Whether there is room for one more chunk of so many octets, were the chunks before `front` given up.
     pub fn has_room(&self, front: RingPosition, octets: usize) -> bool
         requires { octets ≤ MOST_TEXT_OCTETS }
-        ensures { result ≡ (nat_le (length self.now.octets - front.octets + octets) MOST_SPAN_OCTETS && nat_lt (length self.now.lengths - front.chunks) MOST_SPAN_CHUNKS) }
+        ensures { result ≡ (nat_le (length self.now.octets - front.octets + octets) MOST_SPAN_OCTETS
+            && nat_lt (length self.now.lengths - front.chunks) MOST_SPAN_CHUNKS) }
     {
         self.octets.len().saturating_sub(front.octets) + octets <= MOST_SPAN_OCTETS
             && self.lengths.len().saturating_sub(front.chunks) < MOST_SPAN_CHUNKS

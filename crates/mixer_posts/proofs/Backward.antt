@@ -1,11 +1,8 @@
 -- Elements that are taken from the back of a list, one by one.
 use Rattle.std.proofs.Common.{◌≡◌, ℕ, zero, suc, ◌<◌, ◌⊎◌, inl, inr, Option, None, Some, List, [], ◌∷◌, ◌++◌, length, refl, subst, sym, arith}
 use Rattle.std.specs.Prelude.{IsSome, slice_get}
-use Rattle.mix_loop.proofs.Lists.{get_push, get_within}
-
--- an element of a list with one more, or that one
-pub pushed : {X : Type 0} (xs : List X) (y : X) (k : ℕ) (x : X) → slice_get (xs ++ y ∷ []) k ≡ Some x → (slice_get xs k ≡ Some x) ⊎ ((k ≡ length xs) × (x ≡ y))
-pushed xs y k x e = elim (get_push xs y x k e) [ inl g ↦ inl g | inr p ↦ inr (p.0, sym p.1) ]
+use Rattle.mix_loop.proofs.Lists.{get_within}
+use Rattle.stream_spec.proofs.Plain.{get_push as pushed}
 
 get_front : {X : Type 0} (xs : List X) (y : X) (j : ℕ) (x : X) → slice_get xs j ≡ Some x → slice_get (xs ++ y ∷ []) j ≡ Some x
 get_front [] y j x e = absurd (cc e)

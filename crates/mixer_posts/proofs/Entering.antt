@@ -1,5 +1,5 @@
 -- What the turns of a mixer send to a terminal is what they enter there.
-use Rattle.std.proofs.Common.{◌≡◌, ℕ, suc, ◌<◌, Bool, true, false, cond, ◌⊎◌, inl, inr, Option, Some, None, List, [], ◌∷◌, ◌++◌, length, map, refl, ap, subst, sym, ◌∙◌, arith}
+use Rattle.std.proofs.Common.{◌≡◌, ℕ, ◌<◌, Bool, true, false, cond, ◌⊎◌, inl, inr, Option, Some, None, List, [], ◌∷◌, ◌++◌, length, map, refl, ap, subst, sym, ◌∙◌}
 use Rattle.std.specs.Prelude.{◌&&◌, ◌==◌, filter, slice_index}
 use Rattle.std.proofs.lemmas.Bool.{cases_eq, eq-eqb, ne_eqb}
 use Rattle.std.proofs.lemmas.List.Elements.{filter-append}
@@ -17,7 +17,7 @@ use Rattle.mixer.proofs.Entered.{entered_to}
 use Rattle.mixer_posts.specs.Streams.{AreSourcesAt, AreSourcesOf}
 use Rattle.mixer_posts.specs.Posts.{sent_by, sent_of_post, sents_to, with_posts}
 use Rattle.mixer_posts.specs.Laws.{PostsAreEntered}
-use Rattle.rtt_base.specs.declared.limits.TheConstants.{MOST_TEXT_OCTETS}
+use Rattle.mixer.proofs.Few.{none_new}
 
 -- ---- the entry of a turn
 -- it is of this source on the wire: of a leg's at an aware terminal, else of the mixer's
@@ -29,15 +29,15 @@ HasSource s false e = e.sent.source ≡ s.mixer
 abbrev Enters : Setup → Bool → ℕ → List TurnEntry → List TurnEntry → Type 0
 Enters s aware now before after = (after ≡ before) ⊎ ((e : TurnEntry) × (after ≡ e ∷ before) × (e.at ≡ now) × HasSource s aware e)
 
-leg_enters : (s : Setup) (now t p : ℕ) (d : Terminal) (o : Option ℕ) → ((i : ℕ) → o ≡ Some i → i < s.legs) → Enters s true now d.past (serve_leg s now t d p o).past
-leg_enters s now t p d None low = inl refl
-leg_enters s now t p d (Some i) low =
-    let chunks = front MOST_TEXT_OCTETS (d.waits i) in
+leg_enters : (s : Setup) (j now t p : ℕ) (d : Terminal) (o : Option ℕ) → ((i : ℕ) → o ≡ Some i → i < s.legs) → Enters s true now d.past (serve_leg s j now t d p o).past
+leg_enters s j now t p d None low = inl refl
+leg_enters s j now t p d (Some i) low =
+    let chunks = front (s.room j) (d.waits i) in
     inr (record { at = now; place = p; leg = i; chunks = chunks; sent = record { source = s.ssrc i; media = t; text = joined chunks } }, refl, refl, (low i refl, refl))
 
-place_enters : (s : Setup) (seats : Seats) (now t : ℕ) (d : Terminal) (o : Option ℕ) → Enters s true now d.past (serve s seats now t d o).past
-place_enters s seats now t d None = inl refl
-place_enters s seats now t d (Some p) = leg_enters s now t p d (leg_in seats s.legs p) (λ i e. (leg_in_some seats s.legs p i e).0)
+place_enters : (s : Setup) (seats : Seats) (j now t : ℕ) (d : Terminal) (o : Option ℕ) → Enters s true now d.past (serve s seats j now t d o).past
+place_enters s seats j now t d None = inl refl
+place_enters s seats j now t d (Some p) = leg_enters s j now t p d (leg_in seats s.legs p) (λ i e. (leg_in_some seats s.legs p i e).0)
 
 composed_enters : (s : Setup) (j now t : ℕ) (d : Terminal) (o : Option Answer) → Enters s false now d.past (compose s j now t d o).past
 composed_enters s j now t d None = go (is_asked s t d && has_text_in (s.generations j) (sent_from s.mixer d))
@@ -52,7 +52,7 @@ turn_enters s seats j now t d = go (is_seated seats j) (s.aware j)
   where
     go : (a b : Bool) → Enters s b now d.past (cond a (cond b (turn_aware s seats j now t d) (turn_unaware s j now t d)) d).past
     go false b = inl refl
-    go true true = place_enters s seats now t d (served s seats j t d)
+    go true true = place_enters s seats j now t d (served s seats j t d)
     go true false = composed_enters s j now t d (answer_at s j t d)
 
 -- what is sent of it is what it has
@@ -82,10 +82,6 @@ turn_sents sources now j (p ∷ ps) sent = turn_sents sources now j ps ((now, p)
 
 abbrev pub entered : TurnEntry → ℕ × Sent
 entered e = (e.at, e.sent)
-
-none_new : (past : List TurnEntry) → new_entry past past ≡ []
-none_new [] = refl
-none_new (e ∷ past) = rw (ne_eqb (length past) (suc (length past)) (λ q. omega (arith, q))) refl
 
 one_new : (e : TurnEntry) (past : List TurnEntry) → new_entry past (e ∷ past) ≡ e ∷ []
 one_new e past = rw (eq-eqb (length past) (length past) refl) refl

@@ -8,19 +8,16 @@ use Rattle.file_spec.specs.declared.conference_lines.LegLine.{LegLine}
 use Rattle.file_spec.specs.Conference.{Conference}
 use Rattle.file_spec.specs.Kept.{Differ, IsConference, IsLeg}
 use Rattle.stream_spec.specs.Lists.{In}
-use Rattle.mixer_spec.specs.Setups.{generations_of, is_aware_leg, leg_at, setup, ssrc_of}
+use Rattle.mixer_spec.specs.Setups.{generations_of, leg_at, setup, ssrc_of}
 use Rattle.packetizer.specs.declared.outputs.PacketizerSettings.{PacketizerSettings}
 use Rattle.packetizer.specs.OutputSettings.{AreSettings}
 use Rattle.packetizer.specs.Speakers.{AreDistinct}
 use Rattle.mixer.specs.Making.{source_counts}
 use Rattle.mixer_posts.specs.Streams.{AreSourcesAt, AreSourcesOf, settings_at, payload_types_at, payload_types_of}
+use Rattle.mixer_spec.proofs.Plain.{leg_found}
+use Rattle.mixer.proofs.Made.{aware_is}
 
 -- ---- the leg
-pub leg_found : (ls : List LegLine) (k : ℕ) (l : LegLine) → slice_get ls k ≡ Some l → leg_at ls k ≡ Some l
-leg_found [] k l e = absurd (cc e)
-leg_found (x ∷ ls) zero l e = e
-leg_found (x ∷ ls) (suc k) l e = leg_found ls k l e
-
 -- the stream of a leg with this line
 abbrev stream_by : Conference → Option LegLine → PacketizerSettings
 stream_by c o = record { ssrc = c.mixer.ssrc; seq = c.mixer.seq; timestamp = c.mixer.timestamp; payload_types = payload_types_of o; generations = generations_of o }
@@ -55,9 +52,6 @@ ssrc_there : (ls : List LegLine) (k : ℕ) → k < length ls → slice_index (ma
 ssrc_there [] k l = absurd (omega arith)
 ssrc_there (x ∷ ls) zero l = refl
 ssrc_there (x ∷ ls) (suc k) l = ssrc_there ls k (omega arith)
-
-aware_is : (c : Conference) (k : ℕ) (leg : LegLine) → slice_get c.legs k ≡ Some leg → leg.aware ≡ (setup c).aware k
-aware_is c k leg g = sym (ap is_aware_leg (leg_found c.legs k leg g))
 
 abbrev count_by : Conference → LegLine → ℕ
 count_by c leg = cond leg.aware (length c.legs) 1

@@ -12,6 +12,3 @@ pub use laws::posts_are_entered;
 pub use mixers::SendingMixer;
 pub use outbounds::PostSink;
 pub use streams::{sources_to, ssrcs_of, stream_to};
-
-#[cfg(test)]
-mod tests;

@@ -1,13 +1,15 @@
 -- Chunks in pieces.
-use Rattle.std.proofs.Common.{◌≡◌, ℕ, ◌≤◌, true, inl, inr, List, [], ◌∷◌, ◌++◌, length, refl, ap, ◌∙◌, arith}
+use Rattle.std.proofs.Common.{◌≡◌, ℕ, ◌≤◌, true, inl, inr, List, [], ◌∷◌, ◌++◌, length, append_assoc, refl, ap, sym, ◌∙◌, arith}
 use Rattle.std.specs.Prelude.{map, IsUtf8}
-use Rattle.std.specs.List.{AllByRecursion}
+use Rattle.std.specs.List.{AllByRecursion, flat_map}
 use Rattle.wire_spec.specs.Packets.{has_text}
 use Rattle.stream_spec.specs.Lists.{In}
 use Rattle.stream_spec.specs.Hearing.{text_list}
 use Rattle.stream_spec.specs.Ready.{Chunk, ReadyRises}
 use Rattle.stream_spec.proofs.Lists.{in_append}
 use Rattle.mixer_spec.specs.Laws.{AreTexts}
+use Rattle.mixer_spec.specs.Chunks.{texts_of}
+use Rattle.mixer_spec.proofs.Carries.{texts_append}
 use Rattle.mixer_spec.specs.Pieces.{pieces, chunk_pieces, chunks_cut}
 use Rattle.mixer_spec.proofs.Cutting as cut_texts
 use Rattle.mixer_spec.proofs.PieceTold.{HasTexts}
@@ -19,6 +21,22 @@ are_texts : (c : Chunk) (ts : List (List ℕ)) (rest : List Chunk) → HasTexts 
 are_texts c [] rest h u a = a
 are_texts c (t ∷ ts) rest h u a = (h.0, u.0, are_texts c ts rest h.1 u.1 a)
 
+pub cut_append : (cutting : List ℕ → List (List ℕ)) (xs ys : List Chunk) → chunks_cut cutting (xs ++ ys) ≡ chunks_cut cutting xs ++ chunks_cut cutting ys
+cut_append cutting [] ys = refl
+cut_append cutting (x ∷ xs) ys = ap (λ cs. chunk_pieces cutting x ++ cs) (cut_append cutting xs ys) ∙ sym (append_assoc (chunk_pieces cutting x) (chunks_cut cutting xs) (chunks_cut cutting ys))
+
+-- ---- their texts
+texts_as : (c : Chunk) (ts : List (List ℕ)) → texts_of (as_chunks c ts) ≡ ts
+texts_as c [] = refl
+texts_as c (t ∷ ts) = ap (λ xs. t ∷ xs) (texts_as c ts)
+
+pub texts_cut : (cutting : List ℕ → List (List ℕ)) (cs : List Chunk) → texts_of (chunks_cut cutting cs) ≡ flat_map cutting (texts_of cs)
+texts_cut cutting [] = refl
+texts_cut cutting (c ∷ cs) =
+    texts_append (chunk_pieces cutting c) (chunks_cut cutting cs)
+    ∙ (ap (λ ts. ts ++ texts_of (chunks_cut cutting cs)) (texts_as c (cutting c.text)) ∙ ap (λ ts. cutting c.text ++ ts) (texts_cut cutting cs))
+
+-- ---- each of them
 pub texts_law : (n : ℕ) → 4 ≤ n → (cs : List Chunk) → AreTexts cs → AreTexts (chunks_cut (pieces n) cs)
 texts_law n f [] a = tt
 texts_law n f (c ∷ cs) a = are_texts c (pieces n c.text) (chunks_cut (pieces n) cs) ((cut_texts.whole_law n f).some c.text) (cut_texts.text_law n c.text f a.1) (texts_law n f cs a.2)

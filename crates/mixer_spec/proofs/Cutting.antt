@@ -1,10 +1,10 @@
 -- A text is cut into pieces that are together the text, between characters.
-use Rattle.std.proofs.Common.{◌≡◌, ℕ, zero, suc, ◌-◌, ◌<◌, ◌≤◌, Bool, true, false, cond, List, [], ◌∷◌, ◌++◌, length, length-append, append-nil, take, drop, refl, ap, subst, sym, ◌∙◌, arith}
-use Rattle.std.specs.Prelude.{◌==◌, ◌&&◌, min, nat_le, IsUtf8}
+use Rattle.std.proofs.Common.{◌≡◌, ℕ, zero, suc, ◌-◌, ◌<◌, ◌≤◌, Bool, true, false, cond, List, [], ◌∷◌, ◌++◌, length, length-append, take, drop, refl, ap, subst, sym, ◌∙◌, arith, append-nil as nil}
+use Rattle.std.specs.Prelude.{◌==◌, min, nat_le, IsUtf8}
 use Rattle.std.specs.List.{AllByRecursion, concat}
 use Rattle.std.proofs.Math.Seq.{take-append_seam}
 use Rattle.std.proofs.Math.Utf8.{scalar, scalars, encode, encodes}
-use Rattle.std.proofs.lemmas.Bool.{eqb-true, eqb-false, leb-true, leb-false, le-leb}
+use Rattle.std.proofs.lemmas.Bool.{eqb-true, eqb-false, leb-true, leb-false, le-leb, lt-leb}
 use Rattle.std.proofs.lemmas.Str.{length-encode, len_utf8_bounds}
 use Rattle.wire_spec.specs.Packets.{has_text}
 use Rattle.stream_spec.specs.Hearing.{marker, text_list}
@@ -12,6 +12,8 @@ use Rattle.stream_spec.specs.Typed.{last_end, whole_front}
 use Rattle.stream_spec.proofs.Typing.{last_end_le, length_of_front, front_fits}
 use Rattle.stream_spec.proofs.Closing.{longest}
 use Rattle.mixer_spec.specs.Pieces.{IsCutting, cut_at, pieces_within, pieces}
+use Rattle.stream_spec.proofs.Plain.{list_whole, longest_front}
+use Rattle.wire_spec.proofs.Plain.{first_true}
 
 -- ---- lists
 take_drop : (k : ℕ) (xs : List ℕ) → take k xs ++ drop k xs ≡ xs
@@ -50,10 +52,6 @@ at_most n text = go (last_end text n == 0) (last_end_le text n)
     go false l = l
 
 -- ---- together they are the text
-list_whole : (text : List ℕ) → concat (text_list text) ≡ text
-list_whole [] = refl
-list_whole (x ∷ text) = append-nil (x ∷ text)
-
 within_whole : (fuel n : ℕ) (text : List ℕ) → concat (pieces_within fuel n text) ≡ text
 within_whole zero n text = list_whole text
 within_whole (suc fuel) n text = go (nat_le (length text) n) (within_whole fuel n (drop (cut_at n text) text))
@@ -119,21 +117,31 @@ stays_law n (x ∷ text) l =
     ap (λ b. cond b (text_list (x ∷ text)) (take (cut_at n (x ∷ text)) (x ∷ text) ∷ pieces_within (length text) n (drop (cut_at n (x ∷ text)) (x ∷ text))))
     (le-leb (suc (length text)) n l)
 
+-- ---- a long text is cut once, and then its rest
+within_nil : (fuel n : ℕ) → pieces_within fuel n [] ≡ []
+within_nil zero n = refl
+within_nil (suc fuel) n = ap (λ b. cond b (text_list []) (take (cut_at n []) [] ∷ pieces_within fuel n (drop (cut_at n []) []))) (le-leb 0 n (omega arith))
+
+same_fuel : (f g n : ℕ) (text : List ℕ) → 0 < n → length text ≤ f → length text ≤ g → pieces_within f n text ≡ pieces_within g n text
+same_fuel f g n [] p l m = within_nil f n ∙ sym (within_nil g n)
+same_fuel zero g n (x ∷ text) p l m = absurd (omega arith)
+same_fuel (suc f) zero n (x ∷ text) p l m = absurd (omega arith)
+same_fuel (suc f) (suc g) n (x ∷ text) p l m =
+    let d = dropped_short (cut_at n (x ∷ text)) (x ∷ text) in
+    let s = at_some n (x ∷ text) p in
+    ap (λ ts. cond (nat_le (length (x ∷ text)) n) (text_list (x ∷ text)) (take (cut_at n (x ∷ text)) (x ∷ text) ∷ ts))
+    (same_fuel f g n (drop (cut_at n (x ∷ text)) (x ∷ text)) p (omega (arith, d, s, l)) (omega (arith, d, s, m)))
+
+pub step_law : (n : ℕ) (text : List ℕ) → 0 < n → n < length text → pieces n text ≡ take (cut_at n text) text ∷ pieces n (drop (cut_at n text) text)
+step_law n [] p l = absurd (omega arith)
+step_law n (x ∷ text) p l =
+    let d = dropped_short (cut_at n (x ∷ text)) (x ∷ text) in
+    let s = at_some n (x ∷ text) p in
+    ap (λ b. cond b (text_list (x ∷ text)) (take (cut_at n (x ∷ text)) (x ∷ text) ∷ pieces_within (length text) n (drop (cut_at n (x ∷ text)) (x ∷ text)))) (lt-leb (length (x ∷ text)) n l)
+    ∙ ap (λ ts. take (cut_at n (x ∷ text)) (x ∷ text) ∷ ts)
+    (same_fuel (length text) (length (drop (cut_at n (x ∷ text)) (x ∷ text))) n (drop (cut_at n (x ∷ text)) (x ∷ text)) p (omega (arith, d, s)) (omega arith))
+
 -- ---- between characters
-nil : (xs : List ℕ) → xs ++ [] ≡ xs
-nil [] = refl
-nil (x ∷ xs) = ap (λ ys. x ∷ ys) (nil xs)
-
-first_true : (a b : Bool) → (a && b) ≡ true → (a && true) ≡ true
-first_true true b h = refl
-first_true false b h = h
-
-longest_front : (n k : ℕ) (octets : List ℕ) → IsUtf8 octets → k ≤ n → k ≤ length octets → IsUtf8 (take k octets) → k ≤ length (whole_front n octets)
-longest_front n k octets u l m t =
-    let b = last_end_le octets (min n (length octets)) in
-    let len = length_of_front (last_end octets (min n (length octets))) octets (omega arith) in
-    omega (arith, len, longest n octets k u l m t)
-
 first_character : (n : ℕ) (cs octets : List ℕ) → 4 ≤ n → scalars cs ≡ true → encodes cs ≡ octets → 0 < length octets → IsUtf8 octets → 1 ≤ length (whole_front n octets)
 first_character n [] octets f s e h u = let none : length octets ≡ 0 = ap (λ (xs : List ℕ). length xs) (sym e) in absurd (omega arith)
 first_character n (c ∷ cs) octets f s e h u =

@@ -1,7 +1,8 @@
 -- A conference in files that meets what the laws ask for: Ann types a letter, Bob hears it at an aware terminal and Cy at
 -- one that is not.
-use Rattle.std.proofs.Common.{◌≡◌, ℕ, zero, suc, ◌+◌, ◌^◌, ◌<◌, ◌≤◌, true, false, cond, inl, inr, Some, None, Ok, List, [], ◌∷◌, ◌++◌, refl, sym, subst, ap, ◌∙◌, arith}
+use Rattle.std.proofs.Common.{◌≡◌, ℕ, zero, suc, ◌+◌, ◌^◌, ◌<◌, ◌≤◌, true, false, cond, inl, inr, Some, None, Ok, List, [], ◌∷◌, ◌++◌, length, refl, sym, subst, ap, ◌∙◌, arith}
 use Rattle.std.specs.Prelude.{codes, map, is_some, replicate, ◌==◌, IsUtf8}
+use Rattle.std.specs.List.{AllByRecursion}
 use Rattle.std.specs.Str.{is_utf8, chars}
 use Rattle.std.specs.Char.{encode_utf8}
 use Rattle.std.proofs.lemmas.Str.{IsUtf8-from_is_utf8, IsUtf8-nil}
@@ -37,9 +38,9 @@ use Rattle.mixer_spec.specs.Core as event
 use Rattle.mixer_spec.specs.Calls.{AreMade, took}
 use Rattle.mixer_spec.specs.Plain.{plain}
 use Rattle.mixer_spec.specs.Arrives.{arrivals}
-use Rattle.mixer_spec.specs.Laws.{AreShort}
 use Rattle.mixer_spec.specs.Headline.{IsHop}
-use Rattle.mixer_spec.specs.Bridged.{Bridged, IsPair, IsMixed, IsRunning, IsSentBy, came_of, leg_chunks, leg_heard, hop_from, told_by_packets, IsConferenceMixed}
+use Rattle.mixer_spec.specs.Bridged.{IsPair, IsMixed, IsRunning, IsSentBy, came_of, cutting_of, leg_chunks, leg_heard, hop_from, told_by_packets, IsConferenceMixed}
+use Rattle.mixer_spec.specs.Behind.{Bridged}
 use Rattle.mixer_spec.proofs.Lists.{set_other}
 use Rattle.mixer_spec.proofs.Conferences.{accepted_law, plan_law}
 use Rattle.mixer_spec.proofs.Runs.{run_law}
@@ -73,6 +74,7 @@ call = record {
   wait = 1000;
   turns = 30;
   relabel = None;
+  mtu = None;
   mixer = record { ssrc = 9000; seq = 100; timestamp = 5000 };
   plan = record { terminal = 1; packet = 1; what = Lose } ∷ [];
   service = no_service;
@@ -185,7 +187,7 @@ mixed =
 is_mixed : IsMixed (setup call) (leg_chunks call inputs) call.tick call.turns mixed.0
 is_mixed = mixed_law call inputs mixed.0 accepted mixed.1
 
-are_short : (i : ℕ) → AreShort (leg_chunks call inputs i)
+are_short : (i : ℕ) → AllByRecursion (λ (x : Chunk). length x.text ≤ 1023) (leg_chunks call inputs i)
 are_short = short call inputs
 
 pair : IsPair (setup call) 1 0
@@ -209,7 +211,7 @@ all_stay = record { seats = omega arith; from = from; until = until }
     until (suc (suc zero)) = refl
     until (suc (suc (suc i))) = refl
 
-bridged : Bridged (setup call) mixed.0 1 0 (told_by_packets (setup call) 1 (mixed.0.terminals 1).past) (hop_from call inputs 0 ann) (leg_heard call inputs 0)
+bridged : Bridged (cutting_of call) (setup call) mixed.0 1 0 (told_by_packets (setup call) 1 (mixed.0.terminals 1).past) (hop_from call inputs 0 ann) (leg_heard call inputs 0)
 bridged = aware_law call inputs mixed.0 accepted mixed.1 1 0 pair ann
 
 -- what comes to Bob, who loses a packet

@@ -14,7 +14,8 @@ use Rattle.stream_spec.proofs.Blocks.{blocks_in_append, l2_only, l2_rises, risin
 use Rattle.mixer_spec.specs.Through.{front_group, after_group, group_of, replaced, text_entries, through}
 use Rattle.mixer_spec.specs.Laws.{PartsAt}
 use Rattle.mixer_spec.proofs.Through.{NoneEmpty, group_is, rest_is, split_items, none_left, none_right, entries_are, kept_none_empty, drop_in, drop_none_empty, drop_rises, first_group_of}
-use Rattle.mixer_spec.proofs.HopOrder.{group_within, group_has, group_order, block_from, block_in, parts}
+use Rattle.mixer_spec.proofs.HopOrder.{group_within, group_has, group_order, block_from, parts}
+use Rattle.stream_spec.proofs.Gaps.{in_blocks as block_in}
 
 -- ---- two cuts of one list
 abbrev pub TwoCuts : List Item → Item → List Item → List Item → List Item → Type 0
@@ -188,7 +189,7 @@ marker_lost es items us vs xs ys k h low high below above = (
   λ x i. let f = block_from es items ys x i in high x (h.upper f.0 (Block x) (above f.0 f.1) f.2),
 )
 
-same_block : (a b : Placed) → Block a ≡ Block b → a ≡ b
+pub same_block : (a b : Placed) → Block a ≡ Block b → a ≡ b
 same_block a b e = cc e
 
 -- the first hop lost k, and its marker is carried by an entry: where that came its marker stands, else that of the second hop

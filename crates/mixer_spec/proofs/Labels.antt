@@ -18,7 +18,6 @@ use Rattle.mixer_spec.specs.Core.{Event, after}
 use Rattle.mixer_spec.specs.Laws.{IsComposed}
 use Rattle.mixer_spec.specs.OneText.{AreLabelled, HasOneLabel, IsLabelledAnswer, StandsBeforeSeen, begins_seen, label_before}
 use Rattle.mixer_spec.proofs.Asks.{composed_law}
-use Rattle.rtt_base.specs.declared.limits.TheConstants.{MOST_TEXT_OCTETS}
 
 -- ---- brackets
 brackets_print : (class_of 0x5B ≡ Print) × (class_of 0x5D ≡ Print) × (class_of 0xFF3B ≡ Print) × (class_of 0xFF3D ≡ Print)
@@ -160,44 +159,44 @@ written_has name own cs n = record { ahead = []; label = []; rest = written own 
 abbrev Has : Setup → Answer → Type 0
 Has s g = HasOneLabel (s.name g.source) g.text
 
-go_on_has : (s : Setup) (waits : ℕ → List Chunk) (asks : List Asked) (c : ℕ) → Has s (go_on s.name waits asks c)
-go_on_has s waits asks c = go (is_unlabelled asks)
+go_on_has : (s : Setup) (room : ℕ) (waits : ℕ → List Chunk) (asks : List Asked) (c : ℕ) → Has s (go_on room s.name waits asks c)
+go_on_has s room waits asks c = go (is_unlabelled asks)
   where
-    go : (b : Bool) → Has s (cond b (headed waits (s.name c) (began_behind_cr asks) (is_open asks) (run_of asks) c) (gone_on waits (behind_label asks) c))
-    go true = with_label_has (s.name c) (began_behind_cr asks) (is_open asks) (run_of asks) (front (room_beside (s.name c)) (waits c))
-    go false = written_has (s.name c) (behind_label asks) (chars_of (front MOST_TEXT_OCTETS (waits c))) (none_left (chars (joined (front MOST_TEXT_OCTETS (waits c)))))
+    go : (b : Bool) → Has s (cond b (headed room waits (s.name c) (began_behind_cr asks) (is_open asks) (run_of asks) c) (gone_on room waits (behind_label asks) c))
+    go true = with_label_has (s.name c) (began_behind_cr asks) (is_open asks) (run_of asks) (front (room_beside room (s.name c)) (waits c))
+    go false = written_has (s.name c) (behind_label asks) (chars_of (front room (waits c))) (none_left (chars (joined (front room (waits c)))))
 
-speak_on_has : (s : Setup) (now : ℕ) (waits : ℕ → List Chunk) (asks : List Asked) (c : ℕ) → Has s (speak_on s.name s.relabel now waits asks c)
-speak_on_has s now waits asks c = go (is_labelled_again s.relabel now asks c)
+speak_on_has : (s : Setup) (room : ℕ) (now : ℕ) (waits : ℕ → List Chunk) (asks : List Asked) (c : ℕ) → Has s (speak_on room s.name s.relabel now waits asks c)
+speak_on_has s room now waits asks c = go (is_labelled_again s.relabel now asks c)
   where
-    go : (b : Bool) → Has s (cond b (headed waits (s.name c) (is_after_cr asks) (is_open asks) [] c) (go_on s.name waits asks c))
-    go true = with_label_has (s.name c) (is_after_cr asks) (is_open asks) [] (front (room_beside (s.name c)) (waits c))
-    go false = go_on_has s waits asks c
+    go : (b : Bool) → Has s (cond b (headed room waits (s.name c) (is_after_cr asks) (is_open asks) [] c) (go_on room s.name waits asks c))
+    go true = with_label_has (s.name c) (is_after_cr asks) (is_open asks) [] (front (room_beside room (s.name c)) (waits c))
+    go false = go_on_has s room waits asks c
 
-answer_has : (s : Setup) (own now : ℕ) (due : Bool) (waits : ℕ → List Chunk) (asks : List Asked) (g : Answer) → answer s.legs s.name s.relabel own now due waits asks ≡ Some g → Has s g
+answer_has : (s : Setup) (own now : ℕ) (due : Bool) (waits : ℕ → List Chunk) (asks : List Asked) (g : Answer) → answer (s.room own) s.legs s.name s.relabel own now due waits asks ≡ Some g → Has s g
 answer_has s own now false waits asks g e = absurd (cc e)
 answer_has s own now true waits asks g e = from (latest asks) e
   where
-    begins : (o : Option ℕ) → begin_with s.name waits asks o ≡ Some g → Has s g
+    begins : (o : Option ℕ) → begin_with (s.room own) s.name waits asks o ≡ Some g → Has s g
     begins None e = absurd (cc e)
     begins (Some u) e =
-        let same : headed waits (s.name u) (is_after_cr asks) (is_open asks) [] u ≡ g = cc e in
-        subst (Has s) same (with_label_has (s.name u) (is_after_cr asks) (is_open asks) [] (front (room_beside (s.name u)) (waits u)))
+        let same : headed (s.room own) waits (s.name u) (is_after_cr asks) (is_open asks) [] u ≡ g = cc e in
+        subst (Has s) same (with_label_has (s.name u) (is_after_cr asks) (is_open asks) [] (front (room_beside (s.room own) (s.name u)) (waits u)))
 
-    rest : (b : Bool) (c : ℕ) → cond b (Some (speak_on s.name s.relabel now waits asks c)) None ≡ Some g → Has s g
-    rest true c e = let same : speak_on s.name s.relabel now waits asks c ≡ g = cc e in subst (Has s) same (speak_on_has s now waits asks c)
+    rest : (b : Bool) (c : ℕ) → cond b (Some (speak_on (s.room own) s.name s.relabel now waits asks c)) None ≡ Some g → Has s g
+    rest true c e = let same : speak_on (s.room own) s.name s.relabel now waits asks c ≡ g = cc e in subst (Has s) same (speak_on_has s (s.room own) now waits asks c)
     rest false c e = absurd (cc e)
 
-    either : (b : Bool) (c : ℕ) → cond b (begin_with s.name waits asks (first_round (waits_here own waits) (suc c) s.legs)) (if has_chunk (waits c) then Some (speak_on s.name s.relabel now waits asks c) else None) ≡ Some g → Has s g
+    either : (b : Bool) (c : ℕ) → cond b (begin_with (s.room own) s.name waits asks (first_round (waits_here own waits) (suc c) s.legs)) (if has_chunk (waits c) then Some (speak_on (s.room own) s.name s.relabel now waits asks c) else None) ≡ Some g → Has s g
     either true c e = begins (first_round (waits_here own waits) (suc c) s.legs) e
     either false c e = rest (has_chunk (waits c)) c e
 
-    from : (o : Option Answer) → answer_after s.legs s.name s.relabel own now waits asks o ≡ Some g → Has s g
+    from : (o : Option Answer) → answer_after (s.room own) s.legs s.name s.relabel own now waits asks o ≡ Some g → Has s g
     from None e = begins (first_round (waits_here own waits) 0 s.legs) e
     from (Some c) e = either (is_switch s.legs own now waits asks c.source) c.source e
 
 -- ---- all answers
-given_has : (s : Setup) (own now : ℕ) (due : Bool) (waits : ℕ → List Chunk) (asks : List Asked) (o : Option Answer) → o ≡ answer s.legs s.name s.relabel own now due waits asks → IsLabelledAnswer s o
+given_has : (s : Setup) (own now : ℕ) (due : Bool) (waits : ℕ → List Chunk) (asks : List Asked) (o : Option Answer) → o ≡ answer (s.room own) s.legs s.name s.relabel own now due waits asks → IsLabelledAnswer s o
 given_has s own now due waits asks None e = tt
 given_has s own now due waits asks (Some g) e = answer_has s own now due waits asks g (sym e)
 

@@ -1,25 +1,23 @@
 -- What is told in pieces: the pieces of the blocks, in order and apart, with the same text and the same marks.
 use Rattle.std.proofs.Common.{◌≡◌, ℕ, ◌+◌, ◌*◌, ◌<◌, ◌≤◌, true, inl, inr, List, [], ◌∷◌, ◌++◌, length, length-append, append_assoc, refl, ap, subst, sym, ◌∙◌, arith}
-use Rattle.std.specs.List.{AllByRecursion, concat}
+use Rattle.std.specs.List.{AllByRecursion, concat, flat_map}
 use Rattle.std.proofs.lemmas.List.Folds.{concat-append}
 use Rattle.wire_spec.specs.Packets.{has_text}
 use Rattle.stream_spec.specs.Lists.{In}
+use Rattle.stream_spec.specs.Hearing.{marker}
 use Rattle.stream_spec.specs.History.{Placed}
-use Rattle.stream_spec.specs.Kept.{Item, Marker, Block, text_of, texts, blocks_in, Rising}
+use Rattle.stream_spec.specs.Kept.{Item, Marker, Block, texts, blocks_in, Rising}
 use Rattle.stream_spec.proofs.Lists.{in_left, in_right, in_append}
 use Rattle.stream_spec.proofs.Blocks.{blocks_in_append, in_blocks_in}
 use Rattle.mixer_spec.specs.Laws.{PartsAt}
-use Rattle.mixer_spec.proofs.Through.{NoneEmpty}
-use Rattle.mixer_spec.proofs.HopOrder.{block_in}
+use Rattle.mixer_spec.proofs.Through.{NoneEmpty, some_octets, texts_append as items_append}
 use Rattle.mixer_spec.specs.Pieces.{IsCutting, piece_at, pieces_from, pieces_of, in_pieces, IsPieceOf, Apart}
 use Rattle.mixer_spec.specs.PieceLaws.{TellsPieces}
+use Rattle.stream_spec.proofs.Gaps.{in_blocks as block_in}
+use Rattle.mixer_spec.proofs.HopMarkers.{same_block as block_same}
 
 abbrev pub HasTexts : List (List ℕ) → Type 0
 HasTexts ts = AllByRecursion (λ (piece : List ℕ). has_text piece ≡ true) ts
-
-some_octets : (t : List ℕ) → has_text t ≡ true → 0 < length t
-some_octets [] e = cc e
-some_octets (x ∷ t) e = omega arith
 
 -- ---- the pieces of one block
 -- a piece of x between these octets of its text
@@ -30,9 +28,6 @@ pub record Lies (x : Placed) (low high : ℕ) (k : Placed) : Type 0 where
   pub some : has_text text ≡ true
   pub begins : low ≤ from
   pub ends : from + length text ≤ high
-
-block_same : (a b : Placed) → Block a ≡ Block b → a ≡ b
-block_same a b e = cc e
 
 pub lies_in : (x : Placed) (n : ℕ) (ts : List (List ℕ)) (k : Placed) → HasTexts ts → In (Block k) (pieces_from x n ts) → Lies x n (n + length (concat ts)) k
 lies_in x n [] k h i = absurd i
@@ -117,9 +112,13 @@ told_law cutting items = record {
   markers = (marker_of cutting items, from_marker cutting items);
 }
 
-pub items_append : (xs ys : List Item) → texts (xs ++ ys) ≡ texts xs ++ texts ys
-items_append [] ys = refl
-items_append (x ∷ xs) ys = ap (λ zs. text_of x ∷ zs) (items_append xs ys)
+-- the texts of what is told in pieces are the pieces of its texts
+pub texts_cut : (cutting : List ℕ → List (List ℕ)) → IsCutting cutting → (items : List Item) → texts (in_pieces cutting items) ≡ flat_map cutting (texts items)
+texts_cut cutting c [] = refl
+texts_cut cutting c (Marker ∷ items) = ap (λ ts. marker ∷ ts) (texts_cut cutting c items) ∙ ap (λ ts. ts ++ flat_map cutting (texts items)) (sym c.marker_whole)
+texts_cut cutting c (Block x ∷ items) =
+    items_append (pieces_of cutting x) (in_pieces cutting items)
+    ∙ (ap (λ ts. ts ++ texts (in_pieces cutting items)) (said_from x 0 (cutting x.text)) ∙ ap (λ ts. cutting x.text ++ ts) (texts_cut cutting c items))
 
 pub said_law : (cutting : List ℕ → List (List ℕ)) → IsCutting cutting → (items : List Item) → concat (texts (in_pieces cutting items)) ≡ concat (texts items)
 said_law cutting c [] = refl

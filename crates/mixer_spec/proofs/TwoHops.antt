@@ -1,75 +1,32 @@
 -- What two hops tell of the source of the first, where the second carries pieces.
 use Rattle.std.proofs.Common.{◌≡◌, ℕ, ◌<◌, ◌≤◌, length-append, ◌⊎◌, inl, inr, List, [], ◌∷◌, ◌++◌, length, refl, ap, subst, sym, ◌∙◌, arith}
 use Rattle.std.specs.Prelude.{map}
-use Rattle.std.specs.List.{concat}
-use Rattle.std.proofs.lemmas.Bool.{cases_eq, cases_lt, eqb-true, eq-eqb, and_parts, and_from}
-use Rattle.wire_spec.specs.Packets.{has_text}
+use Rattle.std.specs.List.{concat, flat_map}
+use Rattle.std.proofs.lemmas.Bool.{cases_eq, cases_lt}
 use Rattle.stream_spec.specs.Lists.{In}
-use Rattle.stream_spec.specs.Hearing.{marker}
-use Rattle.stream_spec.specs.History.{Placed, placed}
-use Rattle.stream_spec.specs.Kept.{Item, Marker, Block, texts, blocks_in, Parts, Rising, is_text_of, is_entry_of}
+use Rattle.stream_spec.specs.History.{Placed}
+use Rattle.stream_spec.specs.Kept.{Item, Marker, Block, texts, blocks_in, Parts, Rising}
 use Rattle.stream_spec.specs.Carries.{Groups, CarriesFront}
-use Rattle.stream_spec.proofs.Lists.{in_left, in_right, in_append, in_filter, filter_in}
+use Rattle.stream_spec.proofs.Lists.{in_left, in_right, in_append}
 use Rattle.stream_spec.proofs.Places.{same_place_after}
 use Rattle.stream_spec.proofs.Blocks.{blocks_in_append, in_blocks_in, l2_rises}
 use Rattle.stream_spec.proofs.Walks.{l1}
 use Rattle.mixer_spec.specs.Through.{group_of, replaced, text_entries}
 use Rattle.mixer_spec.specs.Laws.{PartsAt}
-use Rattle.mixer_spec.specs.Bridged.{IsPart}
-use Rattle.mixer_spec.specs.Headline.{Hop, IsHop, used, told, IsBlock, AllLost, AllUsed, Cut, IsUnshared, IsNotSent, told_by, group, groups, in_a_row, said, IsLostBehind, IsMarkerBehind}
-use Rattle.mixer_spec.proofs.Lists.{nil}
-use Rattle.mixer_spec.proofs.Through.{NoneEmpty, Carry, carry_of, split_items, none_left, none_right, hops_text, hops_group, groups_more, entries_are}
-use Rattle.mixer_spec.proofs.HopOrder.{Segments, block_in, parts, group_within, group_order, block_from, from_block, replaced_rises}
+use Rattle.mixer_spec.specs.Bridged.{IsPart, pieces_heard}
+use Rattle.mixer_spec.specs.Headline.{Hop, IsHop, used, told, IsBlock, AllLost, AllUsed, Cut, IsUnshared, IsNotSent, told_by, group, IsLostBehind, IsMarkerBehind}
+use Rattle.mixer_spec.proofs.Through.{NoneEmpty, Carry, carry_of, cut_again, split_items, none_left, none_right, hops_text, groups_more, entries_are}
+use Rattle.mixer_spec.proofs.HopOrder.{Segments, parts, group_within, group_order, block_from, from_block, replaced_rises}
 use Rattle.mixer_spec.proofs.HopMarkers.{TwoCuts, two_cuts, Home, home, around, rising_entries, marker_came, marker_lost, below_place, above_place, second_marker}
 use Rattle.mixer_spec.proofs.HopWhole.{all_groups, marker_from}
 use Rattle.mixer_spec.proofs.OneHop.{places_of, block_is, absent_lost, lost_absent, parts_between, parts_at, told_whole, one_hop}
-use Rattle.mixer_spec.proofs.BothHops.{front_of}
+use Rattle.mixer_spec.proofs.BothHops.{front_of, is_told, entry_block, block_entry, each_said, row_is}
 use Rattle.mixer_spec.specs.Pieces.{IsCutting, in_pieces, IsPieceOf}
-use Rattle.mixer_spec.specs.PieceHeadline.{pieces_told, pieces_heard, PieceHeadline, PieceHeadlineAt}
-use Rattle.mixer_spec.proofs.PieceTold.{FitAddresses, marker_of, piece_from, from_piece, pieces_none_empty, pieces_apart, pieces_some, pieces_rise, apart_within, one_block, parts_pieces}
-
--- ---- a block is among the items, or it is not
-decide : (k : Placed) (items : List Item) → ((x : Placed) → In (Block x) items → x.place ≡ k.place → x ≡ k) → In (Block k) items ⊎ (In (Block k) items → ⊥)
-decide k [] f = inr (λ i. i)
-decide k (Marker ∷ xs) f = elim (decide k xs (λ x i. f x (inr i))) [
-  | inl i ↦ inl (inr i)
-  | inr n ↦ inr (λ i. elim i [ inl e ↦ absurd (cc e) | inr j ↦ n j ])
-]
-decide k (Block y ∷ xs) f = elim (cases_eq y.place k.place) [
-  | inl e ↦ inl (inl (ap Block (sym (f y (inl refl) e))))
-  | inr d ↦ elim (decide k xs (λ x i. f x (inr i))) [
-    | inl i ↦ inl (inr i)
-    | inr n ↦ inr (λ i. elim i [ inl e ↦ d (same k y e) | inr j ↦ n j ])
-  ]
-]
-  where
-    same : (a b : Placed) → Block a ≡ Block b → b.place ≡ a.place
-    same a b e = cc e
-
-is_told : (p : Hop) → IsHop p → (k : Placed) → IsBlock p k → In (Block k) (told p) ⊎ (In (Block k) (told p) → ⊥)
-is_told p q k b = decide k (told p) (λ x i e. same_place_after [] p.sent.entries x k (block_is p q x i).sent b.sent e)
+use Rattle.mixer_spec.specs.PieceHeadline.{pieces_told, PieceHeadline, PieceHeadlineAt}
+use Rattle.mixer_spec.proofs.PieceTold.{FitAddresses, marker_of, piece_from, from_piece, pieces_none_empty, pieces_apart, pieces_some, pieces_rise, texts_cut, apart_within, one_block, parts_pieces}
+use Rattle.stream_spec.proofs.Gaps.{in_blocks as block_in}
 
 -- ---- entries
-entry_block : (q : Hop) (y : Placed) → In y (text_entries q.sent q.source) → IsBlock q y
-entry_block q y i =
-    let r = in_filter (is_text_of q.source) y (placed q.sent) i in
-    let a = and_parts (is_entry_of q.source y) (has_text y.text) r.1 in
-    record { sent = r.0; source = eqb-true y.source q.source a.0; text = a.1 }
-
-block_entry : (q : Hop) (y : Placed) → IsBlock q y → In y (text_entries q.sent q.source)
-block_entry q y b = filter_in (is_text_of q.source) y (placed q.sent) b.sent (and_from (is_entry_of q.source y) (has_text y.text) (eq-eqb y.source q.source b.source) b.text)
-
-each_said : (q : Hop) (sent xs : List Item) → Carry (text_entries q.sent q.source) sent → ((y : Placed) → In (Block y) xs → In y (text_entries q.sent q.source)) → texts xs ≡ map said (groups sent q xs)
-each_said q sent [] c f = refl
-each_said q sent (Marker ∷ xs) c f = ap (λ t. t ∷ texts xs) (sym (nil marker)) ∙ ap (λ ts. said (Marker ∷ []) ∷ ts) (each_said q sent xs c (λ y i. f y (inr i)))
-each_said q sent (Block y ∷ xs) c f =
-    ap (λ t. t ∷ texts xs) (sym (hops_group q.sent q.source sent y c (f y (inl refl)))) ∙ ap (λ ts. said (group sent q y) ∷ ts) (each_said q sent xs c (λ z i. f z (inr i)))
-
-row_is : (q : Hop) (sent xs : List Item) → replaced (text_entries q.sent q.source) sent xs ≡ in_a_row (groups sent q xs)
-row_is q sent [] = refl
-row_is q sent (Marker ∷ xs) = ap (λ ys. Marker ∷ ys) (row_is q sent xs)
-row_is q sent (Block y ∷ xs) = ap (λ ys. group sent q y ++ ys) (row_is q sent xs)
-
 -- a block of the first hop fits its addresses
 short_block : (p : Hop) → IsHop p → (x : Placed) → IsBlock p x → length x.text ≤ 8192
 short_block p ip x b = let t = (ip.lawful.text x b.sent).0 in omega (arith, t)
@@ -267,13 +224,14 @@ headline_law cutting c p q ip iq cut is_cut carried = record {
         ∙ all_groups (text_entries q.sent q.source) cut.sent none_sent (rising_entries q.sent q.source) carried
 
 -- ---- any two hops
-cut_again : (all before onward sent still waiting behind : List Item) → all ≡ before ++ onward → onward ≡ sent ++ still → still ≡ waiting ++ behind → all ≡ before ++ (sent ++ (waiting ++ behind))
-cut_again all before onward sent still waiting behind a b c = a ∙ ap (λ xs. before ++ xs) (b ∙ ap (λ xs. sent ++ xs) c)
+-- what is told in pieces is what is heard in pieces
+pub pieces_are : (cutting : List ℕ → List (List ℕ)) → IsCutting cutting → (p : Hop) → IsHop p → texts (pieces_told cutting p) ≡ pieces_heard cutting p
+pieces_are cutting c p ip = texts_cut cutting c (told p) ∙ ap (flat_map cutting) (sym (l1 p.wait p.sent ip.lawful p.came ip.come p.source))
 
 pub hops_law : (cutting : List ℕ → List (List ℕ)) → IsCutting cutting → (p q : Hop) → IsHop p → IsHop q → (n : ℕ) (shared rest : List (List ℕ)) (part : IsPart n (pieces_heard cutting p) shared) → CarriesFront q.sent q.source shared rest
     → PieceHeadlineAt cutting p q part.before rest part.after
 hops_law cutting c p q ip iq n shared rest part carries =
-    let s = split_items part.before (shared ++ part.after) (pieces_told cutting p) part.whole in
+    let s = split_items part.before (shared ++ part.after) (pieces_told cutting p) (pieces_are cutting c p ip ∙ part.whole) in
     let g : Groups (map (λ (y : Placed). y.text) (text_entries q.sent q.source)) (shared ++ part.after) (rest ++ part.after) =
     subst (λ (es : List (List ℕ)). Groups es (shared ++ part.after) (rest ++ part.after)) (entries_are q.source [] q.sent.entries) (groups_more _ shared rest part.after carries) in
     let f = front_of (text_entries q.sent q.source) s.1 (rest ++ part.after)

@@ -9,7 +9,7 @@ use Rattle.mixer_spec.specs.Table.{Table, chunks_taken, shared}
 use Rattle.mixer_spec.specs.Legs.{left}
 use Rattle.mixer_spec.specs.Core.{Core, after_from}
 use Rattle.mixer_spec.specs.Plain.{IsOverWith, left_over, table_after, taken}
-use Rattle.mixer_spec.specs.Laws.{AllShort, AllTexts, IsRun, carried, history_at, moves}
+use Rattle.mixer_spec.specs.Laws.{AllTexts, HaveRoom, IsRun, carried, history_at, moves}
 use Rattle.mixer_spec.specs.Bridged.{shared_texts}
 use Rattle.mixer_spec.specs.Keeping.{GivesPart}
 
@@ -73,7 +73,7 @@ TurnsAreEnough =
     (s : Setup) (chunks : ℕ → List Chunk) (tick : ℕ)
     → IsSetup s
     → s.legs ≤ s.places
-    → AllTexts chunks → AllShort chunks
+    → AllTexts chunks → HaveRoom s chunks
     → 0 < tick
     → (n : ℕ) × (table : Table) × IsOverWith s tick n chunks table
 

@@ -1,31 +1,36 @@
 -- What the laws say of the headline: at the end of plain mixing, after every list of events, where all legs stay, and of a
 -- conference in files.
-use Rattle.std.specs.Prelude.{◌≡◌, ℕ, ◌<◌, ◌≤◌, false, Ok, List, length}
+use Rattle.std.specs.Prelude.{◌≡◌, ℕ, ◌<◌, ◌≤◌, false, None, Ok, List, length}
 use Rattle.wire_spec.specs.Packets.{Arrival}
 use Rattle.file_spec.specs.declared.conference_lines.Form.{Form}
 use Rattle.file_spec.specs.Conference.{Conference, conference_from}
 use Rattle.file_spec.specs.Kept.{IsConference}
 use Rattle.stream_spec.specs.History.{History, Come}
-use Rattle.stream_spec.specs.Ready.{Chunk}
+use Rattle.stream_spec.specs.Ready.{Chunk, chunks}
+use Rattle.stream_spec.specs.Still.{still}
 use Rattle.stream_spec.specs.Carries.{Carries, CarriesFront}
-use Rattle.mixer_spec.specs.Setups.{AllStay, IsAnother, IsSetup, Setup, setup}
+use Rattle.mixer_spec.specs.Setups.{AllStay, IsAnother, IsSetup, Setup, leg_at, setup, ssrc_of}
 use Rattle.mixer_spec.specs.Table.{Table, chunks_taken, shared}
 use Rattle.mixer_spec.specs.Core.{Event, after}
 use Rattle.mixer_spec.specs.Plain.{IsOverWith}
-use Rattle.mixer_spec.specs.Headline.{Headline, HeadlineAt, Hop, IsHop, OneHop, all_sent, hears}
+use Rattle.mixer_spec.specs.Headline.{HeadlineAt, Hop, IsHop, OneHop, hears}
 use Rattle.mixer_spec.specs.declared.limits.TheConstants.{PLACES}
-use Rattle.mixer_spec.specs.Bridged.{AreCounted, Bridged, BridgedAsOne, IsConferenceMixed, IsHeardOf, IsMixed, IsOut, IsPair, IsPart, IsRunning, IsSentBy, SharedIsPart, before_shared, hop_from, hop_to, leg_chunks, leg_heard, shared_texts, told_at, waiting_texts}
+use Rattle.mixer_spec.specs.Bridged.{AreCounted, IsConferenceMixed, IsHeardOf, IsMixed, IsOut, IsPair, IsPart, IsRunning, IsSentBy, SharedIsPart, before_shared, came_of, cutting_of, hop_from, hop_to, leg_chunks, leg_heard, pieces_heard, shared_texts, told_at, waiting_texts}
+use Rattle.mixer_spec.specs.Behind.{Bridged, BridgedAsOne}
+use Rattle.mixer_spec.specs.PieceHeadline.{PieceHeadline, PieceHeadlineAt, all_pieces}
+use Rattle.mixer_spec.specs.Pieces.{IsCutting}
 
 -- ---- at the end of plain mixing
--- What an aware terminal hears of a leg is bridged, whatever comes to it.
+-- What an aware terminal hears of a leg is bridged, whatever comes to it, and however texts are cut where the leg is heard.
 abbrev pub PlainIsBridged : Type 0
 PlainIsBridged =
-    (s : Setup) (chunks : ℕ → List Chunk) (tick turns : ℕ) (table : Table)
+    (cutting : List ℕ → List (List ℕ)) → IsCutting cutting
+    → (s : Setup) (chunks : ℕ → List Chunk) (tick turns : ℕ) (table : Table)
     → IsMixed s chunks tick turns table
     → (j i : ℕ) → IsPair s j i
-    → (p : Hop) (cs : List Chunk) → IsHeardOf p i cs
+    → (p : Hop) (cs : List Chunk) → IsHeardOf cutting p i cs
     → AreCounted s chunks i cs
-    → Bridged s table j i (told_at s table j) p cs
+    → Bridged cutting s table j i (told_at s table j) p cs
 
 -- A terminal that is not aware hears the mixer as the one source.
 abbrev pub PlainIsBridgedAsOne : Type 0
@@ -44,30 +49,31 @@ hop_behind s w j i wait came = hop_to (told_at s w j) (s.ssrc i) wait came
 
 -- What is shared of the leg i stands in what is heard of it, and the headline holds behind the terminal j, but for what still
 -- waits there.
-abbrev pub HasHeadline : Setup → Table → ℕ → ℕ → Hop → List Chunk → ℕ → List Arrival → Type 0
-HasHeadline s w j i p cs wait came =
-    (part : SharedIsPart s w j i p cs)
-    × HeadlineAt p (hop_behind s w j i wait came) part.before (waiting_texts w j i) part.after
+abbrev pub HasHeadline : (List ℕ → List (List ℕ)) → Setup → Table → ℕ → ℕ → Hop → List Chunk → ℕ → List Arrival → Type 0
+HasHeadline cutting s w j i p cs wait came =
+    (part : SharedIsPart cutting s w j i p cs)
+    × PieceHeadlineAt cutting p (hop_behind s w j i wait came) part.before (waiting_texts w j i) part.after
 
 -- At an aware terminal that is so of each other leg.
 abbrev pub AnyHasHeadline : Type 0
 AnyHasHeadline =
-    (s : Setup) (chunks : ℕ → List Chunk) (past : List Event)
+    (cutting : List ℕ → List (List ℕ)) → IsCutting cutting
+    → (s : Setup) (chunks : ℕ → List Chunk) (past : List Event)
     → IsRunning s chunks past
     → (j i : ℕ) → IsPair s j i
-    → (p : Hop) (cs : List Chunk) → IsHop p → IsHeardOf p i cs
+    → (p : Hop) (cs : List Chunk) → IsHop p → IsHeardOf cutting p i cs
     → AreCounted s chunks i cs
     → (wait : ℕ) (came : List Arrival) → Come (told_at s (after s chunks past).table j) came
-    → HasHeadline s (after s chunks past).table j i p cs wait came
+    → HasHeadline cutting s (after s chunks past).table j i p cs wait came
 
 -- At each terminal, aware or not, what it shares of a leg stands in what is heard of the leg.
 abbrev pub AnyIsPart : Type 0
 AnyIsPart =
-    (s : Setup) (chunks : ℕ → List Chunk) (past : List Event) (j i : ℕ)
+    (cutting : List ℕ → List (List ℕ)) (s : Setup) (chunks : ℕ → List Chunk) (past : List Event) (j i : ℕ)
     → IsAnother i j
-    → (p : Hop) (cs : List Chunk) → IsHeardOf p i cs
+    → (p : Hop) (cs : List Chunk) → IsHeardOf cutting p i cs
     → AreCounted s chunks i cs
-    → SharedIsPart s (after s chunks past).table j i p cs
+    → SharedIsPart cutting s (after s chunks past).table j i p cs
 
 -- The packets to an aware terminal carry a front of the texts that it shares, and the rest waits there.
 abbrev pub AnyIsCarried : Type 0
@@ -129,14 +135,15 @@ NoneIsBefore =
 -- The packets to an aware terminal carry all that is heard of a leg, and the headline leaves nothing out.
 abbrev pub AllHasHeadline : Type 0
 AllHasHeadline =
-    (s : Setup) (chunks : ℕ → List Chunk) (tick turns : ℕ) (table : Table)
+    (cutting : List ℕ → List (List ℕ)) → IsCutting cutting
+    → (s : Setup) (chunks : ℕ → List Chunk) (tick turns : ℕ) (table : Table)
     → AllStay s
     → IsMixed s chunks tick turns table
     → (j i : ℕ) → IsPair s j i
-    → (p : Hop) → IsHop p → IsHeardOf p i (chunks i)
+    → (p : Hop) → IsHop p → IsHeardOf cutting p i (chunks i)
     → (wait : ℕ) (came : List Arrival) → Come (told_at s table j) came
-    → Carries (told_at s table j) (s.ssrc i) (hears p)
-    × Headline p (hop_behind s table j i wait came) (all_sent p)
+    → Carries (told_at s table j) (s.ssrc i) (pieces_heard cutting p)
+    × PieceHeadline cutting p (hop_behind s table j i wait came) (all_pieces cutting p)
 
 -- ---- of a conference in files
 -- What a conference file is accepted as is a conference, and a setup.
@@ -161,7 +168,7 @@ ConferenceIsBridged =
     → IsConferenceMixed c inputs table
     → (j i : ℕ) → IsPair (setup c) j i
     → (h : History)
-    → Bridged (setup c) table j i (told_at (setup c) table j) (hop_from c inputs i h) (leg_heard c inputs i)
+    → Bridged (cutting_of c) (setup c) table j i (told_at (setup c) table j) (hop_from c inputs i h) (leg_heard c inputs i)
 
 -- At a terminal that is not aware it is so as one source.
 abbrev pub ConferenceIsBridgedAsOne : Type 0
@@ -191,4 +198,11 @@ ConferenceIsPart =
     → (j i : ℕ)
     → i < (setup c).legs → IsAnother i j
     → (h : History)
-    → SharedIsPart (setup c) table j i (hop_from c inputs i h) (leg_heard c inputs i)
+    → SharedIsPart (cutting_of c) (setup c) table j i (hop_from c inputs i h) (leg_heard c inputs i)
+
+-- Where packets have no limit each text is heard whole.
+abbrev pub ConferenceHearsWhole : Type 0
+ConferenceHearsWhole =
+    (c : Conference) (inputs : ℕ → List ℕ) (i : ℕ)
+    → c.mtu ≡ None
+    → leg_heard c inputs i ≡ chunks c.wait i (still (came_of c inputs i)) (ssrc_of (leg_at c.legs i))

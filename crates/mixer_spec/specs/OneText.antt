@@ -107,4 +107,5 @@ pub record StandsBeforeSeen (name : List ℕ) (behind_cr is_open : Bool) (run cs
   pub is : labelled name behind_cr is_open run cs ≡ encode_utf8_all ahead ++ label_before name (is_open_after is_open ahead) rest
 
 abbrev pub LabelsStandBeforeSeen : Type 0
-LabelsStandBeforeSeen = (name : List ℕ) (behind_cr is_open : Bool) (run cs : List ℕ) → StandsBeforeSeen name behind_cr is_open run cs
+LabelsStandBeforeSeen = (name : List ℕ) (behind_cr is_open : Bool) (run cs : List ℕ)
+    → StandsBeforeSeen name behind_cr is_open run cs

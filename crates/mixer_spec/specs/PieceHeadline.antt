@@ -1,12 +1,12 @@
 -- The headline of two hops, where the second carries, piece by piece, what the first one tells (profile).
-use Rattle.std.specs.Prelude.{◌≡◌, ℕ, ◌⊎◌, ◌↔◌, List, ◌++◌, length, map}
+use Rattle.std.specs.Prelude.{◌≡◌, ℕ, ◌⊎◌, ◌↔◌, List, [], ◌++◌, length, map}
 use Rattle.std.specs.List.{concat}
 use Rattle.stream_spec.specs.Lists.{In}
 use Rattle.stream_spec.specs.History.{Placed}
 use Rattle.stream_spec.specs.Carries.{CarriesFront}
-use Rattle.stream_spec.specs.Kept.{Item, Marker, Block, blocks_in, texts, NoGap}
+use Rattle.stream_spec.specs.Kept.{Item, Marker, Block, blocks_in, NoGap}
 use Rattle.mixer_spec.specs.Laws.{PartsAt}
-use Rattle.mixer_spec.specs.Bridged.{IsPart}
+use Rattle.mixer_spec.specs.Bridged.{IsPart, pieces_heard}
 use Rattle.mixer_spec.specs.Through.{text_entries}
 use Rattle.mixer_spec.specs.Headline.{Hop, IsHop, OneHop, hears, used, told, IsBlock, AllLost, IsBetween, AllUsed, Cut, IsUnshared, IsNotSent, told_by, groups, in_a_row, said, IsLostBehind, IsMarkerBehind, IsCutAt}
 use Rattle.mixer_spec.specs.Pieces.{IsCutting, in_pieces, IsPieceOf, Apart}
@@ -15,9 +15,9 @@ use Rattle.mixer_spec.specs.Pieces.{IsCutting, in_pieces, IsPieceOf, Apart}
 abbrev pub pieces_told : (List ℕ → List (List ℕ)) → Hop → List Item
 pieces_told cutting p = in_pieces cutting (told p)
 
--- the texts of what is heard, in pieces
-abbrev pub pieces_heard : (List ℕ → List (List ℕ)) → Hop → List (List ℕ)
-pieces_heard cutting p = texts (pieces_told cutting p)
+-- where the second carries all of it
+abbrev pub all_pieces : (List ℕ → List (List ℕ)) → Hop → Cut
+all_pieces cutting p = record { before = []; sent = pieces_told cutting p; waiting = []; behind = [] }
 
 -- What two hops tell of the source of the first, where what the first tells is cut in pieces and then so in four: the second
 -- carries `sent`, in entries of whole pieces.
@@ -40,12 +40,15 @@ pub record PieceHeadline (cutting : List ℕ → List (List ℕ)) (p q : Hop) (c
       → ((In (Block k) (told_by cut.sent q) → ⊥)
       ↔ (AllLost p x ⊎ (IsLostBehind q cut.sent k ⊎ (In (Block k) cut.waiting ⊎ IsUnshared cut k))))
   -- Where it was lost on the second hop, a mark stands there between packets that came.
-  pub marked_behind : (k : Placed) (lost : IsLostBehind q cut.sent k) → IsBetween q lost.entry → PartsAt k (told_by cut.sent q)
+  pub marked_behind : (k : Placed) (lost : IsLostBehind q cut.sent k) → IsBetween q lost.entry
+      → PartsAt k (told_by cut.sent q)
   -- Where its block was lost on the first, between packets that came, a mark of the first stands for the piece. That is sent on,
   -- or stands at the number of an item that is not; where it is sent on, one stands behind both, unless it was lost in turn at an
   -- end of the second stream.
-  pub marked_first : (x k : Placed) → IsBlock p x → IsPieceOf cutting x k → AllLost p x → IsBetween p x → PartsAt k (pieces_told cutting p)
-  pub marker_is : (k : Placed) (marker_part : PartsAt k (pieces_told cutting p)) → PartsAt k cut.sent ⊎ IsNotSent cut (length marker_part.0)
+  pub marked_first : (x k : Placed) → IsBlock p x → IsPieceOf cutting x k → AllLost p x → IsBetween p x
+      → PartsAt k (pieces_told cutting p)
+  pub marker_is : (k : Placed) (marker_part : PartsAt k (pieces_told cutting p))
+      → PartsAt k cut.sent ⊎ IsNotSent cut (length marker_part.0)
   pub marked : (k : Placed) → PartsAt k cut.sent → IsMarkerBehind q cut.sent k
   -- Each mark is one of a hop; so with no number missing on either there is none.
   pub markers : In Marker (told_by cut.sent q) → In Marker (told p) ⊎ In Marker (told q)
@@ -57,7 +60,8 @@ pub record PieceHeadline (cutting : List ℕ → List (List ℕ)) (p q : Hop) (c
       → cut.before ++ (told_by cut.sent q ++ (cut.waiting ++ cut.behind)) ≡ in_pieces cutting (map Block (text_entries p.sent p.source))
 
 -- the headline of two hops, where the first is cut at these pieces
-abbrev pub PieceHeadlineAt : (List ℕ → List (List ℕ)) → Hop → Hop → List (List ℕ) → List (List ℕ) → List (List ℕ) → Type 0
+abbrev pub PieceHeadlineAt : (List ℕ → List (List ℕ)) → Hop → Hop → List (List ℕ) → List (List ℕ)
+    → List (List ℕ) → Type 0
 PieceHeadlineAt cutting p q front rest back = (cut : Cut) × IsCutAt cut front rest back × PieceHeadline cutting p q cut
 
 -- That is so of any two hops, where the second carries a front of texts that are shared of the pieces of what is heard on the first.

@@ -38,7 +38,8 @@ ChunksRise = (cutting : List ℕ → List (List ℕ)) (cs : List Chunk) → Read
 
 -- Short ones are left as they are.
 abbrev pub ChunksStay : Type 0
-ChunksStay = (n : ℕ) (cs : List Chunk) → AreTexts cs → AllByRecursion (λ c. length c.text ≤ n) cs → chunks_cut (pieces n) cs ≡ cs
+ChunksStay = (n : ℕ) (cs : List Chunk) → AreTexts cs → AllByRecursion (λ c. length c.text ≤ n) cs
+    → chunks_cut (pieces n) cs ≡ cs
 
 -- ---- what is told
 abbrev pub PiecesSayTheText : Type 0

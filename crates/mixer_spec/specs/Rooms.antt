@@ -4,7 +4,8 @@ use Rattle.rtt_base.specs.declared.limits.TheConstants.{MOST_TEXT_OCTETS}
 use Rattle.stream_spec.specs.Lists.{In}
 use Rattle.stream_spec.specs.History.{History, Placed, Lawful, placed, octets}
 use Rattle.stream_spec.specs.Own.{Own}
-use Rattle.mixer_spec.specs.declared.piece_limits.TheConstants.{LEAST_MTU, MOST_PIECE_OCTETS}
+use Rattle.file_spec.specs.declared.limits.TheConstants.{LEAST_MTU}
+use Rattle.mixer_spec.specs.declared.piece_limits.TheConstants.{MOST_PIECE_OCTETS}
 
 -- the octets of a packet beside its texts, where it repeats g of them: up to 16 of its header, 4 of the header of each redundant
 -- block, and one of the primary block's

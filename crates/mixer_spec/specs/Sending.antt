@@ -1,7 +1,8 @@
 -- What the laws say of the packets to a terminal: their history, and what comes of them.
 use Rattle.std.specs.Prelude.{◌≡◌, ℕ, ◌<◌, ◌≤◌, List, map}
+use Rattle.stream_spec.specs.Lists.{In}
 use Rattle.stream_spec.specs.Ready.{Chunk}
-use Rattle.stream_spec.specs.History.{History, Lawful, placed}
+use Rattle.stream_spec.specs.History.{History, Placed, Lawful, octets, placed}
 use Rattle.stream_spec.specs.Own.{Own, own_packet}
 use Rattle.stream_spec.specs.SentLaws.{AnyComes}
 use Rattle.mixer_spec.specs.Setups.{Setup, IsSetup, FitsHalfCircle}
@@ -9,7 +10,8 @@ use Rattle.mixer_spec.specs.Table.{TurnEntry, Table, history_to}
 use Rattle.mixer_spec.specs.Core.{Event, after, turns_in}
 use Rattle.mixer_spec.specs.Plain.{IsOverWith}
 use Rattle.mixer_spec.specs.Laws.{AllTexts, history_at}
-use Rattle.mixer_spec.specs.Bridged.{ComesByPlan, packets_to}
+use Rattle.mixer_spec.specs.Bridged.{ComesByPlan, IsRunning, packets_to}
+use Rattle.mixer_spec.specs.Rooms.{beside_texts, room}
 
 -- Of each terminal's history this holds.
 abbrev pub HoldsOfHistories : (History → Type 0) → Type 0
@@ -48,3 +50,14 @@ PlannedPacketsCome =
     → j < s.legs
     → IsOverWith s tick turns chunks table
     → ComesByPlan s table j (history_at s table j)
+
+-- No packet to a terminal, aware or not, has more octets than `most`, where its texts have no more room than that leaves them.
+abbrev pub AnyFits : Type 0
+AnyFits =
+    (s : Setup) (chunks : ℕ → List Chunk) (past : List Event) (most j : ℕ)
+    → IsRunning s chunks past
+    → j < s.legs
+    → beside_texts (s.generations j) ≤ most
+    → s.room j ≤ room most (s.generations j)
+    → let h = history_at s (after s chunks past).table j in
+    (x : Placed) → In x (placed h) → octets h x ≤ most

@@ -1,8 +1,8 @@
 //! What holds of the definitions. No code stands here.
 ghost use Rattle.mixer_spec.specs.PieceLaws.{ChunksRise, ChunksStay, CutIsShort, CutIsText, CutIsWhole, CutsAreShort, CutsAreTexts, PiecesAreTold, PiecesSayTheText, ShortStays};
 ghost use Rattle.mixer_spec.specs.Rooms.{NoRoomIsGreater, PieceHasRoom, TextsFit};
+ghost use Rattle.mixer_spec.specs.Sending.{AnyFits};
 ghost use Rattle.mixer_spec.specs.PieceHeadline.{HopsHavePieces};
-ghost use Rattle.mixer_spec.specs.Mixing.{AnyHasPieces, PlainHasPieces};
 
 /// A text is cut into pieces of at most so many octets, none empty, which together are the text; a marker is not cut. Where the
 /// text is UTF-8 and four octets fit, so is each piece. A text of so many octets is left as it is.
@@ -27,10 +27,11 @@ pub fn told_in_pieces()
     ensures each { PiecesAreTold }
 {}
 
-/// Where no text has more octets than its room, no packet has more octets than the way allows. A piece goes into each room, and
-/// each room into a block.
+/// Where no text has more octets than its room, no packet has more octets than the way allows; so it is at each terminal of a
+/// mixer, after every list of events. A piece goes into each room, and each room into a block.
 pub fn packets_fit()
     ensures fit { TextsFit }
+    ensures any { AnyFits }
     ensures piece { PieceHasRoom }
     ensures most { NoRoomIsGreater }
 {}
@@ -40,12 +41,4 @@ pub fn packets_fit()
 /// packet that carries the piece on the second, was lost or late; and between packets that came a mark stands there.
 pub fn hops_have_pieces()
     ensures { HopsHavePieces }
-{}
-
-/// A mixer whose legs are heard in pieces keeps the headline of pieces at each aware terminal, after every list of events: whatever
-/// was lost, repeated, late or out of order on either hop, and however legs and turns interleave.
-pub fn mixed_in_pieces()
-    ensures any { AnyHasPieces }
-    // At the end of plain mixing nothing waits.
-    ensures plain { PlainHasPieces }
 {}

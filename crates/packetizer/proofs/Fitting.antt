@@ -1,21 +1,12 @@
 -- What repeats the blocks of a window has few octets.
-use Rattle.std.proofs.Common.{◌≡◌, ℕ, zero, suc, ◌+◌, ◌-◌, ◌*◌, ◌<◌, ◌≤◌, ◌^◌, ◌≢◌, Bool, true, false, cond, Option, None, Some, inl, inr, List, [], ◌∷◌, ◌++◌, length, take, refl, subst, sym, length-append, arith}
-use Rattle.std.specs.Prelude.{min, max, drop, option_to_list, IsUtf8}
-use Rattle.std.specs.List.{flat_map, AllByRecursion}
-use Rattle.std.specs.Int.{w32, to_be_bytes}
-use Rattle.std.proofs.lemmas.Str.{IsUtf8-nil}
+use Rattle.std.proofs.Common.{◌≡◌, ℕ, ◌<◌, ◌≤◌, List, [], ◌∷◌, length, take, arith}
+use Rattle.std.specs.Prelude.{max, drop}
+use Rattle.std.specs.List.{AllByRecursion}
 use Rattle.std.proofs.lemmas.List.Elements.{All-append, All-take, All-drop, recursion_from_All}
-use Rattle.rtt_base.specs.declared.blocks.TextBlock.{TextBlock}
 use Rattle.rtt_base.specs.declared.text_packets.PayloadTypes.{PayloadTypes}
-use Rattle.wire_spec.specs.Packets.{Packet, has_text}
-use Rattle.wire_spec.specs.Rtp.{Head, rtp_written}
-use Rattle.wire_spec.specs.Red.{IsRedundant}
-use Rattle.wire_spec.specs.SentPackets.{payload_sent, head_of, packet_written, FitsPacket}
-use Rattle.stream_spec.specs.Lists.{In}
-use Rattle.stream_spec.specs.Own.{Sent, Stream, sent_of, nth, repeat_of, repeats, Sendable, packet_after}
-use Rattle.stream_spec.proofs.Sent.{in_sent_of, nth_in, take_in}
+use Rattle.wire_spec.specs.SentPackets.{packet_written}
 use Rattle.rtp_text.specs.declared.block_writers.TextHead.{TextHead}
-use Rattle.rtp_text.specs.Writing.{packet_with, text_octets}
+use Rattle.rtp_text.specs.Writing.{packet_with}
 use Rattle.packetizer.specs.declared.slots.KeptBlock.{KeptBlock}
 use Rattle.packetizer.specs.Kept.{AreShort, in_turn, blocks_kept}
 use Rattle.packetizer.proofs.Repeating.{blocks_size}

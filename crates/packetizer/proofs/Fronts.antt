@@ -1,6 +1,6 @@
 -- Where the characters of a text end.
-use Rattle.std.proofs.Common.{◌≡◌, ℕ, zero, suc, ◌+◌, ◌-◌, ◌<◌, ◌≤◌, min, true, false, inl, inr, ◌++◌, length, take, append-nil, rules, Result, Ok, Err, Option, None, Some, List, get_or, refl, ap, sym, ◌∙◌, arith}
-use Rattle.std.specs.Prelude.{nat_lt, nat_le, slice_get, unwrap_or, IsOk, OnOk}
+use Rattle.std.proofs.Common.{◌≡◌, ℕ, zero, suc, ◌+◌, ◌-◌, ◌<◌, ◌≤◌, min, true, false, inl, inr, ◌++◌, length, take, append-nil, Option, None, Some, List, get_or, refl, ap, sym, ◌∙◌, arith}
+use Rattle.std.specs.Prelude.{nat_lt, nat_le, slice_get, unwrap_or}
 use Rattle.std.proofs.lemmas.Option.{unwrap_or-slice_get}
 use Rattle.std.proofs.lemmas.Bool.{cases_lt}
 use Rattle.std.proofs.lemmas.List.{take-append-le}
@@ -44,8 +44,3 @@ front_parts whole first second len part e m = elim (cases_lt (length first) len)
       let sum : length first + (len - length first) ≡ len = omega arith in
       rw (p) (ap (λ (l : List ℕ). l ++ take (len - length first) second) (take-length first) ∙ (sym (take-append-add first second (len - length first)) ∙ (ap (λ (n : ℕ). take n (first ++ second)) sum ∙ ap (λ (l : List ℕ). take len l) e)))
 ]
-
--- what holds where it went well, and it did
-pub on_ok : {T E P : Type 0} (r : Result T E) → IsOk r → OnOk r P → P
-on_ok (Ok x) i p = p
-on_ok (Err x) i p = absurd (search (rules, i))

@@ -11,6 +11,7 @@ use Rattle.stream_spec.proofs.Sent.{nth_in}
 use Rattle.packetizer.specs.Kept.{in_turn, block_kept, blocks_kept}
 use Rattle.packetizer.specs.declared.slots.KeptBlock.{KeptBlock}
 use Rattle.packetizer.specs.WindowStanding.{kept_of, kept_last, WindowStandsFor, MayFollow}
+use Rattle.wire_spec.proofs.Plain.{or_swap}
 
 -- ---- whether one has text
 -- a text that is not empty
@@ -21,11 +22,6 @@ text_is (x ∷ xs) = grind (arith, nat_tests)
 abbrev has_one : Option Sent → Bool
 has_one None = false
 has_one (Some e) = has_text e.text
-
-or_swap : (a b c : Bool) → (a || (b || c)) ≡ (b || (a || c))
-or_swap true true c = refl
-or_swap true false c = refl
-or_swap false b c = refl
 
 -- the last g + 1 are the one before the last g and these
 text_before : (g : ℕ) (past : List Sent) → (has_one (nth g past) || has_text_in g past) ≡ has_text_in (suc g) past

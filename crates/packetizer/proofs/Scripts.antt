@@ -1,23 +1,20 @@
 -- What a sender sends over a whole script.
-use Rattle.std.proofs.Common.{◌≡◌, ℕ, ◌+◌, ◌≤◌, Bool, true, false, cond, Some, None, List, [], ◌∷◌, ◌++◌, length, take, append_assoc, refl, ap, subst, sym, ◌∙◌, arith}
-use Rattle.std.specs.Prelude.{◌||◌, ◌&&◌, nat_le, min, IsUtf8}
+use Rattle.std.proofs.Common.{◌≡◌, ℕ, ◌+◌, Bool, true, false, cond, Some, None, List, [], ◌∷◌, ◌++◌, length, append_assoc, refl, ap, subst, sym, ◌∙◌, arith, append-nil as nil}
+use Rattle.std.specs.Prelude.{◌||◌, ◌&&◌, nat_le}
 use Rattle.std.specs.List.{flat_map}
 use Rattle.wire_spec.specs.Packets.{has_text}
 use Rattle.stream_spec.specs.Lists.{In}
 use Rattle.stream_spec.specs.History.{Entry, Placed, placed, Lawful}
 use Rattle.stream_spec.specs.Own.{Sent, Own, Closed, sent_of, has_text_in, entry_after, entries_sent, sent_history, own_packet, packet_after}
-use Rattle.stream_spec.specs.Typed.{Event, Ask, Turned, sents, carried, typed, has_passed, last_end, whole_front, due_at, packet_at, IsScript, next_at, primaries}
+use Rattle.stream_spec.specs.Typed.{Event, Ask, Turned, sents, carried, typed, has_passed, due_at, packet_at, IsScript, next_at, primaries}
 use Rattle.stream_spec.proofs.Sent.{the_last, sent_lawful, sent_own, in_sent_of}
-use Rattle.stream_spec.proofs.Typing.{typed_is, entries_more, entries_same, waits_same, paced, length_of_front, last_end_le}
-use Rattle.stream_spec.proofs.Closing.{last_is, sent_closed, longest}
+use Rattle.stream_spec.proofs.Typing.{typed_is, entries_more, entries_same, waits_same, paced}
+use Rattle.stream_spec.proofs.Closing.{last_is, sent_closed}
 use Rattle.packetizer.specs.declared.senders.SenderSettings.{SenderSettings}
 use Rattle.packetizer.specs.SenderSettings.{AreSettings, stream_of}
 use Rattle.packetizer.specs.SenderStanding.{sent_by, waits_for, has_more, next_due_of, history_sent}
 use Rattle.packetizer.proofs.Sending.{next_entry, length_sents}
-
-nil : (xs : List ℕ) → xs ++ [] ≡ xs
-nil [] = refl
-nil (x ∷ xs) = ap (λ ys. x ∷ ys) (nil xs)
+use Rattle.std.proofs.lemmas.Bool.{or_parts as or_none}
 
 one_text : (es : List Entry) (e : Entry) → flat_map (λ x. x.text) (es ++ e ∷ []) ≡ flat_map (λ x. x.text) es ++ e.text
 one_text [] e = nil e.text
@@ -52,11 +49,7 @@ own_packets settings past t d =
       ap (λ b. cond b (Some (packet_after c (sents es) e.sent)) None) d ∙ (ap (λ p. Some p) (sym l.packet) ∙ ap (λ (fs : List Turned). Some (own_packet (sent_history c (sents fs)) x)) (sym more)),
     )
 
-or_none : (a b : Bool) → (a || b) ≡ false → (a ≡ false) × (b ≡ false)
-or_none true b h = cc h
-or_none false b h = (refl, h)
-
-empty : (w : List ℕ) → has_text w ≡ false → w ≡ []
+pub empty : (w : List ℕ) → has_text w ≡ false → w ≡ []
 empty [] h = refl
 empty (x ∷ w) h = cc h
 
@@ -113,9 +106,3 @@ none_due settings past t e = go (has_more settings (Ask t ∷ past)) refl
     go true h =
         let n : next_at settings.interval (sent_by settings (Ask t ∷ past)) ≡ None = sym (ap (λ b. cond b (next_at settings.interval (sent_by settings (Ask t ∷ past))) None) h) ∙ e in
         by_due (due_at (stream_of settings) settings.interval past t) refl (no_entry settings.interval (sent_by settings (Ask t ∷ past)) n)
-
-pub longest_front : (n k : ℕ) (octets : List ℕ) → IsUtf8 octets → k ≤ n → k ≤ length octets → IsUtf8 (take k octets) → k ≤ length (whole_front n octets)
-longest_front n k octets u l m t =
-    let b = last_end_le octets (min n (length octets)) in
-    let len = length_of_front (last_end octets (min n (length octets))) octets (omega arith) in
-    omega (arith, len, longest n octets k u l m t)

@@ -10,7 +10,7 @@ use Rattle.wire_spec.specs.SentPackets.{packet_written}
 use Rattle.stream_spec.specs.Lists.{In}
 use Rattle.stream_spec.specs.Own.{Sent, Stream, sent_of, nth, has_text_in, packet_after, MaySend, Sendable}
 use Rattle.stream_spec.specs.Typed.{longest_step}
-use Rattle.stream_spec.proofs.Sent.{in_sent_of, take_in}
+use Rattle.stream_spec.proofs.Sent.{in_sent_of, take_in, text_in}
 use Rattle.packetizer.specs.Kept.{blocks_kept}
 use Rattle.packetizer.specs.WindowStanding.{MayFollow}
 use Rattle.packetizer.specs.WindowStanding as window
@@ -22,7 +22,7 @@ use Rattle.packetizer.specs.Speakers.{AreDistinct, IsNext, EachIsNext, anew, spe
 use Rattle.packetizer.specs.OutputStates.{State}
 use Rattle.packetizer.specs.OutputStanding.{PacketizerStandsFor, speaker_of, source_at}
 use Rattle.rtt_base.specs.declared.limits.TheConstants.{MOST_PACKET_OCTETS}
-use Rattle.stream_spec.proofs.Typing.{take_more, text_in, steps, fits_offset}
+use Rattle.stream_spec.proofs.Typing.{take_more, steps, fits_offset}
 
 -- ---- what is sent may be sent
 -- where text of these is still to be repeated, the media time is at most the longest step after the last one

@@ -13,12 +13,14 @@ history_sent settings past = sent_history (stream_of settings) past
 
 -- this holds of each configuration and of all that may be sent
 abbrev pub OfEach : (PacketizerSettings → List Sent → Type 0) → Type 0
-OfEach P = (settings : PacketizerSettings) (past : List Sent) → AreSettings settings → EachIsNext (stream_of settings) past → P settings past
+OfEach P = (settings : PacketizerSettings) (past : List Sent) → AreSettings settings
+    → EachIsNext (stream_of settings) past → P settings past
 
 -- where nothing is left to be repeated, each text was repeated as often as it is to be
 abbrev pub IsClosedAtEnd : PacketizerSettings → List Sent → Type 0
 IsClosedAtEnd settings past =
-    ((s : ℕ) → has_text_in settings.generations (sent_of s past) ≡ false) → Closed settings.generations (history_sent settings past)
+    ((s : ℕ) → has_text_in settings.generations (sent_of s past) ≡ false)
+    → Closed settings.generations (history_sent settings past)
 
 -- the packet of x, the last entry of the history with e, is the one that is sent of e
 abbrev pub IsOfLastEntry : PacketizerSettings → List Sent → Sent → Placed → Type 0

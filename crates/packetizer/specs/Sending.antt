@@ -12,7 +12,8 @@ use Rattle.packetizer.specs.OutputStanding.{PacketizerStandsFor, source_at}
 -- this holds of all that the output stands for
 abbrev pub OfSent : State → (PacketizerSettings → List ℕ → List Sent → Type 0) → Type 0
 OfSent s P =
-    (settings : PacketizerSettings) (sources : List ℕ) (past : List Sent) → PacketizerStandsFor settings sources s past → P settings sources past
+    (settings : PacketizerSettings) (sources : List ℕ) (past : List Sent)
+    → PacketizerStandsFor settings sources s past → P settings sources past
 
 -- this holds of this text of the source where it may come next, at this media time
 abbrev pub OfNext : State → ℕ → ℕ → List ℕ → (PacketizerSettings → List ℕ → List Sent → Sent → Type 0) → Type 0
@@ -24,7 +25,8 @@ OfNext s source media text P =
 -- the same where the timestamp is known and not the media time
 abbrev pub OfStamped : State → ℕ → ℕ → List ℕ → (PacketizerSettings → List ℕ → List Sent → Sent → Type 0) → Type 0
 OfStamped s source timestamp text P =
-    (settings : PacketizerSettings) (sources : List ℕ) (past : List Sent) (media : ℕ) → PacketizerStandsFor settings sources s past
+    (settings : PacketizerSettings) (sources : List ℕ) (past : List Sent) (media : ℕ)
+    → PacketizerStandsFor settings sources s past
     → timestamp ≡ (settings.timestamp + media) % 2 ^ 32
     → IsNext (stream_of settings) past (text_of sources source media text)
     → P settings sources past (text_of sources source media text)

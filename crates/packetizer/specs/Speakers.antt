@@ -28,7 +28,8 @@ text_of sources source media text = record { source = slice_index sources source
 -- most the longest step after the last packet of the source.
 pub record IsNext (c : Stream) (past : List Sent) (e : Sent) : Type 0 where
   pub later : (x : Sent) → In x past → (x.media < e.media) × (e.media < x.media + 2 ^ 31)
-  pub near : has_text_in c.generations (sent_of e.source past) ≡ true → IfSome (nth 0 (sent_of e.source past)) (λ last. e.media ≤ last.media + longest_step c.generations)
+  pub near : has_text_in c.generations (sent_of e.source past) ≡ true
+      → IfSome (nth 0 (sent_of e.source past)) (λ last. e.media ≤ last.media + longest_step c.generations)
   pub text : (length e.text ≤ MOST_TEXT_OCTETS) × IsUtf8 e.text
 
 -- each of these could be sent after those before it

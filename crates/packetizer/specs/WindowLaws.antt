@@ -18,7 +18,8 @@ WindowsRepeat =
 -- they have octets that are read back
 abbrev pub PacketsFit : Type 0
 PacketsFit =
-    (payload_types : PayloadTypes) (c : Stream) (past : List Sent) (e : Sent) → payload_types.t140 < 2 ^ 7 → payload_types.red < 2 ^ 7 → payload_types.t140 ≢ payload_types.red
+    (payload_types : PayloadTypes) (c : Stream) (past : List Sent) (e : Sent) → payload_types.t140 < 2 ^ 7
+    → payload_types.red < 2 ^ 7 → payload_types.t140 ≢ payload_types.red
     → c.generations ≤ 3
     → c.ssrc < 2 ^ 32
     → e.source < 2 ^ 32

@@ -21,10 +21,3 @@ pub use sender_laws::{
 pub use senders::{Sender, SenderSettings};
 pub use window_laws::{packets_fit, windows_repeat};
 pub use windows::Window;
-
-#[cfg(test)]
-mod output_tests;
-#[cfg(test)]
-mod sender_tests;
-#[cfg(test)]
-mod window_tests;

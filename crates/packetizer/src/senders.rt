@@ -112,7 +112,8 @@ impl Sender {
     /// Whether a packet is sent at this moment, in ms: text waits or is to be repeated, and nothing was sent yet or the
     /// interval has passed.
     pub fn due(&self, now: u64) -> bool
-        ensures { OfScripts self.now (λ settings past. result ≡ due_at (stream_of settings) settings.interval past now) }
+        ensures { OfScripts self.now (λ settings past. result
+            ≡ due_at (stream_of settings) settings.interval past now) }
     {
         self.has_more() && self.has_passed(now)
     }

@@ -26,6 +26,18 @@ impl Model for WaitingText {
     ghost invariant = { λ w. w.ring.capacity ≡ MOST_WAITING_OCTETS };
 }
 
+/// Appends octets for which there is room. Mostly there are none, and then nothing is called.
+#[inline(always)]
+fn append_rest(text: &mut Text, octets: &[u8])
+    requires { length text.old + length octets.now ≤ MOST_TEXT_OCTETS }
+    ensures { text.new ≡ text.old ++ octets.now }
+{
+    if !octets.is_empty() {
+        let appended = text.append(octets);
+        prove!(appended.is_ok());
+    }
+}
+
 impl WaitingText {
     pub fn new(alloc: Global) -> Result<WaitingText, NoMemory>
         ensures { IfOk result (λ w. w ≡ []) }
@@ -85,7 +97,7 @@ impl WaitingText {
         let from_first = first.len().min(len);
         text.clear();
         let _ = text.append(&first[..from_first]);
-        let _ = text.append(&second[..len - from_first]);
+        append_rest(text, &second[..len - from_first]);
         self.ring.truncate_front(self.ring.len() - len);
     }
 }

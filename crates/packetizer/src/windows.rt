@@ -83,7 +83,8 @@ impl Window {
     /// Keeps a copy of the text of a packet with this timestamp, over the oldest block.
     pub fn keep(&mut self, timestamp: u32, text: &[u8])
         requires { length text.now < 1024 }
-        ensures { (g base : ℕ) (past : List Sent) (e : Sent) → WindowStandsFor g base self.old past → timestamp ≡ (base + e.media) % 2 ^ 32 → text.now ≡ e.text
+        ensures { (g base : ℕ) (past : List Sent) (e : Sent) → WindowStandsFor g base self.old past
+            → timestamp ≡ (base + e.media) % 2 ^ 32 → text.now ≡ e.text
             → WindowStandsFor g base self.new (e ∷ past) }
     {
         if self.oldest < self.generations {

@@ -1,10 +1,10 @@
 -- Copies that are heard one after another.
-use Rattle.std.proofs.Common.{◌≡◌, ℕ, zero, suc, ◌+◌, ◌-◌, ◌*◌, ◌<◌, ◌≤◌, Bool, true, false, cond, inl, inr, List, [], ◌∷◌, ◌++◌, length, map, take, drop, get_or, refl, ap, sym, ◌∙◌, subst, arith, add-one, length-append}
+use Rattle.std.proofs.Common.{◌≡◌, ℕ, zero, suc, ◌+◌, ◌*◌, ◌<◌, ◌≤◌, Bool, true, false, cond, inl, inr, List, [], ◌∷◌, ◌++◌, length, map, take, drop, get_or, refl, ap, sym, ◌∙◌, subst, arith, add-one, length-append}
 use Rattle.std.specs.Prelude.{flat_map, slice_index, ◌||◌, ◌==◌}
 use Rattle.std.specs.List.{AllByRecursion, list_any}
 use Rattle.std.specs.List.Sorted.{IsNonDecreasing}
 use Rattle.std.proofs.Math.Seq.{take-suc}
-use Rattle.std.proofs.lemmas.List.{map-append, length-map, length-drop, take_all}
+use Rattle.std.proofs.lemmas.List.{map-append, length-map}
 use Rattle.std.proofs.lemmas.Grind.{flat_map-append}
 use Rattle.std.proofs.lemmas.Bool.{eq-eqb, true≢false}
 use Rattle.file_spec.specs.declared.conference_lines.PlanLine.{PlanLine}
@@ -127,7 +127,3 @@ unspoken (p ∷ plan) t n l (inr i) = unspoken plan t (rest (p.terminal == t) n)
 pub heard_as_written : (plan : List PlanLine) (t : ℕ) (n : Terminal) (c : TerminalSettings) (sources : List ℕ) (all : List (ℕ × List ℕ)) → list_any (λ l. l.terminal == t) plan ≡ false → IsNonDecreasing (map (λ r. r.0) all)
     → Listens n c sources (map sent_item all) → Listens n c sources (came plan t all)
 heard_as_written plan t n c sources all u h li = subst (Listens n c sources) (sym (as_written plan t all (unspoken plan t u) h)) li
-
--- the octets from a place on
-pub rest_is : (octets : List ℕ) (p : ℕ) → take (length octets - p) (drop p octets) ≡ drop p octets
-rest_is octets p = take_all (length octets - p) (drop p octets) (omega (arith, length-drop p octets))

@@ -1,19 +1,13 @@
 -- How many packets were sent to a terminal, and what their recording is.
-use Rattle.std.proofs.Common.{◌≡◌, ℕ, zero, suc, ◌+◌, ◌-◌, ◌<◌, ◌≤◌, ◌^◌, List, [], ◌∷◌, ◌++◌, Some, length, map, drop, refl, sym, ap, ◌∙◌, arith, length-append}
-use Rattle.std.specs.Prelude.{slice_get}
+use Rattle.std.proofs.Common.{◌≡◌, ℕ, ◌+◌, ◌-◌, ◌<◌, ◌≤◌, ◌^◌, List, [], ◌∷◌, ◌++◌, length, map, drop, refl, sym, ap, ◌∙◌, arith, length-append}
 use Rattle.std.proofs.lemmas.List.{map-append}
 use Rattle.wire_spec.specs.Dump.{Item, sent_item}
 use Rattle.stream_spec.specs.Own.{Sent}
 use Rattle.packetizer.specs.declared.outputs.PacketizerSettings.{PacketizerSettings}
 use Rattle.packetizer.specs.Sending.{octets_of}
-use Rattle.sent_log.specs.States.{Sending, State, IsLawful, OfTerminal, recording_of, records_of, sents}
+use Rattle.sent_log.specs.States.{State, IsLawful, OfTerminal, recording_of, records_of, sents}
 use Rattle.playback.specs.Written.{IsPlayable, IsWritten}
-
--- what was sent to a terminal
-pub sending_of : (log : State) (terminal : ℕ) → terminal < length log → (x : Sending) × (slice_get log terminal ≡ Some x)
-sending_of [] terminal low = absurd (omega arith)
-sending_of (x ∷ log) zero low = (x, refl)
-sending_of (x ∷ log) (suc terminal) low = sending_of log terminal (omega arith)
+use Rattle.sent_log.proofs.Recorded.{terminal_there as sending_of}
 
 -- ---- their packets
 

@@ -14,7 +14,7 @@ use Rattle.wire_spec.proofs.SentBack.{sent_back}
 use Rattle.stream_spec.specs.Lists.{In}
 use Rattle.stream_spec.specs.Numbering.{Numbered, distinct_from, first_number, has_number, in_time, is_given_up, number_it, numbered, used}
 use Rattle.stream_spec.specs.Hearing.{heard}
-use Rattle.stream_spec.specs.History.{Come, Entry, History, IsNear, Lawful, Placed, by_place, entry_of, placed, placed_after, places, top_place}
+use Rattle.stream_spec.specs.History.{Come, History, IsNear, Lawful, Placed, by_place, entry_of, placed, places, top_place}
 use Rattle.stream_spec.specs.Kept.{Block, Item as Told, is_text_of, kept, texts}
 use Rattle.stream_spec.specs.Own.{NearEach, Sendable, Sent, Stream, come_from, entry_after, own_packet, packet_after, sent_history}
 use Rattle.stream_spec.proofs.Lists.{any_in, in_left, in_right}
@@ -30,13 +30,16 @@ use Rattle.mixer_spec.proofs.OneHop.{told_whole}
 use Rattle.view_spec.specs.Seen.{Fate, Reception, Text, fate_at, fate_of, many}
 use Rattle.view_spec.specs.Markers.{marker_count, markers_in}
 use Rattle.view_spec.proofs.Markers.{markers_kept}
-use Rattle.terminal.proofs.Listening.{arrivals_more, many_more}
+use Rattle.terminal.proofs.Listening.{many_more}
 use Rattle.terminal.specs.Terminals.{one_if}
 use Rattle.packetizer.specs.declared.outputs.PacketizerSettings.{PacketizerSettings}
 use Rattle.packetizer.specs.OutputSettings.{AreSettings, stream_of}
 use Rattle.packetizer.specs.Sending.{octets_of}
 use Rattle.sent_log.specs.States.{records_of, sents}
 use Rattle.playback.specs.Whole.{said}
+use Rattle.stream_spec.proofs.Plain.{place_to as place_below, put_last}
+use Rattle.mixer_spec.proofs.Arriving.{length_placed as placed_count}
+use Rattle.wire_spec.proofs.Plain.{arrivals_more}
 
 -- ---- each packet is read as it was sent
 -- the sources of all have 32 bits
@@ -241,15 +244,6 @@ timely wait h d settings x past a =
     (and_from (not (has_number es n)) (not (is_given_up wait es e.time n)) (ap not (none_has n es low)) (ap not (none_up wait e.time n es low)))
 
 -- ---- so all places came
-put_last : (x : Placed) (xs : List Placed) → ((y : Placed) → In y xs → y.place < x.place) → by_place x xs ≡ xs ++ x ∷ []
-put_last x [] f = refl
-put_last x (y ∷ ys) f = let l = f y (inl refl) in rw (le-ltb x.place y.place (omega (arith, l))) (ap (λ (zs : List Placed). y ∷ zs) (put_last x ys (λ z i. f z (inr i))))
-
-place_below : (front es : List Entry) (x : Placed) → In x (placed_after front es) → x.place < length front + length es
-place_below front [] x i = absurd i
-place_below front (e ∷ es) x (inl q) = omega (arith, ap (λ (z : Placed). z.place) q)
-place_below front (e ∷ es) x (inr i) = let r = place_below (e ∷ front) es x i in omega (arith, r)
-
 all_places : (wait : ℕ) (h : History) (d : ℕ) (settings : PacketizerSettings) (sent : List (ℕ × Sent)) → Arriving h d settings sent → places wait h (come_from h (pairs settings sent)) ≡ placed (sent_history (stream_of settings) (sents sent))
 all_places wait h d settings [] a = refl
 all_places wait h d settings (x ∷ past) a =
@@ -353,10 +347,6 @@ zip_length P [] [] q = refl
 zip_length P [] (y ∷ ys) q = absurd q
 zip_length P (x ∷ xs) [] q = absurd q
 zip_length P (x ∷ xs) (y ∷ ys) q = ap suc (zip_length P xs ys q.1)
-
-placed_count : (front es : List Entry) → length (placed_after front es) ≡ length es
-placed_count front [] = refl
-placed_count front (e ∷ es) = ap suc (placed_count (e ∷ front) es)
 
 pub all_used_is : (settings : PacketizerSettings) (sent : List (ℕ × Sent)) (wait : ℕ) → AllCame settings sent wait → length (used wait (numbered (arrived_all settings sent))) ≡ length sent
 all_used_is settings sent wait a =

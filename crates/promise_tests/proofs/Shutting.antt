@@ -1,14 +1,11 @@
 -- No run is one of these.
-use Rattle.std.proofs.Common.{◌≡◌, ℕ, Bool, true, false, true≢false, Ok, Err, Some, None, Option, List, [], refl, ap, sym, ◌∙◌, subst}
+use Rattle.std.proofs.Common.{◌≡◌, ℕ, Bool, true, false, true≢false, Ok, Err, Some, None, Option, List, refl, ap, sym, ◌∙◌, subst}
 use Rattle.command_spec.specs.declared.faults.Refusal.TheVariants.{AtByte, AtFrame, AtLine, AtTrunk, AfterTurns}
 use Rattle.command_spec.specs.declared.faults.Fault.TheVariants.{WrongWords, CannotOpen, CannotRead, Refused, CannotPrint, CannotWrite, LinkFailed, NoMemory}
 use Rattle.command_spec.specs.Messages.{Ending, status_of}
 use Rattle.command_spec.specs.Generated.{Generated, generated}
 use Rattle.command_spec.specs.Making.{makes_summary, recordings}
-use Rattle.command_spec.specs.Outcomes.{Outcome, Missing, Done, Served, IsDone}
-use Rattle.command_spec.specs.Outcomes as outcomes
 use Rattle.command_spec.specs.Sums.{Sums, sums_mixed}
-use Rattle.command_spec.specs.Work.{Made}
 use Rattle.rtt_words.specs.Words.{Make, Mix, MixWords, Read}
 use Rattle.rtt_top.specs.Faults.{WhereRead}
 use Rattle.rtt_top.specs.Outside.{Outside}
@@ -16,16 +13,11 @@ use Rattle.rtt_top.specs.Runs.{Ends, IsAllMade, NoneFailed, Prints, outcome_of}
 use Rattle.rtt_top.specs.Statuses.{EndsAsItCan}
 use Rattle.promise_tests.specs.Shut.{LoopholesStayShut}
 use Rattle.promise_tests.proofs.Endings.{all_done}
+use Rattle.command_spec.proofs.Plain.{done_map as weaker}
 
 no_input : (n : ℕ) (g : Generated) (o : Option Sums) (P : Type 0) → WhereRead (makes_summary n g o) P
 no_input n g None P = tt
 no_input n g (Some sums) P = tt
-
-weaker : (o : Outcome) (P Q : List ℕ → List Made → Type 0) → ((x : List ℕ) (fs : List Made) → P x fs → Q x fs) → IsDone o P → IsDone o Q
-weaker (Missing n) P Q f d = d
-weaker (outcomes.Refused n r) P Q f d = d
-weaker (Done x fs) P Q f d = f x fs d
-weaker (Served c) P Q f d = (d.0, f d.0 [] d.1)
 
 nine : (WorldTells OutTells : Type 0) (m : MixWords) (old new : Outside) (name : List ℕ) (e : Ending) → 9 ≡ status_of e → Ends (Mix m) WorldTells OutTells old new name e → NoneFailed old new
 nine WorldTells OutTells m old new name (Ok u) q d = absurd (cc q)

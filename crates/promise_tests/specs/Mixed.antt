@@ -4,11 +4,11 @@ use Rattle.stream_spec.specs.History.{History}
 use Rattle.mixer_spec.specs.Setups.{AllStay}
 use Rattle.mixer_spec.specs.Bridged.{IsPair}
 use Rattle.command_spec.specs.Mixing.{counted}
-use Rattle.command_spec.specs.Bridges.{Bridge, IsFrom, IsMixedFrom, inward, onward_from, setup_of, views_behind}
+use Rattle.command_spec.specs.Bridges.{Bridge, IsFrom, IsMixedFrom, cut_by, inward, onward_from, setup_of, views_behind}
 use Rattle.rtt_words.specs.Words.{MixWords, Mix}
 use Rattle.rtt_top.specs.Outside.{Outside, Output}
 use Rattle.rtt_top.specs.Runs.{Prints, Runs}
-use Rattle.promise_tests.specs.Typed.{IsAllTyped, IsOnlyTyped}
+use Rattle.promise_tests.specs.Typed.{IsAllTyped, IsOnlyPieces}
 
 -- of the conference that lay in files, what each aware terminal j hears of each other leg i, of whom the history h was sent
 pub record TellsWhatWasTyped (OutTells : Type 0) (m : MixWords) (old new : Outside) : Type 0 where
@@ -16,7 +16,7 @@ pub record TellsWhatWasTyped (OutTells : Type 0) (m : MixWords) (old new : Outsi
   pub mixed : IsMixedFrom old.contents m.conference bridge
   pub prints : OutTells → Prints (views_behind bridge ++ counted bridge.conference bridge.inputs) old new
   pub only : (j i : ℕ) → IsPair (setup_of bridge) j i → (h : History) → IsFrom bridge i h
-      → IsOnlyTyped (inward bridge i h) (onward_from bridge j i)
+      → IsOnlyPieces (cut_by bridge) (inward bridge i h) (onward_from bridge j i)
   pub whole : AllStay (setup_of bridge) → (j i : ℕ) → IsPair (setup_of bridge) j i → (h : History) → IsFrom bridge i h
       → IsAllTyped (inward bridge i h) (onward_from bridge j i)
 

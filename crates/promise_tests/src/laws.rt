@@ -5,7 +5,7 @@ ghost use Rattle.promise_tests.specs.Cascade.{CascadesTellWhatWasTyped};
 ghost use Rattle.promise_tests.specs.Shut.{LoopholesStayShut};
 
 use live_spec::one_sender_is_heard;
-use mixer_spec::headline;
+use mixer_spec::piece_laws::{hops_have_pieces, texts_are_cut, told_in_pieces};
 use rtt_io::{Sink, World};
 use rtt_top::laws::statuses_are_those_of_the_command;
 use stream_spec::still_keeps;
@@ -15,19 +15,24 @@ use stream_spec::still_keeps;
 /// shown.
 pub fn mix_tells_what_was_typed<W: World, K: Sink, E: Sink>()
     ensures { MixTellsWhatWasTyped W.tells K.tells E.tells }
-{}
+{
+    texts_are_cut();
+    told_in_pieces();
+}
 
 /// So it is in a live call, whatever then comes to Bob's terminal of what it is given. Where nothing was lost, Ann's text is what
 /// Bob hears and what was not yet given to him; where the call ended as closed, it is what Bob hears.
 pub fn live_calls_tell_what_was_typed()
     ensures { LiveCallsTellWhatWasTyped }
 {
-    headline();
+    hops_have_pieces();
+    texts_are_cut();
+    told_in_pieces();
     still_keeps();
     one_sender_is_heard();
 }
 
-/// So it is of `cascade` where Ann stands behind another mixer, from that mixer's sender to Bob.
+/// So it is of `cascade` where Ann stands behind another mixer, from that mixer's sender to Bob, where packets have no limit.
 pub fn cascades_tell_what_was_typed()
     ensures { CascadesTellWhatWasTyped }
 {}

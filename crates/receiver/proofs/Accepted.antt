@@ -6,7 +6,6 @@ use Rattle.std.proofs.lemmas.Str.{IsUtf8-nil, IsUtf8-from_is_utf8}
 use Rattle.std.proofs.lemmas.Bool.{and_parts}
 use Rattle.rtt_base.specs.declared.blocks.TextBlock.{TextBlock}
 use Rattle.rtt_base.specs.declared.text_packets.PayloadTypes.{PayloadTypes}
-use Rattle.wire_spec.specs.declared.faults.TextFault.{TextFault}
 use Rattle.wire_spec.specs.declared.faults.TextFault.TheVariants as text_faults
 use Rattle.wire_spec.specs.declared.faults.RedFault.TheVariants as red_faults
 use Rattle.rtt_base.specs.Steps.{◌>>=◌}
@@ -18,10 +17,7 @@ use Rattle.wire_spec.specs.Text.{text_of, text_of_short, refused_as, accepted, t
 use Rattle.wire_spec.specs.declared.headers.RedHeader.{RedHeader}
 use Rattle.wire_spec.specs.Faults.{header_fault, blocks_fault}
 use Rattle.rtt_base.specs.declared.limits.TheConstants.{MOST_PACKET_OCTETS, MOST_TEXT_OCTETS}
-
-refused_ok : {A E : Type 0} (fault : E → TextFault) (r : Result A E) (x : A) → refused_as fault r ≡ Ok x → r ≡ Ok x
-refused_ok fault (Ok y) x e = cc
-refused_ok fault (Err d) x e = absurd (cc)
+use Rattle.wire_spec.proofs.Plain.{refused_ok}
 
 -- behind a test that refuses, and behind one that accepts
 past_refusal : {A E : Type 0} (b : Bool) (d : E) (r : Result A E) (y : A) → cond b (Err d) r ≡ Ok y → r ≡ Ok y

@@ -1,12 +1,12 @@
 -- Used packets rise in number and are no more than came, and those that were given are the first of them.
-use Rattle.std.proofs.Common.{◌≡◌, ℕ, suc, ◌+◌, ◌<◌, ◌≤◌, Bool, true, false, cond, Option, Some, None, List, [], ◌∷◌, ◌++◌, refl, ap, sym, ◌∙◌, inl, inr, arith, length, map, length-append, append_assoc, subst}
+use Rattle.std.proofs.Common.{◌≡◌, ℕ, ◌+◌, ◌<◌, ◌≤◌, Option, Some, None, List, [], ◌∷◌, ◌++◌, refl, ap, sym, ◌∙◌, inl, inr, arith, length, map, length-append, append_assoc, subst}
 use Rattle.std.specs.Option.{ForSome}
 use Rattle.std.proofs.lemmas.List.{map-append, length-map}
-use Rattle.wire_spec.specs.Packets.{Arrival, IsTextPacket, AreTextArrivals}
+use Rattle.wire_spec.specs.Packets.{IsTextPacket, AreTextArrivals}
 use Rattle.stream_spec.specs.Lists.{In}
-use Rattle.stream_spec.specs.Numbering.{Numbered, RisingNumbers, numbered, in_time, used, by_number}
+use Rattle.stream_spec.specs.Numbering.{Numbered, RisingNumbers, numbered, used}
 use Rattle.stream_spec.specs.ChunksBy.{stamped}
-use Rattle.stream_spec.proofs.Rising.{used_rises, length_by_number, rising_below}
+use Rattle.stream_spec.proofs.Rising.{used_rises, rising_below}
 use Rattle.stream_spec.proofs.Lists.{in_right, in_left}
 use Rattle.stream_spec.proofs.ReadyBy.{rising_stamped}
 use Rattle.stream_spec.proofs.Matched.{used_in}
@@ -16,19 +16,7 @@ use Rattle.reorder_buffer.specs.States.{State, arrival_count}
 use Rattle.reorder_buffer.proofs.Giving.{order_is}
 use Rattle.receiver.specs.Hears.{ready_packet, ready_packets, last_after}
 use Rattle.stream_spec.proofs.HeardTexts.{numbered_texts}
-
--- ---- no more than came
-length-used : (wait : ℕ) (past : List Numbered) → length (used wait past) ≤ length past
-length-used wait [] = omega arith
-length-used wait (e ∷ past) = go (in_time wait e past) (length-used wait past)
-  where
-    go : (t : Bool) → length (used wait past) ≤ length past → length (cond t (by_number e (used wait past)) (used wait past)) ≤ suc (length past)
-    go true h = omega (arith, length_by_number e (used wait past))
-    go false h = omega arith
-
-numbered_length : (a : List Arrival) → length (numbered a) ≡ length a
-numbered_length [] = refl
-numbered_length (x ∷ past) = ap suc (numbered_length past)
+use Rattle.stream_spec.proofs.Plain.{used_fits as length-used, all_numbered as numbered_length}
 
 -- ---- in rising number
 pub ready_stamped : (wait : ℕ) (past us : List Numbered) → ready_packets (map (due_at wait past) us) ≡ map (stamped wait past) us

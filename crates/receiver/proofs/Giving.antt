@@ -1,12 +1,12 @@
 -- An ear that is told, and one that gives.
-use Rattle.std.proofs.Common.{◌≡◌, ℕ, ◌<◌, Bool, true, false, IsUtf8, Some, None, List, [], ◌∷◌, ◌++◌, refl, ap, sym, ◌∙◌, arith, map, append-nil, append_assoc, subst, Result, Ok, Err, inl, inr}
-use Rattle.std.specs.Prelude.{not}
-use Rattle.std.proofs.lemmas.Bool.{and_parts, cases_lt, true≢false}
+use Rattle.std.proofs.Common.{◌≡◌, ℕ, ◌<◌, Bool, true, false, IsUtf8, Some, None, List, [], ◌∷◌, ◌++◌, refl, ap, sym, ◌∙◌, arith, length, map, append-nil, append_assoc, subst, Result, Ok, Err, inl, inr}
+use Rattle.std.specs.Prelude.{not, nat_le}
+use Rattle.std.proofs.lemmas.Bool.{and_parts, cases_lt, leb-true, true≢false}
 use Rattle.std.proofs.lemmas.Grind.{not_there}
 use Rattle.std.proofs.lemmas.Str.{IsUtf8-had}
 use Rattle.std.proofs.Math.Logic.{∥∥₁_map}
 use Rattle.std.specs.Option.{ForSome}
-use Rattle.std.proofs.lemmas.List.{map-append, append_cancel_left}
+use Rattle.std.proofs.lemmas.List.{drop_all, map-append, append_cancel_left}
 use Rattle.rtt_base.specs.declared.text_packets.TextPacket.{TextPacket}
 use Rattle.wire_spec.specs.declared.faults.TextFault.{TextFault}
 use Rattle.wire_spec.specs.Packets.{Packet, has_text}
@@ -25,7 +25,12 @@ use Rattle.reorder_buffer.proofs.Steps.{tracks_with}
 use Rattle.reorder_buffer.specs.declared.answers.Due.{Due}
 use Rattle.reorder_buffer.proofs.Giving.{order_is}
 use Rattle.receiver.specs.Stands.{Stands, latest_number, used_packet}
-use Rattle.receiver.specs.Pieces.{left_of, is_heard}
+use Rattle.receiver.specs.Pieces.{is_heard}
+use Rattle.receiver.specs.declared.cuts.TextCut.{TextCut}
+use Rattle.receiver.specs.declared.piece_cursors.PieceCursor.{PieceCursor}
+use Rattle.receiver.specs.Cuts.{chunks_given, text_pieces, texts_given}
+use Rattle.receiver.specs.PiecesLeft.{is_given, pieces_left, rest_of}
+use Rattle.receiver.proofs.HandedOut.{given_append, pieces_given, pieces_nil, texts_nil, given_texts as cut_texts}
 use Rattle.receiver.proofs.Blockwise.{heard_left}
 use Rattle.receiver.specs.declared.settings.EarSettings.{EarSettings}
 use Rattle.receiver.specs.declared.ears.Ear.{Ear}
@@ -36,12 +41,26 @@ use Rattle.receiver.proofs.Given.{fronts, above_given, given_text, last_snoc, ne
 use Rattle.receiver.proofs.ReadyBy.{chunks_due, chunks_ready, chunks_front}
 
 -- ---- what comes
-pub quiet_left : (e : Ear) (p : TextPacket) → is_quiet e ≡ true → left_of e.piece p ≡ []
-quiet_left e p q = heard_left e.piece p (and_parts (not (has_ready e.buffer)) (is_heard e.piece) q).1
+pub rest_none : (cut : TextCut) (piece : PieceCursor) → is_given piece ≡ true → rest_of cut piece ≡ []
+rest_none cut piece g =
+    let parts = and_parts (nat_le (length piece.whole) piece.from) (is_heard piece.texts) g in
+    ap (text_pieces cut) (drop_all piece.from piece.whole (leb-true (length piece.whole) piece.from parts.0)) ∙ pieces_nil cut
+
+pub given_left : (cut : TextCut) (piece : PieceCursor) (p : TextPacket) → is_given piece ≡ true → pieces_left cut piece p ≡ []
+given_left cut piece p g =
+    let parts = and_parts (nat_le (length piece.whole) piece.from) (is_heard piece.texts) g in
+    (λ i. rest_none cut piece g i ++ texts_given cut (heard_left piece.texts p parts.1 i)) ∙ texts_nil cut
+
+pub quiet_given : (e : Ear) → is_quiet e ≡ true → is_given e.piece ≡ true
+quiet_given e q = (and_parts (not (has_ready e.buffer)) (is_given e.piece) q).1
+
+pub quiet_left : (e : Ear) (p : TextPacket) → is_quiet e ≡ true → pieces_left e.settings.cut e.piece p ≡ []
+quiet_left e p q = given_left e.settings.cut e.piece p (quiet_given e q)
 
 -- nothing is left of the packet given last, and another may stand in its place
 module _ (e : Ear) (t : State) (quiet : is_quiet e ≡ true) where
-  none_left : (settings : EarSettings) (source : ℕ) (story : Story) (given : List Chunk) → Gave e settings source story given → given ++ map (chunk 0 e.ready) (left_of e.piece t.current) ≡ chunks_by 0 (ready_packets story.given) source
+  none_left : (settings : EarSettings) (source : ℕ) (story : Story) (given : List Chunk) → Gave e settings source story given
+      → given ++ map (chunk 0 e.ready) (pieces_left e.settings.cut e.piece t.current) ≡ chunks_given settings.cut (chunks_by 0 (ready_packets story.given) source)
   none_left settings source story given g =
       ap (λ ts. given ++ map (chunk 0 e.ready) ts) (quiet_left e t.current quiet ∙ sym (quiet_left e e.buffer.current quiet)) ∙ g.chunks
 
@@ -51,10 +70,10 @@ module _ (e : Ear) (t : State) (quiet : is_quiet e ≡ true) where
     hears = h;
     gave = λ settings source story given g. record {
       hears = h settings (source ∷ []) story g.hears;
-      chunks = none_left settings source story given g ∙ ap (λ gs. chunks_by 0 (ready_packets gs) source) (sym (same settings story));
+      chunks = none_left settings source story given g ∙ ap (λ gs. chunks_given settings.cut (chunks_by 0 (ready_packets gs) source)) (sym (same settings story));
       texts = subst AreHeardTexts (sym (quiet_left e t.current quiet)) tt;
     };
-    clear = (and_parts (not (has_ready e.buffer)) (is_heard e.piece) quiet).1;
+    clear = (and_parts (not (has_ready e.buffer)) (is_given e.piece) quiet).1;
   }
 
 -- time goes on, or ends
@@ -115,7 +134,7 @@ refuses e q now octets f quiet x = becomes e (with_packet e.buffer q) quiet (λ 
 pub end_chunks : (settings : EarSettings) (source : ℕ) (story : Story) → story.wait ≡ settings.wait → ready_dues (ended story) ≡ dues story → ready_chunks settings source (ended story) ≡ story_chunks settings source story
 end_chunks settings source story w e =
     let all : dues (ended story) ≡ ready_dues (ended story) ++ [] = sym (append-nil (ready_dues (ended story)) ∙ e) in
-    sym (chunks_ready settings source (ended story) [] w all) ∙ (ap (λ gs. chunks_by 0 (ready_packets gs) source) e ∙ sym (chunks_due settings source story w))
+    ap (chunks_given settings.cut) (sym (chunks_ready settings source (ended story) [] w all) ∙ (ap (λ gs. chunks_by 0 (ready_packets gs) source) e ∙ sym (chunks_due settings source story w)))
 
 -- ---- one more packet is given
 pub heard_one : (e m : Ear) (settings : EarSettings) (sources : List ℕ) (story : Story) (due : Due) (p : TextPacket) → m.settings ≡ e.settings → Hears e settings sources story → Tracks m.buffer (gave story (given_of due p))
@@ -178,9 +197,10 @@ pub opens : (old e m : Ear) (due : Due) → Going old e → m.settings ≡ e.set
     → ((story : Story) → Tracks e.buffer story → Tracks m.buffer (gave story (given_of due m.buffer.current)))
     → ((sources : List ℕ) (us : List Numbered) (time : ℕ) → Stands e.receiver sources us → Stands m.receiver sources (us ++ used_packet time due.number m.buffer.current ∷ []))
     → latest_number m.receiver ≡ Some due.number
-    → ((source : ℕ) (us : List Numbered) (time : ℕ) → Stands e.receiver (source ∷ []) us → heard_by (us ++ used_packet time due.number m.buffer.current ∷ []) source ≡ heard_by us source ++ texts_left m)
+    → (texts : List (List ℕ)) → ((source : ℕ) (us : List Numbered) (time : ℕ) → Stands e.receiver (source ∷ []) us → heard_by (us ++ used_packet time due.number m.buffer.current ∷ []) source ≡ heard_by us source ++ texts)
+    → texts_left m ≡ texts_given m.settings.cut texts
     → (settings : EarSettings) (source : ℕ) (story : Story) (given : List Chunk) → Gave old settings source story given → GaveSome m settings source story given
-opens old e m due going k none y t s n heard settings source story given g =
+opens old e m due going k none y t s n texts heard left settings source story given g =
     let now = going.gave settings source story given g in
     let h = now.1.hears in
     let before : Story = record story { given = now.0 } in
@@ -189,16 +209,20 @@ opens old e m due going k none y t s n heard settings source story given g =
     let u : Numbered = used_packet due.ready due.number m.buffer.current in
     let told : Tracks m.buffer (gave before one) = t before h.tracks in
     let above = above_given m.buffer before one told in
-    let added : texts_left m ≡ texts_added us u source = added_is us u source (texts_left m) above (heard source us due.ready h.stands) in
-    let whole : given ≡ chunks_by 0 us source = sym (append-nil given) ∙ (ap (λ ts. given ++ map (chunk 0 e.ready) ts) (sym none) ∙ now.1.chunks) in (
+    let added : texts ≡ texts_added us u source = added_is us u source texts above (heard source us due.ready h.stands) in
+    let cut : m.settings.cut ≡ settings.cut = ap (λ (x : EarSettings). x.cut) (k ∙ h.asked) in
+    let left_is : texts_left m ≡ texts_given settings.cut (texts_added us u source) = left ∙ (λ i. texts_given (cut i) (added i)) in
+    let whole : given ≡ chunks_given settings.cut (chunks_by 0 us source) = sym (append-nil given) ∙ (ap (λ ts. given ++ map (chunk 0 e.ready) ts) (sym none) ∙ now.1.chunks) in (
       now.0 ++ one ∷ [],
       record {
         hears = heard_one e m settings (source ∷ []) before due m.buffer.current k h told (s (source ∷ []) us due.ready h.stands) n;
         chunks = ap (λ cs. cs ++ map (chunk 0 m.ready) (texts_left m)) whole
-            ∙ (ap (λ r. chunks_by 0 us source ++ map (chunk 0 r) (texts_left m)) y
-            ∙ (ap (λ ts. chunks_by 0 us source ++ map (chunk 0 due.ready) ts) added
-            ∙ (sym (by_more 0 us u source above) ∙ ap (λ vs. chunks_by 0 vs source) (sym (map-append ready_packet now.0 (one ∷ []))))));
-        texts = subst AreHeardTexts (sym added) (added_utf8 us u source (given_text m.buffer before one told h.texts));
+            ∙ (ap (λ r. chunks_given settings.cut (chunks_by 0 us source) ++ map (chunk 0 r) (texts_left m)) y
+            ∙ (ap (λ ts. chunks_given settings.cut (chunks_by 0 us source) ++ map (chunk 0 due.ready) ts) left_is
+            ∙ (ap (λ cs. chunks_given settings.cut (chunks_by 0 us source) ++ cs) (sym (pieces_given settings.cut due.ready (texts_added us u source)))
+            ∙ (sym (given_append settings.cut (chunks_by 0 us source) (map (chunk 0 due.ready) (texts_added us u source)))
+            ∙ ap (chunks_given settings.cut) (sym (by_more 0 us u source above) ∙ ap (λ vs. chunks_by 0 vs source) (sym (map-append ready_packet now.0 (one ∷ []))))))));
+        texts = subst AreHeardTexts (sym left_is) (cut_texts settings.cut (texts_added us u source) (added_utf8 us u source (given_text m.buffer before one told h.texts)));
       },
     )
 
@@ -224,14 +248,18 @@ gave_ready old e going none all settings source story given g =
     let before : Story = record story { given = now.0 } in
     let o = order_is e.buffer before h.tracks in
     sym (append-nil given) ∙ (ap (λ ts. given ++ map (chunk 0 e.ready) ts) (sym none) ∙ (now.1.chunks
-    ∙ (ap (λ gs. chunks_by 0 (ready_packets gs) source) (all before h.tracks) ∙ chunks_ready settings source story _ h.wait o.dues_are)))
+    ∙ ap (chunks_given settings.cut) (ap (λ gs. chunks_by 0 (ready_packets gs) source) (all before h.tracks) ∙ chunks_ready settings source story _ h.wait o.dues_are)))
 
 pub gave_front : (e : Ear) (settings : EarSettings) (source : ℕ) (story : Story) (given : List Chunk) → Gave e settings source story given → (rest : List Chunk) × (story_chunks settings source story ≡ given ++ rest)
 gave_front e settings source story given g =
     let f = fronts e.buffer story g.hears.tracks in
     let left : List Chunk = map (chunk 0 e.ready) (texts_left e) in
     let c = chunks_front settings source story story.given f.rest g.hears.wait f.is in
-    (left ++ c.0, c.1 ∙ (ap (λ cs. cs ++ c.0) (sym g.chunks) ∙ append_assoc given left c.0))
+    let more = chunks_given settings.cut c.0 in (
+      left ++ more,
+      ap (chunks_given settings.cut) c.1
+          ∙ (given_append settings.cut (chunks_by 0 (ready_packets story.given) source) c.0 ∙ (ap (λ cs. cs ++ more) (sym g.chunks) ∙ append_assoc given left more)),
+    )
 
 -- what is given is a text
 stable : (b : Bool) → ¬ (¬ (b ≡ true)) → b ≡ true

@@ -1,3 +1,6 @@
+pub mod HandedOut
+pub mod Ends
+pub mod PiecesLeft
 pub mod Parts
 pub mod Takes
 pub mod Blockwise

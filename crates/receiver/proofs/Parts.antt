@@ -18,6 +18,7 @@ use Rattle.receiver.specs.Stands.{Stands, IsSeen}
 use Rattle.receiver.specs.Steps.{new_since, older_since, texts_since}
 use Rattle.rtp_text.proofs.Viewing.{redundant_is, primary_is}
 use Rattle.std.proofs.lemmas.List.{append-nil}
+use Rattle.stream_spec.proofs.Plain.{list_whole as concat_text}
 
 older_append : (seen : Option LastPacket) (timestamp : ℕ) (xs ys : List TextBlock) → older_since seen timestamp (xs ++ ys) ≡ older_since seen timestamp xs ++ older_since seen timestamp ys
 older_append seen timestamp [] ys = refl
@@ -91,10 +92,6 @@ octets_more seen timestamp xs i b initial out more is within before e =
     ∙ (append_assoc initial (concat (older_since seen timestamp (take i xs))) (concat (new_since seen timestamp b))
     ∙ ap (λ (t : List ℕ). initial ++ t) (sym (concat-append (older_since seen timestamp (take i xs)) (new_since seen timestamp b))
     ∙ ap concat (ap (λ (x : TextBlock). older_since seen timestamp (take i xs) ++ new_since seen timestamp x) is ∙ sym (older_more seen timestamp xs i b within)))))
-
-pub concat_text : (t : List ℕ) → concat (text_list t) ≡ t
-concat_text [] = refl
-concat_text (x ∷ xs) = append-nil (x ∷ xs)
 
 -- the marker, the older texts and the primary one
 pub octets_told : (out one two three text : List ℕ) (m o all : List (List ℕ)) → one ≡ out ++ concat m → two ≡ one ++ concat o → three ≡ two ++ text → o ++ text_list text ≡ all → three ≡ out ++ concat (m ++ all)

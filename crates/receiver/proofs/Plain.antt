@@ -1,5 +1,5 @@
 -- A packet where it lies, of which nothing but its primary text is heard.
-use Rattle.std.proofs.Common.{◌≡◌, ℕ, zero, suc, ◌+◌, ◌-◌, ◌*◌, ◌<◌, ◌≤◌, Bool, true, false, cond, Option, Some, List, [], ◌∷◌, ◌++◌, length, get_or, set, take, drop, refl, ap, subst, sym, ◌∙◌, arith}
+use Rattle.std.proofs.Common.{◌≡◌, ℕ, ◌+◌, ◌-◌, ◌*◌, ◌<◌, ◌≤◌, Bool, true, false, cond, Option, Some, List, [], ◌∷◌, ◌++◌, length, get_or, set, take, drop, refl, ap, subst, sym, ◌∙◌, arith}
 use Rattle.std.specs.Prelude.{◌==◌, ◌&&◌, ◌||◌, nat_lt, not, IsTrue}
 use Rattle.std.specs.List.{concat}
 use Rattle.std.specs.Option.{ForSome}
@@ -23,9 +23,10 @@ use Rattle.receiver.specs.Stands.{Stands, used_packet}
 use Rattle.receiver.specs.Steps.{missing_up_to, missing_then, is_new_since, is_marked_since, new_since, older_since, texts_since, told_since}
 use Rattle.receiver.specs.Each.{AreHeard}
 use Rattle.receiver.specs.Plain.{viewed_packet, gives_since, any_gives_since, IsPlain, IsPlainAt, IsKept}
-use Rattle.receiver.proofs.Parts.{concat_text}
 use Rattle.receiver.proofs.Takes.{IsCounted, count_fits, seat, IsSeat, stands_listed, each_listed, heard_at, markers, texts_there}
 use Rattle.rtp_text.proofs.Viewing.{redundant_is, primary_is}
+use Rattle.stream_spec.proofs.Plain.{list_whole as concat_text}
+use Rattle.rtp_text.proofs.Plain.{older_count}
 
 -- ---- headers
 
@@ -68,10 +69,6 @@ none_older seen timestamp [] octets e = refl
 none_older seen timestamp (h ∷ hs) octets e =
     let parts = either_none (gives_since seen timestamp h) (any_gives_since seen timestamp hs) e in
     rw (none_of seen timestamp h octets parts.0) (none_older seen timestamp hs (drop h.size octets) parts.1)
-
-older_count : (n : ℕ) (heads octets : List ℕ) → length (older_at (headers_of n heads) octets) ≡ n
-older_count zero heads octets = refl
-older_count (suc n) heads octets = ap suc (older_count n (drop 4 heads) (drop (header_of heads).size octets))
 
 -- no more numbers are missing than the packet repeats
 pub unmarked : (seen : Option LastPacket) (missing : ℕ) (v : TextView) → missing - missing_then seen ≤ v.count → is_marked_since seen missing v.timestamp (older_in v) ≡ false

@@ -20,7 +20,7 @@ use Rattle.stream_spec.proofs.ReadyBy.{by_early, by_late, by_front}
 use Rattle.stream_spec.proofs.Lists.{in_filter, filter_in}
 use Rattle.reorder_buffer.specs.Stories.{Story, Given, dues, ready_dues, is_due}
 use Rattle.receiver.specs.declared.settings.EarSettings.{EarSettings}
-use Rattle.receiver.specs.Hears.{told, IsToldOf, ready_packet, ready_packets, ready_chunks, story_chunks}
+use Rattle.receiver.specs.Hears.{told, IsToldOf, ready_packet, ready_packets, whole_ready, whole_chunks}
 use Rattle.receiver.proofs.Given.{dues_rise, ready_stamped}
 
 -- ---- filters
@@ -41,14 +41,14 @@ rest_fails p xs zs e z i = false_from_ne_true (p z) (λ t. subst (In z) none (fi
         (ap (λ ys. ys ++ filter p zs) (sym (filter_twice p xs)) ∙ (sym (filter-append p (filter p xs) zs) ∙ (sym (ap (filter p) e) ∙ sym (append-nil (filter p xs)))))
 
 -- ---- of a story
-pub chunks_due : (settings : EarSettings) (source : ℕ) (story : Story) → story.wait ≡ settings.wait → story_chunks settings source story ≡ chunks_by 0 (ready_packets (dues story)) source
+pub chunks_due : (settings : EarSettings) (source : ℕ) (story : Story) → story.wait ≡ settings.wait → whole_chunks settings source story ≡ chunks_by 0 (ready_packets (dues story)) source
 chunks_due settings source story w =
     ap (λ n. chunks n 0 story.past source) (sym w)
     ∙ (all_by story.wait 0 story.past source
     ∙ ap (λ us. chunks_by 0 us source) (sym (ready_stamped story.wait (numbered story.past) (used story.wait (numbered story.past)))))
 
 pub chunks_ready : (settings : EarSettings) (source : ℕ) (story : Story) (rest : List Given) → story.wait ≡ settings.wait → dues story ≡ ready_dues story ++ rest
-    → chunks_by 0 (ready_packets (ready_dues story)) source ≡ ready_chunks settings source story
+    → chunks_by 0 (ready_packets (ready_dues story)) source ≡ whole_ready settings source story
 chunks_ready settings source story rest w o =
     sym (ap (filter (is_ready_by story.moment)) (chunks_due settings source story w ∙ ap (λ us. chunks_by 0 us source) parts)
     ∙ (by_late story.moment 0 source (ready_packets rest) (ready_packets (ready_dues story)) (subst RisingNumbers parts (dues_rise story)) (later rest (λ g i. i))
@@ -71,7 +71,7 @@ chunks_ready settings source story rest w o =
     sooner (g ∷ gs) f v (inr i) = sooner gs (λ h j. f h (inr j)) v i
 
 pub chunks_front : (settings : EarSettings) (source : ℕ) (story : Story) (given rest : List Given) → story.wait ≡ settings.wait → dues story ≡ given ++ rest
-    → (more : List Chunk) × (story_chunks settings source story ≡ chunks_by 0 (ready_packets given) source ++ more)
+    → (more : List Chunk) × (whole_chunks settings source story ≡ chunks_by 0 (ready_packets given) source ++ more)
 chunks_front settings source story given rest w o =
     let parts : ready_packets (dues story) ≡ ready_packets given ++ ready_packets rest = ap ready_packets o ∙ map-append ready_packet given rest in
     let f = by_front 0 source (ready_packets rest) (ready_packets given) (subst RisingNumbers parts (dues_rise story)) in

@@ -34,10 +34,12 @@ pub record IsHeardOf (s : ℕ) (us : List Numbered) (t : SourceText) : Type 0 wh
 
 -- each text is what is heard of the source in its place
 abbrev pub AreHeard : List ℕ → List Numbered → List SourceText → Type 0
-AreHeard sources us texts = (k : ℕ) (d : SourceText) → k < length sources → IsHeardOf (slice_index sources k) us (slice_index_or texts k d)
+AreHeard sources us texts = (k : ℕ) (d : SourceText) → k < length sources
+    → IsHeardOf (slice_index sources k) us (slice_index_or texts k d)
 
 -- What is left of a packet is what it adds to what is heard of its source, where that is listed.
 abbrev pub LeavesAdded : Receiver → ℕ → TextPacket → TextCursor → Type 0
 LeavesAdded old number p piece =
-    (sources : List ℕ) (us : List Numbered) (time k : ℕ) → Stands old sources us → k < length sources → slice_index sources k ≡ p.source
+    (sources : List ℕ) (us : List Numbered) (time k : ℕ) → Stands old sources us → k < length sources
+    → slice_index sources k ≡ p.source
     → left_of piece p ≡ texts_added us (used_packet time number p) p.source

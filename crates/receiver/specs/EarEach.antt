@@ -23,4 +23,5 @@ pub record GatheredEach (e : Ear) (settings : EarSettings) (sources : List ℕ) 
   pub few : length (ready_dues story) ≤ arrival_count e
 
 abbrev pub GathersEach : Ear → Ear → ℕ → List SourceText → List SourceText → Type 0
-GathersEach old new n texts more = (settings : EarSettings) (sources : List ℕ) (story : Story) → HearsEach old settings sources story texts → GatheredEach new settings sources story n more
+GathersEach old new n texts more = (settings : EarSettings) (sources : List ℕ) (story : Story)
+    → HearsEach old settings sources story texts → GatheredEach new settings sources story n more

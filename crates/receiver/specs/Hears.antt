@@ -14,7 +14,8 @@ use Rattle.reorder_buffer.specs.Tracks.{Tracks}
 use Rattle.reorder_buffer.specs.States.{has_ready}
 use Rattle.reorder_buffer.specs.States as buffer
 use Rattle.receiver.specs.Stands.{Stands, latest_number}
-use Rattle.receiver.specs.Pieces.{left_of, is_heard}
+use Rattle.receiver.specs.Cuts.{chunks_given}
+use Rattle.receiver.specs.PiecesLeft.{is_given, pieces_left}
 use Rattle.receiver.specs.declared.settings.EarSettings.{EarSettings}
 use Rattle.receiver.specs.declared.ears.Ear.{Ear}
 
@@ -32,15 +33,15 @@ is_finished e = buffer.is_finished e.buffer
 
 -- nothing is left of the packet given last
 abbrev pub is_clear : Ear → Bool
-is_clear e = is_heard e.piece
+is_clear e = is_given e.piece
 
 -- all that is settled by now was given
 abbrev pub is_quiet : Ear → Bool
 is_quiet e = not (has_ready e.buffer) && is_clear e
 
--- the texts of the packet given last that are still to be heard
+-- what is still to be handed out of the packet given last
 abbrev pub texts_left : Ear → List (List ℕ)
-texts_left e = left_of e.piece (buffer.current_of e.buffer)
+texts_left e = pieces_left e.settings.cut e.piece (buffer.current_of e.buffer)
 
 -- ---- what it was told
 
@@ -75,7 +76,7 @@ abbrev pub last_after : Option ℕ → List Numbered → Option ℕ
 last_after last [] = last
 last_after last (u ∷ us) = last_after (Some u.number) us
 
--- The ear listens to these sources. Its tracker was told and gave what the story says, and its receiver took that.
+-- The ear listens to these sources. Its buffer was told and gave what the story says, and its receiver took that.
 pub record Hears (e : Ear) (settings : EarSettings) (sources : List ℕ) (story : Story) : Type 0 where
   pub asked : e.settings ≡ settings
   pub wait : story.wait ≡ settings.wait
@@ -85,10 +86,11 @@ pub record Hears (e : Ear) (settings : EarSettings) (sources : List ℕ) (story 
   pub texts : AreTextArrivals story.past
 
 -- The ear listens to one source and gave these chunks, oldest first. With what is left of the packet given last they
--- are the chunks of all packets given. Their source is 0: whose they are is set by who mixes.
+-- are what is handed out of the chunks of all packets given. Their source is 0: whose they are is set by who mixes.
 pub record Gave (e : Ear) (settings : EarSettings) (source : ℕ) (story : Story) (gave : List Chunk) : Type 0 where
   pub hears : Hears e settings (source ∷ []) story
-  pub chunks : gave ++ map (chunk 0 e.ready) (texts_left e) ≡ chunks_by 0 (ready_packets story.given) source
+  pub chunks : gave ++ map (chunk 0 e.ready) (texts_left e)
+      ≡ chunks_given settings.cut (chunks_by 0 (ready_packets story.given) source)
   pub texts : AreHeardTexts (texts_left e)
 
 abbrev pub IsGiving : Ear → Type 0
@@ -107,36 +109,49 @@ BeginsAnew old new ssrc =
 -- ---- by when it gave it
 
 -- all chunks of the source, by what came so far
-abbrev pub story_chunks : EarSettings → ℕ → Story → List Chunk
-story_chunks settings source story = chunks settings.wait 0 story.past source
+abbrev pub whole_chunks : EarSettings → ℕ → Story → List Chunk
+whole_chunks settings source story = chunks settings.wait 0 story.past source
 
 -- those of them that are ready by the greatest moment
+abbrev pub whole_ready : EarSettings → ℕ → Story → List Chunk
+whole_ready settings source story = filter (is_ready_by story.moment) (whole_chunks settings source story)
+
+-- what is handed out of them
+abbrev pub story_chunks : EarSettings → ℕ → Story → List Chunk
+story_chunks settings source story = chunks_given settings.cut (whole_chunks settings source story)
+
 abbrev pub ready_chunks : EarSettings → ℕ → Story → List Chunk
-ready_chunks settings source story = filter (is_ready_by story.moment) (story_chunks settings source story)
+ready_chunks settings source story = chunks_given settings.cut (whole_ready settings source story)
 
 -- ---- what calls make of it
 
 -- what came is another, and what was given stays, of which nothing is left
 pub record Becomes (old new : Ear) (f : EarSettings → Story → Story) : Type 0 where
-  pub hears : (settings : EarSettings) (sources : List ℕ) (story : Story) → Hears old settings sources story → Hears new settings sources (f settings story)
-  pub gave : (settings : EarSettings) (source : ℕ) (story : Story) (gave : List Chunk) → Gave old settings source story gave → Gave new settings source (f settings story) gave
+  pub hears : (settings : EarSettings) (sources : List ℕ) (story : Story) → Hears old settings sources story
+      → Hears new settings sources (f settings story)
+  pub gave : (settings : EarSettings) (source : ℕ) (story : Story) (gave : List Chunk)
+      → Gave old settings source story gave → Gave new settings source (f settings story) gave
   pub clear : is_clear new ≡ true
 
 -- a chunk was given
 abbrev pub GivesChunk : Ear → Ear → Chunk → Type 0
-GivesChunk old new c = (settings : EarSettings) (source : ℕ) (story : Story) (gave : List Chunk) → Gave old settings source story gave → GaveSome new settings source story (gave ++ c ∷ [])
+GivesChunk old new c = (settings : EarSettings) (source : ℕ) (story : Story) (gave : List Chunk)
+    → Gave old settings source story gave → GaveSome new settings source story (gave ++ c ∷ [])
 
 -- none was given
 abbrev pub GivesNone : Ear → Ear → Type 0
-GivesNone old new = (settings : EarSettings) (source : ℕ) (story : Story) (gave : List Chunk) → Gave old settings source story gave → GaveSome new settings source story gave
+GivesNone old new = (settings : EarSettings) (source : ℕ) (story : Story) (gave : List Chunk)
+    → Gave old settings source story gave → GaveSome new settings source story gave
 
 -- exactly the chunks that are ready by the greatest moment were given
 abbrev pub GaveReady : Ear → Type 0
-GaveReady e = (settings : EarSettings) (source : ℕ) (story : Story) (gave : List Chunk) → Gave e settings source story gave → gave ≡ ready_chunks settings source story
+GaveReady e = (settings : EarSettings) (source : ℕ) (story : Story) (gave : List Chunk)
+    → Gave e settings source story gave → gave ≡ ready_chunks settings source story
 
 -- what was given is a front of all chunks
 abbrev pub GaveFront : Ear → Type 0
-GaveFront e = (settings : EarSettings) (source : ℕ) (story : Story) (gave : List Chunk) → Gave e settings source story gave → (rest : List Chunk) × (story_chunks settings source story ≡ gave ++ rest)
+GaveFront e = (settings : EarSettings) (source : ℕ) (story : Story) (gave : List Chunk)
+    → Gave e settings source story gave → (rest : List Chunk) × (story_chunks settings source story ≡ gave ++ rest)
 
 -- each used packet is ready by the end, and so is each chunk
 pub record IsReadyAtEnd (settings : EarSettings) (story : Story) : Type 0 where
@@ -144,4 +159,5 @@ pub record IsReadyAtEnd (settings : EarSettings) (story : Story) : Type 0 where
   pub chunks : (source : ℕ) → ready_chunks settings source (ended story) ≡ story_chunks settings source story
 
 abbrev pub AllReady : Ear → Type 0
-AllReady e = (settings : EarSettings) (sources : List ℕ) (story : Story) → Hears e settings sources story → IsReadyAtEnd settings story
+AllReady e = (settings : EarSettings) (sources : List ℕ) (story : Story) → Hears e settings sources story
+    → IsReadyAtEnd settings story

@@ -2,6 +2,8 @@ pub mod Each
 pub mod Stands
 pub mod Steps
 pub mod Pieces
+pub mod Cuts
+pub mod PiecesLeft
 pub mod Plain
 pub mod EarEach
 pub mod Hears

@@ -21,12 +21,14 @@ viewed_packet time number v = record { time = time; number = number; packet = pa
 -- the receiver took the packet
 abbrev pub TakesView : Receiver → Receiver → ℕ → TextView → Type 0
 TakesView old new number v =
-    (sources : List ℕ) (us : List Numbered) (time : ℕ) → Stands old sources us → Stands new sources (us ++ viewed_packet time number v ∷ [])
+    (sources : List ℕ) (us : List Numbered) (time : ℕ) → Stands old sources us
+    → Stands new sources (us ++ viewed_packet time number v ∷ [])
 
 -- what is heard of it was added to what was heard of each source
 abbrev pub HearsView : Receiver → ℕ → TextView → List SourceText → List SourceText → Type 0
 HearsView old number v before after =
-    (sources : List ℕ) (us : List Numbered) (time : ℕ) → Stands old sources us → AreHeard sources us before → AreHeard sources (us ++ viewed_packet time number v ∷ []) after
+    (sources : List ℕ) (us : List Numbered) (time : ℕ) → Stands old sources us → AreHeard sources us before
+    → AreHeard sources (us ++ viewed_packet time number v ∷ []) after
 
 -- of the only source its primary text is heard, and nothing else
 abbrev pub HearsPrimary : Receiver → ℕ → TextView → Type 0

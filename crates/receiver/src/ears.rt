@@ -10,7 +10,7 @@ ghost use Rattle.receiver.specs.EarEach.{GathersEach, IsHearingEach};
 ghost use Rattle.receiver.specs.EarPlain.{IsTextFor, HearsPlain, GivesPlain};
 ghost use Rattle.rtt_base.specs.declared.limits.TheConstants.{END_OF_MOMENTS, LONGEST_WAIT, MOST_ARRIVALS, MOST_SOURCES};
 
-use crate::{EarSettings, PlainAnswer, Receiver, SourceText, TextCursor};
+use crate::{EarSettings, PieceCursor, PlainAnswer, Receiver, SourceText};
 use reorder_buffer::ReorderBuffer;
 use rtp_text::{read_text, view_text};
 use rtt_base::{Chunk, NoMemory};
@@ -28,8 +28,8 @@ pub struct Ear {
     /// Its current packet is the one that is read, or heard.
     buffer: ReorderBuffer,
     receiver: Receiver,
-    /// What is still to be heard of that packet.
-    piece: TextCursor,
+    /// What is still to be handed out of that packet.
+    piece: PieceCursor,
     /// When it was ready.
     ready: u64,
 }
@@ -54,7 +54,8 @@ impl Ear {
         requires few { length sources.now ≤ MOST_SOURCES }
         requires differ { AllPairs (λ a b. a ≢ b) sources.now }
         ensures hears { IfOk result (λ ear. Hears ear settings sources.now (begun settings.wait)) }
-        ensures gave { IfOk result (λ ear. (source : ℕ) → sources.now ≡ source ∷ [] → Gave ear settings source (begun settings.wait) []) }
+        ensures gave { IfOk result (λ ear. (source : ℕ) → sources.now ≡ source ∷ []
+            → Gave ear settings source (begun settings.wait) []) }
         ensures quiet { IfOk result (λ ear. is_quiet ear ≡ Bool.true) }
         ensures arrivals { IfOk result (λ ear. arrival_count ear ≡ 0) }
         ensures open { IfOk result (λ ear. is_finished ear ≡ Bool.false) }
@@ -63,7 +64,7 @@ impl Ear {
             settings,
             buffer: ReorderBuffer::new(alloc, settings.wait)?,
             receiver: Receiver::new(alloc, sources)?,
-            piece: TextCursor::none(),
+            piece: PieceCursor::none(),
             ready: 0,
         })
     }
@@ -81,7 +82,7 @@ impl Ear {
         self.settings.ssrc = ssrc;
         self.buffer.restart();
         self.receiver.restart(ssrc);
-        self.piece = TextCursor::none();
+        self.piece.clear();
     }
 
     /// Takes a packet that came at `now`. What is no packet of text of the stream is refused, and hands in no time.
@@ -138,8 +139,8 @@ impl Ear {
         self.buffer.finish();
     }
 
-    /// Puts the next text that is heard of the source in place of what is in `chunk`, and tells whether there was one.
-    /// A marker is a text of its own. It is for an ear of one source.
+    /// Puts the next text that is heard of the source, as it is handed out, in place of what is in `chunk`, and tells whether there
+    /// was one. A marker is a text of its own. It is for an ear of one source.
     pub fn next(&mut self, chunk: &mut Chunk) -> bool
         requires gave { ∥ IsGiving self.old ∥₁ }
         ensures some { result ≡ Bool.true → GivesChunk self.old self.new (chunk_of chunk.new) }
@@ -155,7 +156,10 @@ impl Ear {
         ensures finished { is_finished self.new ≡ is_finished self.old }
     {
         loop {
-            if self.piece.next(self.buffer.packet(), &mut chunk.text) {
+            if self
+                .piece
+                .next(self.settings.cut, self.buffer.packet(), &mut chunk.text)
+            {
                 chunk.source = 0;
                 chunk.ready = self.ready;
                 return true;
@@ -163,7 +167,8 @@ impl Ear {
             let Some(due) = self.buffer.next() else {
                 return false;
             };
-            self.piece = self.receiver.take_piece(due.number, self.buffer.packet());
+            let texts = self.receiver.take_piece(due.number, self.buffer.packet());
+            self.piece.begin(texts);
             self.ready = due.ready;
         }
     }
@@ -204,7 +209,8 @@ impl Ear {
         requires hears { IsHearingEach self.old heard.old }
         requires quiet { is_quiet self.old ≡ Bool.true }
         requires few { arrival_count self.old < MOST_ARRIVALS }
-        ensures hears { IfOk result (λ plain. IsTrue plain → HearsPlain self.old self.new now octets.now heard.old heard.new) }
+        ensures hears { IfOk result (λ plain. IsTrue plain
+            → HearsPlain self.old self.new now octets.now heard.old heard.new) }
         ensures packet { IfOk result (λ plain. IsTrue plain → IsTextFor (settings_of self.old) octets.now) }
         ensures unchanged { IfOk result (λ plain. plain ≡ Bool.false → self.new ≡ self.old) }
         ensures untold { IfOk result (λ plain. plain ≡ Bool.false → heard.new ≡ heard.old) }
@@ -231,15 +237,19 @@ impl Ear {
     }
 
     /// Hears a packet that came at `now` where it lies, as `hear` and `next` would, and puts its text in place of what is
-    /// in `chunk`. It does so as `hear_plain` does. It is for an ear of one source.
+    /// in `chunk`. It does so as `hear_plain` does, where the text is not cut. It is for an ear of one source.
     #[inline(always)]
     pub fn hear_plain_chunk(&mut self, now: u64, octets: &[u8], chunk: &mut Chunk) -> PlainAnswer
         requires now { now < END_OF_MOMENTS }
         requires gave { ∥ IsGiving self.old ∥₁ }
         requires quiet { is_quiet self.old ≡ Bool.true }
         requires few { arrival_count self.old < MOST_ARRIVALS }
-        ensures some { result ≡ PlainAnswer.Chunk → GivesPlain self.old self.new now octets.now (chunk_of chunk.new ∷ []) }
+        ensures some { result ≡ PlainAnswer.Chunk
+            → GivesPlain self.old self.new now octets.now (chunk_of chunk.new ∷ []) }
         ensures none { result ≡ PlainAnswer.Nothing → GivesPlain self.old self.new now octets.now [] }
+        ensures packet { result ≢ PlainAnswer.NotPlain → IsTextFor (settings_of self.old) octets.now }
+        ensures all { result ≢ PlainAnswer.NotPlain → GaveReady self.new }
+        ensures front { result ≢ PlainAnswer.NotPlain → GaveFront self.new }
         ensures unchanged { result ≡ PlainAnswer.NotPlain → self.new ≡ self.old }
         ensures text { result ≡ PlainAnswer.Chunk → has_text chunk.new.text ≡ Bool.true }
         ensures utf8 { result ≡ PlainAnswer.Chunk → IsUtf8 chunk.new.text }
@@ -255,6 +265,9 @@ impl Ear {
         ) else {
             return PlainAnswer::NotPlain;
         };
+        if view.primary.len() > self.settings.cut.most() {
+            return PlainAnswer::NotPlain;
+        }
         let Some(number) = self.buffer.next_in_order(view.seq) else {
             return PlainAnswer::NotPlain;
         };
@@ -263,6 +276,9 @@ impl Ear {
         }
         let ready = self.buffer.give_at_once(now, number);
         if view.primary.is_empty() {
+            return PlainAnswer::Nothing;
+        }
+        if self.settings.cut.drops(view.primary) {
             return PlainAnswer::Nothing;
         }
         write_chunk(chunk, ready, view.primary);

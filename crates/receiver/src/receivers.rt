@@ -322,7 +322,8 @@ impl Receiver {
         ensures stands { OnOk result ((sources : List ℕ) (us : List Numbered) (time : ℕ) → Stands self.old sources us
             → Stands self.new sources (us ++ used_packet time number packet.now ∷ [])) }
         ensures heard { OnOk result ((sources : List ℕ) (us : List Numbered) (time : ℕ) → Stands self.old sources us
-            → AreHeard sources us heard.old → AreHeard sources (us ++ used_packet time number packet.now ∷ []) heard.new) }
+            → AreHeard sources us heard.old
+            → AreHeard sources (us ++ used_packet time number packet.now ∷ []) heard.new) }
     {
         self.count(number);
         let Some(place) = place_of(self.listed.as_slice(), packet.source) else {
@@ -343,7 +344,8 @@ impl Receiver {
         ensures stands { (sources : List ℕ) (us : List Numbered) (time : ℕ) → Stands self.old sources us
             → Stands self.new sources (us ++ used_packet time number packet.now ∷ []) }
         ensures heard { (source : ℕ) (us : List Numbered) (time : ℕ) → Stands self.old (source ∷ []) us
-            → heard_by (us ++ used_packet time number packet.now ∷ []) source ≡ heard_by us source ++ left_of result packet.now }
+            → heard_by (us ++ used_packet time number packet.now ∷ []) source
+            ≡ heard_by us source ++ left_of result packet.now }
         ensures each { LeavesAdded self.old number packet.now result }
     {
         self.count(number);

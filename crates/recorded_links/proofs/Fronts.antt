@@ -1,8 +1,9 @@
 -- Fronts of what is pending.
 use Rattle.std.proofs.Common.{◌≡◌, ◌≤◌, ℕ, zero, suc, ◌+◌, Option, Some, IsSome, List, [], ◌∷◌, ◌++◌, length, take, refl, sym, ap, ◌∙◌, subst, arith, append_assoc}
-use Rattle.std.proofs.lemmas.List.{append-nil, take-append-le}
+use Rattle.std.proofs.lemmas.List.{append-nil}
 use Rattle.std.proofs.Math.Seq.{take-append-add}
 use Rattle.recorded_links.specs.Writing.{IsFurther}
+use Rattle.wire_spec.proofs.Plain.{front_of_more as longer}
 
 -- a front has at most as many octets as there are
 pub record Capped (n : ℕ) (xs : List ℕ) : Type 0 where
@@ -16,12 +17,6 @@ capped (suc n) [] = record { many = zero; few = omega arith; same = refl }
 capped (suc n) (x ∷ xs) =
     let c = capped n xs in
     record { many = suc c.many; few = omega (arith, c.few); same = ap (λ (l : List ℕ). x ∷ l) c.same }
-
--- what lies there is a front also where more was to come
-pub longer : (n : ℕ) (xs ys : List ℕ) → (m : ℕ) × (take n xs ≡ take m (xs ++ ys))
-longer n xs ys =
-    let c = capped n xs in
-    (c.many, c.same ∙ sym (take-append-le c.many xs ys c.few))
 
 -- a front behind what went is a front
 pub further : (took pending more less : List ℕ) (n : ℕ) (ys : List ℕ) → IsFurther took pending more less
@@ -37,12 +32,6 @@ further took pending more less n ys f =
           ∙ (ap (take (length f.went + l.0)) (sym (append_assoc f.went less ys))
           ∙ ap (λ (a : List ℕ). take (length f.went + l.0) (a ++ ys)) (sym f.rest))))),
     )
-
--- all of it is one
-pub whole : (xs ys : List ℕ) → take (length xs) (xs ++ ys) ≡ xs
-whole xs ys =
-    let none : length xs + 0 ≡ length xs = omega arith in
-    ap (λ (n : ℕ). take n (xs ++ ys)) (sym none) ∙ (take-append-add xs ys 0 ∙ append-nil xs)
 
 all_of : (xs : List ℕ) → take (length xs) xs ≡ xs
 all_of [] = refl

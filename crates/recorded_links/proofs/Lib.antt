@@ -5,4 +5,9 @@ pub mod Noting
 pub mod Turns
 pub mod Taking
 pub mod Others
+pub mod Stems
+pub mod Keeping
+pub mod Handing
+pub mod Wholes
+pub mod Begins
 pub mod Adding

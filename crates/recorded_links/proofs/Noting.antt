@@ -1,7 +1,7 @@
 -- An entry more in a recording.
 use Rattle.std.proofs.Common.{◌≡◌, ◌≢◌, ◌<◌, ◌^◌, ℕ, ◌+◌, ◌-◌, Bool, true, false, Option, Some, IsSome, List, [], ◌∷◌, ◌++◌, length, map, take, refl, sym, ap, ◌∙◌, subst, arith, length-append, append_assoc}
 use Rattle.std.proofs.lemmas.List.{append-nil, map-append, length-map}
-use Rattle.std.proofs.Math.Seq.{take-append-add}
+use Rattle.std.proofs.Math.Seq.{take-append-add, take-append_seam as whole}
 use Rattle.rtt_io.specs.declared.sinks.Sink as sinks
 use Rattle.live_spec.specs.Recorded.{Parts, noted, nothing_noted, has_room, head_written, part_written, record_in, entry_written, with_entry, begun_with}
 use Rattle.live_spec.proofs.Growing.{written_more, noted_by}
@@ -11,7 +11,7 @@ use Rattle.recorded_links.specs.Places.{IsPlaceOf, IsAfter, IsBegun, TellsRoom, 
 use Rattle.recorded_links.specs.Files.{AreUnder, files_written}
 use Rattle.recorded_links.specs.Standing.{Keeping, IsWriting, RecorderStandsFor, StillHolds, by_file, with_more, with_next}
 use Rattle.recorded_links.proofs.Under.{apart, kept, kept_both, more}
-use Rattle.recorded_links.proofs.Fronts.{longer, whole}
+use Rattle.wire_spec.proofs.Plain.{front_of_more as longer}
 
 -- the files that are over
 abbrev over_written : ℕ → Parts → List (List ℕ)

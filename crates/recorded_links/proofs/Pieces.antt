@@ -1,5 +1,5 @@
 -- The pieces of a head.
-use Rattle.std.proofs.Common.{◌≡◌, ℕ, ◌*◌, ◌/◌, ◌%◌, List, [], ◌∷◌, ◌++◌, Result, Ok, Err, OnOk, OnErr, ap, ◌∙◌, append_assoc}
+use Rattle.std.proofs.Common.{◌≡◌, ℕ, ◌*◌, ◌/◌, ◌%◌, List, [], ◌∷◌, ◌++◌, Result, Ok, Err, OnOk, ap, ◌∙◌, append_assoc}
 use Rattle.std.specs.Prelude.{codes}
 use Rattle.std.specs.Int.{w32, to_be_bytes}
 use Rattle.live_spec.specs.Recorded.{head_written}
@@ -16,7 +16,3 @@ head_is t old a b c time e f m h =
     ∙ ap (λ (l : List ℕ). l ++ (127 ∷ 0 ∷ 0 ∷ 1 ∷ 19 ∷ 140 ∷ 0 ∷ 0 ∷ [])) (f ∙ (ap (λ (l : List ℕ). l ++ time) e ∙ ap (λ (l : List ℕ). (old ++ (codes "#!rtpplay1.0 127.0.0.1/5004" ++ 10 ∷ [])) ++ l) m))
     ∙ append_assoc (old ++ (codes "#!rtpplay1.0 127.0.0.1/5004" ++ 10 ∷ [])) (to_be_bytes w32 (t / 1000) ++ to_be_bytes w32 (t % 1000 * 1000)) (127 ∷ 0 ∷ 0 ∷ 1 ∷ 19 ∷ 140 ∷ 0 ∷ 0 ∷ [])
     ∙ append_assoc old (codes "#!rtpplay1.0 127.0.0.1/5004" ++ 10 ∷ []) ((to_be_bytes w32 (t / 1000) ++ to_be_bytes w32 (t % 1000 * 1000)) ++ (127 ∷ 0 ∷ 0 ∷ 1 ∷ 19 ∷ 140 ∷ 0 ∷ 0 ∷ []))
-
-pub at_err : {A E : Type 0} (r : Result A E) (P : Type 0) → P → OnErr r P
-at_err (Ok x) P p = tt
-at_err (Err e) P p = p

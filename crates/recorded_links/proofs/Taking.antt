@@ -1,7 +1,7 @@
 -- The entries of a batch, one after the other, in a recording.
 use Rattle.std.proofs.Common.{◌≡◌, ℕ, Option, List, [], ◌∷◌, ◌++◌, refl, sym, ap, ◌∙◌, subst}
 use Rattle.std.specs.Prelude.{map}
-use Rattle.std.proofs.lemmas.List.{map-append}
+use Rattle.std.proofs.lemmas.List.{append-nil, map-append}
 use Rattle.rtt_io.specs.declared.sinks.Sink as sinks
 use Rattle.live_spec.specs.Recorded.{Entry, Parts, noted, nothing_noted}
 use Rattle.recorded_links.specs.declared.rule.NotedEntry.{NotedEntry}
@@ -56,3 +56,16 @@ module _ {F : Type 0} (g : sinks.Ghosts F) where
       → new.start ≡ old.start → more ≡ taken → StaysAll g before after old new → HasTaken g before old taken → HasTaken g after new more
   has_same before after old new taken more still is stays has =
       subst (λ p. RecorderStandsFor g after new p) (ap (λ s. all_noted s nothing_noted (map entry_of taken)) (sym still) ∙ ap (λ l. all_noted new.start nothing_noted (map entry_of l)) (sym is)) (stays _ has)
+
+  -- what was taken away last, where nothing is in hand
+  pub has_last : (before after : List ℕ → Option (List ℕ)) (old new : Keeping F) (taken all hand : List NotedEntry) (es : List Entry)
+      → new.start ≡ old.start → all ≡ (taken ++ map noted_of es) ++ hand → hand ≡ [] → NotesAll g before after old new es → HasTaken g before old taken → HasTaken g after new all
+  has_last before after old new taken all hand es same is rests notes has =
+      has_more before after old new taken all es same
+      (is ∙ (ap (λ l. (taken ++ map noted_of es) ++ l) rests ∙ append-nil (taken ++ map noted_of es))) notes has
+
+  -- nothing was left
+  pub has_all : (contents : List ℕ → Option (List ℕ)) (k : Keeping F) (taken all hand : List NotedEntry) → all ≡ (taken ++ []) ++ hand → hand ≡ [] → HasTaken g contents k taken → HasTaken g contents k all
+  has_all contents k taken all hand is rests has =
+      let same : taken ≡ all = sym (is ∙ (ap (λ l. (taken ++ []) ++ l) rests ∙ (append-nil (taken ++ []) ∙ append-nil taken))) in
+      subst (λ l. HasTaken g contents k l) same has

@@ -9,3 +9,7 @@ pub mod Shelves
 pub mod Written
 pub mod Coming
 pub mod Recordings
+pub mod Calls
+pub mod Ended
+pub mod Kept
+pub mod Begun

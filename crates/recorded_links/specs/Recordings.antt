@@ -1,6 +1,7 @@
 -- What a clause says of all recordings of a call.
-use Rattle.std.specs.Prelude.{◌≡◌, ◌≢◌, ℕ, Option, Some, List, length, slice_get}
+use Rattle.std.specs.Prelude.{◌≡◌, ◌≢◌, ℕ, Option, None, Some, List, [], ◌∷◌, length, slice_get}
 use Rattle.rtt_io.specs.declared.sinks.Sink as sinks
+use Rattle.recorded_links.specs.declared.calls.CallTrack.{CallTrack}
 use Rattle.recorded_links.specs.declared.rule.NotedEntry.{NotedEntry}
 use Rattle.recorded_links.specs.Names.{numbered}
 use Rattle.recorded_links.specs.Standing.{Keeping}
@@ -9,6 +10,27 @@ use Rattle.recorded_links.specs.Written.{HasTaken}
 -- files of the one have other names than those of the other
 abbrev pub StemsDiffer : List ℕ → List ℕ → Type 0
 StemsDiffer one other = (k l : ℕ) → numbered one k ≢ numbered other l
+
+-- its last octet; 0 where there is none
+abbrev pub last_of : List ℕ → ℕ
+last_of [] = 0
+last_of (x ∷ []) = x
+last_of (x ∷ y ∷ xs) = last_of (y ∷ xs)
+
+-- no two have a name in common
+abbrev pub HaveOwnNames : List CallTrack → Type 0
+HaveOwnNames rs = (i j : ℕ) (r s : CallTrack) → slice_get rs i ≡ Some r → slice_get rs j ≡ Some s → i ≢ j
+    → StemsDiffer r.stem s.stem
+
+-- there is a first file of each, whose name goes on behind a point
+abbrev pub AreThere : (List ℕ → Option (List ℕ)) → List CallTrack → Type 0
+AreThere contents rs = (j : ℕ) (r : CallTrack) → slice_get rs j ≡ Some r
+    → (contents (numbered r.stem 1) ≢ None) × (last_of r.stem ≡ 46)
+
+-- what lies under names that are no names of these recordings' files stays
+abbrev pub TouchesThese : List CallTrack → (before after : List ℕ → Option (List ℕ)) → Type 0
+TouchesThese rs before after = (n : List ℕ)
+    → ((j : ℕ) (r : CallTrack) → slice_get rs j ≡ Some r → (k : ℕ) → n ≢ numbered r.stem k) → after n ≡ before n
 
 module _ {F T : Type 0} where
   -- no two have a name in common

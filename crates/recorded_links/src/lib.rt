@@ -3,7 +3,11 @@
 
 mod backlogs;
 mod batches;
+mod call_recordings;
+mod calls;
+mod endings;
 mod ends;
+mod handovers;
 mod journals;
 mod links;
 mod mem_journals;
@@ -12,6 +16,7 @@ mod noter_places;
 mod noters;
 mod notes;
 mod octets;
+mod openings;
 mod passes;
 mod places;
 mod positions;
@@ -23,6 +28,8 @@ mod starts;
 mod tracks;
 mod writers;
 
+pub use call_recordings::CallRecording;
+pub use calls::{Call, CallTrack};
 pub use ends::{RecordedIn, RecordedOut};
 pub use journals::Journals;
 pub use links::{LinksReturn, RecordedLinks};

@@ -1,23 +1,23 @@
 //! Where who notes is.
-ghost use Rattle.std.specs.Prelude.{◌≡◌, []};
+ghost use Rattle.std.specs.Prelude.{◌≡◌, false, [], IfSome};
+ghost use Rattle.std.proofs.Props.{props};
 ghost use Rattle.recorded_links.specs.Shelves.{noted};
 
+use crate::Way;
 use crate::noters::Noter;
 
-/// Who notes, and noted nothing yet.
+/// Where who notes of a recording is.
 #[derive(Drop)]
-pub(crate) struct FreshNoter<R> {
-    pub(crate) noter: Noter<R>,
-    ghost fresh: { noted noter.pass ≡ [] },
-}
-
-/// Where who notes is.
-#[derive(Drop)]
-pub(crate) enum NoterPlace<R> {
-    /// Here: no link was opened for it.
-    Unused(FreshNoter<R>),
-    /// At an end of a link, or nowhere.
-    Given,
-    /// Here again: its end was handed back.
-    Back(Noter<R>),
+pub(crate) struct NoterPlace<R> {
+    /// The number of the recording.
+    pub(crate) number: usize,
+    /// The port at which the link is opened of which it is.
+    pub(crate) port: u16,
+    pub(crate) way: Way,
+    /// A link was opened at the port.
+    pub(crate) given: bool,
+    /// Who notes, where no end of a link has it.
+    pub(crate) noter: Option<Noter<R>>,
+    ghost of: { IfSome noter (λ n. n.number ≡ number) } by { Prim.hlevel props },
+    ghost fresh: { given ≡ false → IfSome noter (λ n. noted n.pass ≡ []) } by { Prim.hlevel props },
 }

@@ -1,6 +1,7 @@
 //! The end at which entries of a recording are noted.
 ghost use Rattle.std.specs.Prelude.{◌≡◌, ◌<◌, ◌^◌, ℕ, false, [], ◌∷◌, ◌++◌};
 ghost use Rattle.std.specs.Arc.{arc_value};
+ghost use Rattle.recorded_links.specs.Calls.{IsSameEnd};
 ghost use Rattle.recorded_links.specs.Places.{entry};
 ghost use Rattle.recorded_links.specs.Rule.{noted_of};
 ghost use Rattle.recorded_links.specs.Shelves.{IsNoteOf, hand, noted};
@@ -51,7 +52,9 @@ impl<R: Wait + Drop> Noter<R> {
     ) -> Noter<R>
         requires of { IsNoteOf (arc_value shelf) pass }
         requires rests { hand pass ≡ [] }
-        ensures { result.pass ≡ pass }
+        ensures pass { result.pass ≡ pass }
+        ensures number { result.number ≡ number }
+        ensures none_over { result.over ≡ false }
     {
         Noter {
             rt,
@@ -71,6 +74,7 @@ impl<R: Wait + Drop> Noter<R> {
         requires { at < 2 ^ 48 }
         ensures noted { self.new.over ≡ false → noted self.new.pass ≡ noted self.old.pass ++ noted_of (entry at octets.now) ∷ [] }
         ensures over { self.new.over ≡ false → self.old.over ≡ false }
+        ensures same { (self.new.number ≡ self.old.number) × IsSameEnd self.old.pass self.new.pass }
     {
         if self.over {
             return;
@@ -97,15 +101,36 @@ impl<R: Wait + Drop> Noter<R> {
     pub(crate) fn note_now(&mut self, octets: &[u8])
         ensures noted { self.new.over ≡ false → (at : ℕ) × (noted self.new.pass ≡ noted self.old.pass ++ noted_of (entry at octets.now) ∷ []) }
         ensures over { self.new.over ≡ false → self.old.over ≡ false }
+        ensures same { (self.new.number ≡ self.old.number) × IsSameEnd self.old.pass self.new.pass }
     {
         let at = self.clock.load(Ordering::SeqCst).min(LAST_MOMENT);
         self.note(at, octets);
     }
+}
 
+impl<R: Drop> Noter<R> {
     /// Whether something could not be noted.
     pub(crate) fn is_over(&self) -> bool
         ensures { result ≡ self.now.over }
     {
         self.over
+    }
+
+    /// The end at which it noted.
+    pub(crate) fn into_pass(self) -> NotePass
+        ensures { result ≡ self.pass }
+    {
+        let Noter {
+            rt: _,
+            alloc: _,
+            number: _,
+            way: _,
+            clock: _,
+            waiting: _,
+            shelf: _,
+            pass,
+            over: _,
+        } = self;
+        pass
     }
 }

@@ -268,7 +268,8 @@ impl<J: Journals> Recorder<J> {
         ensures there { J.tells → OnOk result (IsSome (J.contents journals.new (numbered (string_bytes stem) 1))) }
         ensures others { J.tells → TouchesOwn J.contents journals.old journals.new (string_bytes stem) }
         ensures calm { result ≢ Err RecordFault.Failed → IsCalm J.own_faults J.object_faults journals.old journals.new }
-        ensures caused { result ≡ Err RecordFault.Failed → IsCaused J.own_faults J.object_faults journals.old journals.new (numbered (string_bytes stem) 1) }
+        ensures caused { result ≡ Err RecordFault.Failed
+            → IsCaused J.own_faults J.object_faults journals.old journals.new (numbered (string_bytes stem) 1) }
     {
         let Ok(head) = head_piece(alloc, start) else {
             return Err(RecordFault::NoMemory);
@@ -294,13 +295,18 @@ impl<J: Journals> Recorder<J> {
         requires few { length octets.now ≤ MOST_PACKET_OCTETS }
         requires early { at < 2 ^ 63 }
         ensures named { (self.new.stem ≡ self.old.stem) × (self.new.start ≡ self.old.start) }
-        ensures notes { J.tells → NotesMore J.File.Sink (J.contents journals.old) (J.contents journals.new) self.old self.new (entry at octets.now) }
-        ensures keeps { J.tells → OnErr result (KeepsNoted J.File.Sink (J.contents journals.old) (J.contents journals.new) self.old (entry at octets.now)) }
+        ensures notes { J.tells → NotesMore J.File.Sink (J.contents journals.old)
+            (J.contents journals.new) self.old self.new (entry at octets.now) }
+        ensures keeps { J.tells → OnErr result
+            (KeepsNoted J.File.Sink (J.contents journals.old) (J.contents journals.new) self.old
+            (entry at octets.now)) }
         ensures bounded { length self.new.pending ≤ MOST_PENDING_OCTETS }
         ensures others { J.tells → TouchesOwn J.contents journals.old journals.new self.old.stem }
         ensures ended { OnErr result (self.new.file ≡ None) }
         ensures calm { result ≢ Err RecordFault.Failed → IsCalm J.own_faults J.object_faults journals.old journals.new }
-        ensures caused { result ≡ Err RecordFault.Failed → IsCaused J.own_faults J.object_faults journals.old journals.new (numbered self.new.stem self.new.number) }
+        ensures caused { result ≡ Err RecordFault.Failed
+            → IsCaused J.own_faults J.object_faults journals.old journals.new
+            (numbered self.new.stem self.new.number) }
     {
         let Some(file) = self.file.take() else {
             return Ok(());
@@ -340,15 +346,19 @@ impl<J: Journals> Recorder<J> {
     /// Writes what is pending, by one call to its file. A recording that ended writes nothing. After an error all that was written
     /// before lies there, and of what was pending a front.
     pub fn flush(&mut self, journals: &mut J) -> Result<(), RecordFault>
-        ensures named { (self.new.stem ≡ self.old.stem) × (self.new.start ≡ self.old.start) × (self.new.number ≡ self.old.number) }
-        ensures stays { J.tells → StaysAll J.File.Sink (J.contents journals.old) (J.contents journals.new) self.old self.new }
+        ensures named { (self.new.stem ≡ self.old.stem) × (self.new.start ≡ self.old.start) ×
+            (self.new.number ≡ self.old.number) }
+        ensures stays { J.tells → StaysAll J.File.Sink (J.contents journals.old)
+            (J.contents journals.new) self.old self.new }
         ensures written { IfSome self.new.file (λ _. self.new.pending ≡ []) }
         ensures over { OnOk result (is_none self.new.file ≡ is_none self.old.file) }
         ensures others { J.tells → TouchesOwn J.contents journals.old journals.new self.old.stem }
-        ensures keeps { J.tells → OnErr result (KeepsWritten J.File.Sink (J.contents journals.old) (J.contents journals.new) self.old) }
+        ensures keeps { J.tells → OnErr result
+            (KeepsWritten J.File.Sink (J.contents journals.old) (J.contents journals.new) self.old) }
         ensures ended { OnErr result (self.new.file ≡ None) }
         ensures calm { OnOk result (IsCalm J.own_faults J.object_faults journals.old journals.new) }
-        ensures caused { OnErr result (IsCaused J.own_faults J.object_faults journals.old journals.new (numbered self.new.stem self.new.number)) }
+        ensures caused { OnErr result (IsCaused J.own_faults J.object_faults journals.old journals.new
+            (numbered self.new.stem self.new.number)) }
     {
         let Some(file) = self.file.take() else {
             return Ok(());
@@ -363,14 +373,18 @@ impl<J: Journals> Recorder<J> {
     /// Ends the recording: writes what is pending, and hands its last file back. The answer is whether all that was noted is in its
     /// files: that it did not end before. After an error all that was written before lies there, and of what was pending a front.
     pub fn end(&mut self, journals: &mut J) -> Result<bool, RecordFault>
-        ensures named { (self.new.stem ≡ self.old.stem) × (self.new.start ≡ self.old.start) × (self.new.number ≡ self.old.number) }
+        ensures named { (self.new.stem ≡ self.old.stem) × (self.new.start ≡ self.old.start) ×
+            (self.new.number ≡ self.old.number) }
         ensures ended { self.new.file ≡ None }
-        ensures whole { J.tells → result ≡ Ok true → LiesThere J.File.Sink (J.contents journals.old) (J.contents journals.new) self.old }
+        ensures whole { J.tells → result ≡ Ok true
+            → LiesThere J.File.Sink (J.contents journals.old) (J.contents journals.new) self.old }
         ensures over { OnOk result (result ≡ Ok false → self.old.file ≡ None) }
         ensures others { J.tells → TouchesOwn J.contents journals.old journals.new self.old.stem }
-        ensures keeps { J.tells → OnErr result (KeepsWritten J.File.Sink (J.contents journals.old) (J.contents journals.new) self.old) }
+        ensures keeps { J.tells → OnErr result
+            (KeepsWritten J.File.Sink (J.contents journals.old) (J.contents journals.new) self.old) }
         ensures calm { OnOk result (IsCalm J.own_faults J.object_faults journals.old journals.new) }
-        ensures caused { OnErr result (IsCaused J.own_faults J.object_faults journals.old journals.new (numbered self.new.stem self.new.number)) }
+        ensures caused { OnErr result (IsCaused J.own_faults J.object_faults journals.old journals.new
+            (numbered self.new.stem self.new.number)) }
     {
         let Some(file) = self.file.take() else {
             return Ok(false);

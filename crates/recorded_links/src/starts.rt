@@ -1,22 +1,28 @@
 //! The recordings of a call are begun.
-ghost use Rattle.std.specs.Prelude.{◌≡◌, ℕ, [], IfOk};
-ghost use Rattle.recorded_links.specs.Shelves.{noted};
+ghost use Rattle.std.specs.Prelude.{◌≡◌, ◌≢◌, ◌<◌, ◌^◌, ◌++◌, ◌∷◌, [], None, IfOk, OnOk, map, string_bytes};
+ghost use Rattle.std.specs.Arc.{arc_value};
+ghost use Rattle.recorded_links.specs.Begun.{begun_at, names_of, recordings_of};
+ghost use Rattle.recorded_links.specs.Calls.{IsEndOf, leg_named, leg_port, legs_named};
+ghost use Rattle.recorded_links.specs.Names.{numbered};
+ghost use Rattle.recorded_links.specs.Recordings.{last_of};
+ghost use Rattle.recorded_links.specs.Shelves.{noted, taken};
+ghost use Rattle.recorded_links.specs.Writing.{TouchesOwn};
+ghost use Rattle.recorded_links.specs.Written.{HasTaken};
 
 use crate::backlogs::{Legs, WaitingRecords};
-use crate::links::RecordedLinks;
-use crate::noter_places::{FreshNoter, NoterPlace};
+use crate::call_recordings::CallRecording;
+use crate::noter_places::NoterPlace;
 use crate::noters::Noter;
 use crate::passes::Shelf;
-use crate::tracks::{Track, Tracks};
-use crate::writers::{StartFault, Writer};
+use crate::tracks::Track;
 use crate::{Journals, RecordFault, Recorder, Way, file_name, stem_of};
 use file_spec::LegLine;
 use link_io::Links;
 use rtt_base::NoMemory;
+use script_text::number_from;
 use std::alloc::Global;
 use std::sync::atomic::AtomicU64;
 use std::sync::{Arc, Wait};
-use std::thread::Threads;
 use std::time::Clock;
 
 /// Why the recordings of a call could not be begun.
@@ -50,11 +56,18 @@ fn begin_recorder<J: Journals>(
     alloc: Global,
     stem: String,
     start: u64,
-) -> Result<Recorder<J>, BeginFault> {
+) -> Result<Recorder<J>, BeginFault>
+    requires { start < 2 ^ 62 }
+    ensures named { IfOk result (λ r. (r.stem ≡ string_bytes stem) × (r.start ≡ start)) }
+    ensures has { J.tells → IfOk result (λ r. HasTaken J.File.Sink (J.contents journals.new) r []) }
+    ensures was_free { J.tells → OnOk result (J.contents journals.old (numbered (string_bytes stem) 1) ≡ None) }
+    ensures there { J.tells → OnOk result (J.contents journals.new (numbered (string_bytes stem) 1) ≢ None) }
+    ensures others { J.tells → TouchesOwn J.contents journals.old journals.new (string_bytes stem) }
+{
     let Ok(name) = file_name(alloc, stem.as_str(), 1) else {
         return Err(BeginFault::NoMemory);
     };
-    match Recorder::begin(journals, alloc, stem, start.min(LAST_WALL)) {
+    match Recorder::begin(journals, alloc, stem, start) {
         Ok(recorder) => Ok(recorder),
         Err(RecordFault::Failed) => Err(BeginFault::Failed(name)),
         Err(RecordFault::NoMemory) => Err(BeginFault::NoMemory),
@@ -66,6 +79,7 @@ pub(crate) fn begin_track<J: Journals, R: Wait + Copy + Drop>(
     rt: R,
     alloc: Global,
     journals: &mut J,
+    port: u16,
     way: Way,
     stem: String,
     start: u64,
@@ -73,7 +87,16 @@ pub(crate) fn begin_track<J: Journals, R: Wait + Copy + Drop>(
     clock: &Arc<AtomicU64, Global>,
     waiting: &Arc<WaitingRecords, Global>,
 ) -> Result<(Track<J>, Noter<R>), BeginFault>
-    ensures fresh { IfOk result (λ made. noted made.1.pass ≡ []) }
+    requires { start < 2 ^ 62 }
+    ensures fresh { IfOk result (λ made. (noted made.1.pass ≡ []) × (taken made.0.pass ≡ [])) }
+    ensures number { IfOk result (λ made. made.1.number ≡ number) }
+    ensures ends { IfOk result (λ made. IsEndOf (arc_value made.0.shelf) made.1.pass) }
+    ensures of { IfOk result (λ made. (made.0.port ≡ port) × (made.0.way ≡ way)) }
+    ensures named { IfOk result (λ made. (made.0.recorder.stem ≡ string_bytes stem) × (made.0.recorder.start ≡ start)) }
+    ensures has { J.tells → IfOk result (λ made. HasTaken J.File.Sink (J.contents journals.new) made.0.recorder []) }
+    ensures was_free { J.tells → OnOk result (J.contents journals.old (numbered (string_bytes stem) 1) ≡ None) }
+    ensures there { J.tells → OnOk result (J.contents journals.new (numbered (string_bytes stem) 1) ≢ None) }
+    ensures others { J.tells → TouchesOwn J.contents journals.old journals.new (string_bytes stem) }
 {
     let Ok((shelf, note, take)) = Shelf::new(alloc) else {
         return Err(BeginFault::NoMemory);
@@ -89,6 +112,7 @@ pub(crate) fn begin_track<J: Journals, R: Wait + Copy + Drop>(
     };
     let recorder = begin_recorder(journals, alloc, stem, start)?;
     let track = Track {
+        port,
         way,
         leg: Legs::of(number),
         recorder,
@@ -99,168 +123,160 @@ pub(crate) fn begin_track<J: Journals, R: Wait + Copy + Drop>(
     Ok((track, noter))
 }
 
-/// The recordings of a call as they are begun, and who notes.
-#[derive(Drop)]
-struct RecordingStart<R> {
-    rt: R,
-    alloc: Global,
-    start: u64,
-    clock: Arc<AtomicU64, Global>,
-    /// What waits to be written.
-    waiting: Arc<WaitingRecords, Global>,
-    noters: Vec<NoterPlace<R>>,
-}
-
-/// Begins one more recording, whose files have names that begin so.
-fn begin_more<J: Journals, R: Wait + Copy + Drop>(
-    beginning: &mut RecordingStart<R>,
-    tracks: &mut Tracks<J>,
-    way: Way,
-    stem: String,
-) -> Result<(), BeginFault> {
-    let number = beginning.noters.len();
-    let (track, noter) = begin_track(
-        beginning.rt,
-        beginning.alloc,
-        &mut tracks.journals,
-        way,
-        stem,
-        beginning.start,
-        number,
-        &beginning.clock,
-        &beginning.waiting,
-    )?;
-    let place = NoterPlace::Unused(FreshNoter { noter });
-    if beginning.noters.push(place).is_err() || tracks.tracks.push(track).is_err() {
-        return Err(BeginFault::NoMemory);
-    }
-    Ok(())
-}
-
-/// Begins both recordings of each leg, in leg order, in before out.
-fn begin_all<J: Journals, R: Wait + Copy + Drop>(
-    beginning: &mut RecordingStart<R>,
-    tracks: &mut Tracks<J>,
-    prefix: &str,
-    legs: &[LegLine],
-) -> Result<(), BeginFault> {
-    for leg in legs {
-        for way in [Way::In, Way::Out] {
-            let Ok(stem) = stem_of(beginning.alloc, prefix, leg.name.as_str(), way) else {
-                return Err(BeginFault::NoMemory);
-            };
-            begin_more(beginning, tracks, way, stem)?;
-        }
-    }
-    Ok(())
-}
-
-/// The name of the first file of all, which nobody writes.
-fn first_name(alloc: Global, prefix: &str, legs: &[LegLine]) -> Result<String, NoMemory> {
-    let name = match legs.first() {
-        Some(leg) => leg.name.as_str(),
-        None => "",
-    };
-    let stem = stem_of(alloc, prefix, name, Way::In)?;
-    file_name(alloc, stem.as_str(), 1)
-}
-
-/// No recording is written, since there is no thread that writes.
-fn unwritten(alloc: Global, prefix: &str, legs: &[LegLine]) -> BeginFault {
-    match first_name(alloc, prefix, legs) {
-        Ok(name) => BeginFault::Failed(name),
-        Err(NoMemory) => BeginFault::NoMemory,
-    }
-}
-
-impl<
-    L: Links + Drop,
-    J: Journals + Drop + Send + 'static,
-    R: Threads + Wait + Copy + Drop + Send + 'static,
-> RecordedLinks<L, J, R>
-where
-    J::File: 'static,
+/// The port at which the link of a leg is opened; 0 where it has none.
+fn port_of(leg: &LegLine) -> u16
+    ensures { result ≡ leg_port leg.now }
 {
-    /// The links over these, of which nothing is recorded.
-    pub fn plain(
+    match number_from(leg.input.as_str(), 1, 65_535) {
+        Some(port) => port as u16,
+        None => 0,
+    }
+}
+
+impl<J: Journals + Drop, R: Wait + Copy + Drop> CallRecording<J, R> {
+    // No recording is begun yet.
+    fn with_none(
         rt: R,
         alloc: Global,
-        links: L,
         journals: J,
-    ) -> Result<RecordedLinks<L, J, R>, NoMemory>
-        ensures leads { IfOk result (λ all. ⟦<RecordedLinks<L, J, R> as Links>⟧.leads all ≡ L.leads links) }
-        ensures taken { IfOk result (λ all. (p : ℕ) → ⟦<RecordedLinks<L, J, R> as Links>⟧.taken_at all p ≡ L.taken_at links p) }
-        ensures given { IfOk result (λ all. (p : ℕ) → ⟦<RecordedLinks<L, J, R> as Links>⟧.given_at all p ≡ L.given_at links p) }
-        ensures own { IfOk result (λ all. (p : ℕ) → ⟦<RecordedLinks<L, J, R> as Links>⟧.own_faults all p ≡ L.own_faults links p) }
-        ensures objects { IfOk result (λ all. (p : ℕ) → ⟦<RecordedLinks<L, J, R> as Links>⟧.object_faults all p ≡ L.object_faults links p) }
-        ensures pauses { IfOk result (λ all. ⟦<RecordedLinks<L, J, R> as Links>⟧.pauses all ≡ L.pauses links) }
+        start: u64,
+        rest: u32,
+    ) -> Result<CallRecording<J, R>, NoMemory>
+        requires { start < 2 ^ 62 }
+        ensures none { IfOk result (λ c. recordings_of c ≡ []) }
+        ensures start { IfOk result (λ c. c.start ≡ start) }
     {
         let clock = Arc::new(alloc, AtomicU64::new(0))?;
-        let tracks = Tracks {
+        let waiting = Arc::new(alloc, WaitingRecords::new())?;
+        Ok(CallRecording {
+            rt,
+            alloc,
+            start,
+            rest,
+            clock,
+            waiting,
             journals,
-            waiting: Arc::new(alloc, WaitingRecords::new())?,
             tracks: Vec::new(alloc),
-        };
-        let noters = Vec::new(alloc);
-        Ok(RecordedLinks::over(rt, links, clock, noters, Writer::Nobody(tracks)))
+            places: Vec::new(alloc),
+        })
     }
 
-    /// The links over these, of whose legs `PREFIX.NAME.in.1.rtp` and `PREFIX.NAME.out.1.rtp` are recordings, and what follows them.
-    /// It makes the first file of each, in leg order, in before out; what is there is never written over. `start` is what the wall clock
-    /// shows at moment 0 of the clock of the links, in milliseconds since 1970; what came is written once a `tick` (milliseconds), at most
-    /// 100, and what was given once a second. Where a file can't be made, or no thread can be started that writes, those that were made stay.
+    // One recording more is begun, whose files have names that begin so.
+    fn with_track(
+        self,
+        port: u16,
+        way: Way,
+        stem: String,
+    ) -> Result<CallRecording<J, R>, BeginFault>
+        requires { last_of (string_bytes stem) ≡ 46 }
+        ensures names { IfOk result (λ c. names_of c ≡ names_of self ++ (port, way, string_bytes stem, self.start) ∷ []) }
+        ensures start { IfOk result (λ c. c.start ≡ self.start) }
+    {
+        let CallRecording {
+            rt,
+            alloc,
+            start,
+            rest,
+            clock,
+            waiting,
+            mut journals,
+            mut tracks,
+            mut places,
+        } = self;
+        let number = tracks.len();
+        let (track, noter) = begin_track(
+            rt,
+            alloc,
+            &mut journals,
+            port,
+            way,
+            stem,
+            start,
+            number,
+            &clock,
+            &waiting,
+        )?;
+        let place = NoterPlace {
+            number,
+            port,
+            way,
+            given: false,
+            noter: Some(noter),
+        };
+        let Ok(()) = places.push(place) else {
+            return Err(BeginFault::NoMemory);
+        };
+        let Ok(()) = tracks.push(track) else {
+            return Err(BeginFault::NoMemory);
+        };
+        Ok(CallRecording {
+            rt,
+            alloc,
+            start,
+            rest,
+            clock,
+            waiting,
+            journals,
+            tracks,
+            places,
+        })
+    }
+
+    // Both recordings of a leg are begun.
+    fn with_leg(self, prefix: &str, leg: &LegLine) -> Result<CallRecording<J, R>, BeginFault>
+        ensures names { IfOk result (λ c. names_of c ≡ names_of self ++ leg_named prefix.now self.start leg.now) }
+        ensures start { IfOk result (λ c. c.start ≡ self.start) }
+    {
+        let alloc = self.alloc;
+        let port = port_of(leg);
+        let Ok(came) = stem_of(alloc, prefix, leg.name.as_str(), Way::In) else {
+            return Err(BeginFault::NoMemory);
+        };
+        let Ok(went) = stem_of(alloc, prefix, leg.name.as_str(), Way::Out) else {
+            return Err(BeginFault::NoMemory);
+        };
+        let more = self.with_track(port, Way::In, came)?;
+        more.with_track(port, Way::Out, went)
+    }
+
+    // Those of each leg.
+    fn with_legs(self, prefix: &str, legs: &[LegLine]) -> Result<CallRecording<J, R>, BeginFault>
+        ensures { IfOk result (λ c. names_of c ≡ names_of self ++ legs_named prefix.now self.start legs.now) }
+    {
+        match legs {
+            [leg, rest @ ..] => {
+                let more = self.with_leg(prefix, leg)?;
+                more.with_legs(prefix, rest)
+            }
+            [] => Ok(self),
+        }
+    }
+
+    /// Nothing is recorded.
+    pub fn nothing(rt: R, alloc: Global, journals: J) -> Result<CallRecording<J, R>, NoMemory>
+        ensures { IfOk result (λ c. recordings_of c ≡ []) }
+    {
+        CallRecording::with_none(rt, alloc, journals, 0, 0)
+    }
+
+    /// Of each leg `PREFIX.NAME.in.1.rtp` and `PREFIX.NAME.out.1.rtp` are recordings, and what follows them. It makes the first file of
+    /// each, in leg order, in before out; what is there is never written over. `start` is what the wall clock shows at moment 0 of the
+    /// clock of the links, in milliseconds since 1970; what came is written once a `tick` (milliseconds), at most 100, and what was given
+    /// once a second. Where a file can't be made those that were made stay.
     pub fn begin(
         rt: R,
         alloc: Global,
-        links: L,
         journals: J,
         prefix: &str,
         legs: &[LegLine],
         start: u64,
         tick: u32,
-    ) -> Result<RecordedLinks<L, J, R>, BeginFault>
-        ensures leads { IfOk result (λ all. ⟦<RecordedLinks<L, J, R> as Links>⟧.leads all ≡ L.leads links) }
-        ensures taken { IfOk result (λ all. (p : ℕ) → ⟦<RecordedLinks<L, J, R> as Links>⟧.taken_at all p ≡ L.taken_at links p) }
-        ensures given { IfOk result (λ all. (p : ℕ) → ⟦<RecordedLinks<L, J, R> as Links>⟧.given_at all p ≡ L.given_at links p) }
-        ensures own { IfOk result (λ all. (p : ℕ) → ⟦<RecordedLinks<L, J, R> as Links>⟧.own_faults all p ≡ L.own_faults links p) }
-        ensures objects { IfOk result (λ all. (p : ℕ) → ⟦<RecordedLinks<L, J, R> as Links>⟧.object_faults all p ≡ L.object_faults links p) }
-        ensures pauses { IfOk result (λ all. ⟦<RecordedLinks<L, J, R> as Links>⟧.pauses all ≡ L.pauses links) }
+    ) -> Result<CallRecording<J, R>, BeginFault>
+        ensures { IfOk result (λ c. names_of c ≡ legs_named prefix.now (begun_at start) legs.now) }
     {
-        let (Ok(clock), Ok(waiting)) = (
-            Arc::new(alloc, AtomicU64::new(0)),
-            Arc::new(alloc, WaitingRecords::new()),
-        ) else {
-            return Err(BeginFault::NoMemory);
-        };
-        let Ok(theirs) = Arc::try_clone(&waiting) else {
-            return Err(BeginFault::NoMemory);
-        };
-        let mut tracks = Tracks {
-            journals,
-            waiting: theirs,
-            tracks: Vec::new(alloc),
-        };
-        let mut beginning = RecordingStart {
-            rt,
-            alloc,
-            start,
-            clock,
-            waiting,
-            noters: Vec::new(alloc),
-        };
-        begin_all(&mut beginning, &mut tracks, prefix, legs)?;
-        let RecordingStart {
-            rt,
-            alloc,
-            start: _,
-            clock,
-            waiting: _,
-            noters,
-        } = beginning;
-        match Writer::start(rt, alloc, tracks, tick) {
-            Ok(writer) => Ok(RecordedLinks::over(rt, links, clock, noters, writer)),
-            Err(StartFault::NoThread) => Err(unwritten(alloc, prefix, legs)),
-            Err(StartFault::NoMemory) => Err(BeginFault::NoMemory),
+        match CallRecording::with_none(rt, alloc, journals, start.min(LAST_WALL), tick) {
+            Ok(none) => none.with_legs(prefix, legs),
+            Err(NoMemory) => Err(BeginFault::NoMemory),
         }
     }
 }

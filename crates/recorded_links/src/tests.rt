@@ -1,15 +1,21 @@
+ghost use Rattle.std.specs.Prelude.{◌≡◌, length};
+ghost use Rattle.recorded_links.specs.Begun.{recordings_of};
+
 use crate::backlogs::WaitingRecords;
 use crate::batches::Batch;
 use crate::noters::Noter;
 use crate::starts::begin_track;
 use crate::tracks::Track;
-use crate::{BeginFault, LinksReturn, MemJournals, RecordedLinks, Way, stem_of};
+use crate::{
+    BeginFault, Call, CallRecording, LinksReturn, MemJournals, RecordedLinks, Way, stem_of,
+};
 use conf_text::{Form, read_conf};
 use file_spec::Conference;
 use link_io::{Came, FailingLink, LinkIn, LinkOut, Links, MemLinks, PlannedTake};
 use rtt_base::{Bytes, NoMemory, Packet, Path};
 use rtt_io::{FailingCall, FailingWrite};
 use std::alloc::Global;
+use std::marker::Brand;
 use std::sync::atomic::AtomicU64;
 use std::sync::{Arc, Wait};
 use std::test::Fail;
@@ -106,7 +112,22 @@ fn call<R: Threads + Wait + Copy + Drop + Send + 'static>(
         return Err(BeginFault::NoMemory);
     };
     let legs = conference.legs.as_slice();
-    let mut links = RecordedLinks::begin(rt, alloc, below, journals, "call", legs, START, 20)?;
+    let recording = CallRecording::begin(rt, alloc, journals, "call", legs, START, 20)?;
+    call_over::<Brand, R>(recording, below, course)
+}
+
+/// A call over these links that is recorded so.
+fn call_over<C: Call + Send + 'static, R: Threads + Wait + Copy + Drop + Send + 'static>(
+    recording: CallRecording<MemJournals, R>,
+    below: MemLinks,
+    course: Course,
+) -> Result<LinksReturn<MemLinks, MemJournals>, BeginFault>
+    requires recordings { C.recordings ≡ recordings_of recording }
+    requires before { C.before ≡ length (⟦<MemLinks as Links>⟧.leads below) }
+{
+    let mut links: RecordedLinks<MemLinks, MemJournals, R, C> = RecordedLinks::open(
+        recording, below,
+    )?;
     match course {
         Course::Whole => run(&mut links, 1000),
         Course::Long => run(&mut links, u64::from(FIVE_HOURS)),
@@ -238,6 +259,7 @@ fn begun<R: Wait + Copy + Drop>(
         rt,
         alloc,
         journals,
+        5001,
         Way::In,
         stem,
         START,

@@ -1,24 +1,26 @@
 //! The recordings of a call, as they are written.
-ghost use Rattle.std.specs.Prelude.{◌≡◌, [], IfSome, take, drop};
+ghost use Rattle.std.specs.Prelude.{◌≡◌, [], IfSome, map, take, drop};
 ghost use Rattle.std.specs.Arc.{arc_value};
+ghost use Rattle.recorded_links.specs.Calls.{call_track};
 ghost use Rattle.recorded_links.specs.Notes.{entries_in};
 ghost use Rattle.recorded_links.specs.Shelves.{IsTakeOf, taken};
 ghost use Rattle.recorded_links.specs.Writing.{TouchesOwn};
 ghost use Rattle.recorded_links.specs.Written.{HasTakenStill, NotesAll};
-ghost use Rattle.recorded_links.specs.Recordings.{AllHaveStill, SameNames};
+ghost use Rattle.recorded_links.specs.Recordings.{AllHave, AllHaveStill, HaveOwnNames};
 
 use crate::backlogs::{Legs, WaitingRecords};
-use crate::noter_places::NoterPlace;
 use crate::notes::Note;
 use crate::passes::{Shelf, TakePass};
-use crate::{Journals, Recorder, Way};
-use rtt_base::NoMemory;
+use crate::{Call, Journals, Recorder, Way};
 use std::alloc::Global;
+use std::marker::PhantomData;
 use std::sync::{Arc, Wait};
 
 /// A recording, and the shelf from which it is written.
 #[derive(Drop)]
 pub(crate) struct Track<J: Journals> {
+    /// The port at which the link is opened of which it is.
+    pub(crate) port: u16,
     pub(crate) way: Way,
     pub(crate) leg: Legs,
     pub(crate) recorder: Recorder<J>,
@@ -36,7 +38,7 @@ fn split_octets(octets: &[u8], len: usize) -> (&[u8], &[u8])
 }
 
 /// Has the entries of these notes, whose octets lie one behind the other, in a recording.
-fn note_each<J: Journals>(
+pub(crate) fn note_each<J: Journals>(
     recorder: &mut Recorder<J>,
     journals: &mut J,
     notes: &[Note],
@@ -55,19 +57,11 @@ fn note_each<J: Journals>(
     }
 }
 
-/// Whether nothing came, or was given, that could not be noted, as far as who notes knows, who has to be here.
-fn has_noted_all<R: Wait + Drop>(noter: &NoterPlace<R>) -> bool {
-    match noter {
-        NoterPlace::Unused(_) => true,
-        NoterPlace::Given => false,
-        NoterPlace::Back(noter) => !noter.is_over(),
-    }
-}
-
 impl<J: Journals> Track<J> {
     // Has what waits on its shelf in the recording.
     fn take_in<R: Wait>(&mut self, rt: &R, journals: &mut J, waiting: &WaitingRecords)
         ensures named { (self.new.recorder.stem ≡ self.old.recorder.stem) × (self.new.recorder.start ≡ self.old.recorder.start) }
+        ensures same { (self.new.port ≡ self.old.port) × ((self.new.way ≡ self.old.way) × (arc_value self.new.shelf ≡ arc_value self.old.shelf)) }
         ensures others { J.tells → TouchesOwn J.contents journals.old journals.new self.old.recorder.stem }
         ensures taken { J.tells → HasTakenStill J.File.Sink (J.contents journals.old) (J.contents journals.new) self.old.recorder self.new.recorder
             (taken self.old.pass) (taken self.new.pass) }
@@ -84,6 +78,7 @@ impl<J: Journals> Track<J> {
     pub(crate) fn write<R: Wait>(&mut self, rt: &R, journals: &mut J, waiting: &WaitingRecords)
         ensures written { IfSome self.new.recorder.file (λ _. self.new.recorder.pending ≡ []) }
         ensures named { (self.new.recorder.stem ≡ self.old.recorder.stem) × (self.new.recorder.start ≡ self.old.recorder.start) }
+        ensures same { (self.new.port ≡ self.old.port) × ((self.new.way ≡ self.old.way) × (arc_value self.new.shelf ≡ arc_value self.old.shelf)) }
         ensures others { J.tells → TouchesOwn J.contents journals.old journals.new self.old.recorder.stem }
         ensures taken { J.tells → HasTakenStill J.File.Sink (J.contents journals.old) (J.contents journals.new) self.old.recorder self.new.recorder
             (taken self.old.pass) (taken self.new.pass) }
@@ -102,6 +97,7 @@ impl<J: Journals> Track<J> {
         came: Legs,
     )
         ensures named { (self.new.recorder.stem ≡ self.old.recorder.stem) × (self.new.recorder.start ≡ self.old.recorder.start) }
+        ensures same { (self.new.port ≡ self.old.port) × ((self.new.way ≡ self.old.way) × (arc_value self.new.shelf ≡ arc_value self.old.shelf)) }
         ensures others { J.tells → TouchesOwn J.contents journals.old journals.new self.old.recorder.stem }
         ensures taken { J.tells → HasTakenStill J.File.Sink (J.contents journals.old) (J.contents journals.new) self.old.recorder self.new.recorder
             (taken self.old.pass) (taken self.new.pass) }
@@ -110,28 +106,6 @@ impl<J: Journals> Track<J> {
             self.write(rt, journals, waiting);
         }
     }
-
-    /// Ends it. The answer is whether all was written that came, or was given.
-    fn end<R: Wait + Drop>(&mut self, journals: &mut J, noter: &NoterPlace<R>) -> bool {
-        let whole = self.recorder.end(journals) == Ok(true);
-        whole && has_noted_all(noter)
-    }
-}
-
-/// Ends recordings, whose noters these are. The answer is the name of the file of the first one of which something is missing.
-pub(crate) fn end_all<J: Journals, R: Wait + Drop>(
-    journals: &mut J,
-    tracks: Vec<Track<J>>,
-    noters: Vec<NoterPlace<R>>,
-) -> Result<Option<String>, NoMemory> {
-    let mut failed = None;
-    for (mut track, noter) in tracks.into_iter().zip(noters) {
-        let is_whole = track.end(journals, &noter);
-        if !is_whole && failed.is_none() {
-            failed = Some(track.recorder.last_name()?);
-        }
-    }
-    Ok(failed)
 }
 
 /// What is written in a round.
@@ -155,10 +129,14 @@ impl Round {
 
 /// All recordings of a call, in leg order, in before out, and where their files are made.
 #[derive(Drop)]
-pub(crate) struct Tracks<J: Journals> {
+pub(crate) struct Tracks<J: Journals, C: Call> {
     pub(crate) journals: J,
     pub(crate) waiting: Arc<WaitingRecords, Global>,
     pub(crate) tracks: Vec<Track<J>>,
+    pub(crate) of: PhantomData<C>,
+    ghost are: { map (λ t. call_track t.port t.way t.recorder.stem t.recorder.start (arc_value t.shelf)) tracks.items ≡ C.recordings },
+    ghost apart: { J.tells → HaveOwnNames C.recordings },
+    ghost have: { J.tells → ∥ AllHave J.File.Sink (J.contents journals) tracks.items (λ t. t.recorder) (λ t. taken t.pass) ∥₁ },
 }
 
 /// Writes what waits in each of these recordings in turn that a round takes, where something came of these legs.
@@ -170,7 +148,8 @@ fn write_each<J: Journals, R: Wait>(
     round: Round,
     came: Legs,
 )
-    ensures names { SameNames tracks.old.items tracks.new.items (λ t. t.recorder) }
+    ensures same { map (λ t. call_track t.port t.way t.recorder.stem t.recorder.start (arc_value t.shelf)) tracks.new.items
+        ≡ map (λ t. call_track t.port t.way t.recorder.stem t.recorder.start (arc_value t.shelf)) tracks.old.items }
     ensures have { J.tells → AllHaveStill J.File.Sink (J.contents journals.old) (J.contents journals.new) tracks.old.items tracks.new.items
         (λ t. t.recorder) (λ t. taken t.pass) }
 {
@@ -180,13 +159,9 @@ fn write_each<J: Journals, R: Wait>(
     }
 }
 
-impl<J: Journals> Tracks<J> {
+impl<J: Journals, C: Call> Tracks<J, C> {
     /// Writes what waits in each recording in turn that this round takes.
-    pub(crate) fn write<R: Wait>(&mut self, rt: &R, round: Round)
-        ensures names { SameNames self.old.tracks.items self.new.tracks.items (λ t. t.recorder) }
-        ensures have { J.tells → AllHaveStill J.File.Sink (J.contents self.old.journals) (J.contents self.new.journals) self.old.tracks.items self.new.tracks.items
-            (λ t. t.recorder) (λ t. taken t.pass) }
-    {
+    pub(crate) fn write<R: Wait>(&mut self, rt: &R, round: Round) {
         let came = self.waiting.legs();
         write_each(
             rt,

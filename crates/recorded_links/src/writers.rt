@@ -1,6 +1,6 @@
 //! Who writes the recordings of a call.
-use crate::Journals;
 use crate::tracks::{Round, Tracks};
+use crate::{Call, Journals};
 use std::alloc::Global;
 use std::sync::atomic::{AtomicBool, Ordering};
 use std::sync::{Arc, Wait};
@@ -37,9 +37,9 @@ impl Bell {
 
 /// Who writes the recordings of a call: a thread, or nobody, where nothing is recorded.
 #[derive(Drop)]
-pub(crate) enum Writer<J: Journals> {
-    There(JoinHandle<Tracks<J>>, Arc<Bell, Global>),
-    Nobody(Tracks<J>),
+pub(crate) enum Writer<J: Journals, C: Call> {
+    There(JoinHandle<Tracks<J, C>>, Arc<Bell, Global>),
+    Nobody(Tracks<J, C>),
 }
 
 /// Why who writes could not be started.
@@ -60,12 +60,12 @@ fn round_after(rested: u32) -> Round {
 }
 
 /// Writes what waits, again and again with a rest, until it is told to end.
-fn write_on<J: Journals + Drop, R: Wait + Drop>(
+fn write_on<J: Journals + Drop, R: Wait + Drop, C: Call>(
     rt: R,
-    mut tracks: Tracks<J>,
+    mut tracks: Tracks<J, C>,
     rest: u32,
     bell: &Bell,
-) -> Tracks<J> {
+) -> Tracks<J, C> {
     let mut rested: u32 = 0;
     for _ in rt.forever() {
         let round = round_after(rested);
@@ -83,7 +83,7 @@ fn write_on<J: Journals + Drop, R: Wait + Drop>(
     tracks
 }
 
-impl<J: Journals + Drop + Send + 'static> Writer<J>
+impl<J: Journals + Drop + Send + 'static, C: Call + Send + 'static> Writer<J, C>
 where
     J::File: 'static,
 {
@@ -91,9 +91,9 @@ where
     pub(crate) fn start<R: Threads + Wait + Copy + Drop + Send + 'static>(
         rt: R,
         alloc: Global,
-        tracks: Tracks<J>,
+        tracks: Tracks<J, C>,
         rest: u32,
-    ) -> Result<Writer<J>, StartFault> {
+    ) -> Result<Writer<J, C>, StartFault> {
         let Ok(bell) = Arc::new(alloc, Bell::new()) else {
             return Err(StartFault::NoMemory);
         };
@@ -108,7 +108,7 @@ where
     }
 
     /// Tells it to end, and has the recordings. What waits is written.
-    pub(crate) fn finish<R: Threads + Wait>(self, rt: &R) -> Tracks<J> {
+    pub(crate) fn finish<R: Threads + Wait>(self, rt: &R) -> Tracks<J, C> {
         let mut tracks = match self {
             Writer::There(handle, bell) => {
                 bell.ring();

@@ -1,6 +1,6 @@
 -- A text that is escaped character by character.
 use Rattle.std.proofs.Common.{◌≡◌, ℕ, ◌<◌, Bool, true, false, ◌&&◌, ◌||◌, cond, eqb, List, [], ◌∷◌, ◌++◌, refl, ap, sym, ◌∙◌, arith, append-nil, append_assoc}
-use Rattle.std.specs.Prelude.{flat_map, map, codes, encode_utf8, All}
+use Rattle.std.specs.Prelude.{flat_map, codes, encode_utf8, All}
 use Rattle.std.specs.Str.{IsAscii}
 use Rattle.std.proofs.lemmas.Grind.{flat_map-append}
 use Rattle.std.proofs.lemmas.Bool.Decides.{nat_tests}
@@ -102,10 +102,6 @@ escaped_print c after e n =
 -- and a marker
 pub escaped_marker : (c : ℕ) (after : Bool) → class_of c ≡ Marker → escaped_after after c ≡ encode_utf8 c
 escaped_marker c after e = escaped_by_class c after Marker e (λ q. cc)
-
-pub map_same : (xs : List ℕ) → map (λ x. x) xs ≡ xs
-map_same [] = refl
-map_same (x ∷ xs) = ap (λ l. x ∷ l) (map_same xs)
 
 -- ---- a text that stands for itself
 plain_sign : (c : ℕ) → IsPlain c → escaped_sign c ≡ c ∷ []

@@ -1,6 +1,6 @@
 -- An ear that is told and gives, and what is printed of it.
 use Rattle.std.proofs.Common.{◌≡◌, ℕ, ◌≤◌, true, false, Some, Ok, Err, Result, List, [], ◌∷◌, ◌++◌, length, refl, ap, sym, ◌∙◌, subst, append-nil}
-use Rattle.std.specs.Prelude.{IfOk, OnOk}
+use Rattle.std.specs.Prelude.{IfOk}
 use Rattle.std.proofs.lemmas.Grind.{flat_map-append}
 use Rattle.wire_spec.specs.declared.faults.TextFault.{TextFault}
 use Rattle.wire_spec.specs.Packets.{Packet, Arrival}
@@ -33,11 +33,6 @@ plain_giving old new now octets more g i = let m = g i.0 i.1 i.2 i.3 i.4 in (i.0
 
 pub becomes_giving : (old new : Ear) (f : EarSettings → Story → Story) → Becomes old new f → IsGiving old → IsGiving new
 becomes_giving old new f b i = (i.0, i.1, f i.0 i.2, i.3, b.gave i.0 i.1 i.2 i.3 i.4)
-
--- ---- answers
-pub on_ok : {A E P Q : Type 0} (r : Result A E) → (P → Q) → OnOk r P → OnOk r Q
-on_ok (Ok x) f p = f p
-on_ok (Err e) f p = tt
 
 -- ---- nothing came yet
 pub begins : {E : Type 0} (r : Result Ear E) (settings : EarSettings) (sources : List ℕ) (request : ReadRequest) → settings ≡ asked_of request → sources ≡ request.source ∷ []

@@ -39,6 +39,7 @@ use Rattle.file_spec.specs.Script.{ScriptLine, script_line, and_line, latest, ty
 use Rattle.command_spec.specs.Transcripts.{escaped, escaped_as, escaped_sign, chunk_line, chunks_read, transcript_view}
 use Rattle.recording_views.specs.Laws.{IsSayable, IsScript, is_sayable, script_lines}
 use Rattle.recording_views.proofs.Unescaping.{IsInside, all_append, said_as_characters, text_back, text_inside}
+use Rattle.file_spec.proofs.Plain.{lines_of_parts-cons as parts_cons}
 
 -- what a line says
 abbrev pub body : Chunk → List ℕ
@@ -58,10 +59,6 @@ not_stripped : (xs : List ℕ) → AllByRecursion IsInside xs → strip_carriage
 not_stripped [] a = refl
 not_stripped (x ∷ xs) a =
     ap (λ b. cond b (take (length (x ∷ xs) - 1) (x ∷ xs)) (x ∷ xs)) (index_inside (x ∷ xs) (length (x ∷ xs) - 1) a (omega arith))
-
-parts_cons : (x : List ℕ) (parts : List (List ℕ)) → 0 < length parts → lines_of_parts (x ∷ parts) ≡ strip_carriage_return x ∷ lines_of_parts parts
-parts_cons x [] l = absurd (omega arith)
-parts_cons x (y ∷ more) l = refl
 
 a_line : (xs rest : List ℕ) → AllByRecursion IsInside xs → lines ((xs ++ 0x0A ∷ []) ++ rest) ≡ xs ∷ lines rest
 a_line xs rest a =

@@ -11,6 +11,7 @@ use Rattle.rtp_text.specs.Views.{older_at, older_in, blocks_in, IsView}
 use Rattle.command_spec.specs.Listing.{block_length, packet_line}
 use Rattle.recording_views.specs.declared.records.Head.{Head}
 use Rattle.recording_views.specs.Lines.{head_line}
+use Rattle.rtp_text.proofs.Plain.{older_count}
 
 -- the lengths from one place on: that of the block there, and those of the blocks behind it
 lengths_from : (i n : ℕ) (heads octets : List ℕ) (last : List TextBlock) → i < n → older_size (headers_of n heads) ≤ length octets
@@ -27,10 +28,6 @@ lengths_from (suc i) (suc n) heads octets last l fits =
     let at : 4 + 4 * i ≡ 4 * suc i = omega arith in
     let rest : older_size (headers_of n (drop 4 heads)) ≤ length (drop h.size octets) = omega (arith, length-drop h.size octets) in
     rw (next, ← at, ← drop-drop (4 * i) 4 heads) (lengths_from i n (drop 4 heads) (drop h.size octets) last (omega arith) rest)
-
-older_count : (n : ℕ) (heads octets : List ℕ) → length (older_at (headers_of n heads) octets) ≡ n
-older_count zero heads octets = refl
-older_count (suc n) heads octets = ap suc (older_count n (drop 4 heads) (drop (header_of heads).size octets))
 
 drop_front : (xs ys : List TextBlock) (n : ℕ) → length xs ≡ n → drop n (xs ++ ys) ≡ ys
 drop_front [] ys n e = rw (← e) refl

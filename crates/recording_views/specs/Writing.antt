@@ -7,13 +7,14 @@ use Rattle.command_spec.specs.declared.requests.ReadRequest.{ReadRequest}
 use Rattle.command_spec.specs.Reading.{usual_wait}
 use Rattle.command_spec.specs.Transcripts.{chunk_line, transcript_view}
 use Rattle.reorder_buffer.specs.Stories.{Story, begun}
+use Rattle.receiver.specs.declared.cuts.TextCut.TheVariants.{Never}
 use Rattle.receiver.specs.declared.settings.EarSettings.{EarSettings}
 use Rattle.receiver.specs.declared.ears.Ear.{Ear}
 use Rattle.receiver.specs.Hears.{Gave, GaveSome, IsToldOf, ready_chunks, story_chunks, text_for, told}
 
 -- what an ear is asked for
 abbrev pub asked_of : ReadRequest → EarSettings
-asked_of r = record { ssrc = r.ssrc; payload_types = r.payload_types; wait = usual_wait }
+asked_of r = record { ssrc = r.ssrc; payload_types = r.payload_types; wait = usual_wait; cut = Never }
 
 -- the ear for this request was told nothing
 abbrev pub IsBegunFor : ReadRequest → Ear → Type 0

@@ -14,10 +14,3 @@ pub use escapes::append_escaped;
 pub use lists::list_records;
 pub use reads::hear_recording;
 pub use recordings::{ear_for, script_recording};
-
-#[cfg(test)]
-mod list_tests;
-#[cfg(test)]
-mod read_tests;
-#[cfg(test)]
-mod script_tests;

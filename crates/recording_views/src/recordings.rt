@@ -10,7 +10,7 @@ ghost use Rattle.rtt_base.specs.declared.limits.TheConstants.{END_OF_MOMENTS, MO
 
 use crate::script_lines::append_line;
 use command_spec::ReadRequest;
-use receiver::{Ear, EarSettings, PlainAnswer};
+use receiver::{Ear, EarSettings, PlainAnswer, TextCut};
 use rtpdump_io::{DumpItem, DumpReader, RecordingFault};
 use rtt_base::limits::USUAL_WAIT;
 use rtt_base::{Bytes, Chunk, NoMemory as OutOfMemory, Packet};
@@ -29,6 +29,7 @@ pub fn ear_for(alloc: Global, request: ReadRequest) -> Result<Ear, OutOfMemory>
         ssrc: request.ssrc,
         payload_types: request.payload_types,
         wait: u64::from(USUAL_WAIT),
+        cut: TextCut::Never,
     };
     Ear::new(alloc, asked, &[request.source])
 }

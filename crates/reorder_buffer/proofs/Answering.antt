@@ -128,6 +128,3 @@ pub start_answer : (wait : ℕ) (e : Numbered) → taken_as wait [] e ≡ cond (
 start_answer wait e =
     let same : suc e.number - e.number ≡ 1 = omega arith in
     is_new (nat_lt e.number e.number) (is_settled wait [] e.time e.number) false (cond (is_settled wait (e ∷ []) e.time e.number) Ready Held) (le-ltb e.number e.number (omega arith)) (rw same refl) refl
-
-pub start_in_time : (wait : ℕ) (e : Numbered) → in_time wait e [] ≡ true
-start_in_time wait e = rw (le-leb e.number e.number (omega arith)) refl

@@ -13,10 +13,11 @@ use Rattle.reorder_buffer.specs.Views.{next_number}
 use Rattle.reorder_buffer.specs.Tracks.{Holding, Waiting, Phase, Before, Within, Follows, Tracks}
 use Rattle.reorder_buffer.proofs.Settling.{still_front}
 use Rattle.reorder_buffer.proofs.Arriving.{pass_by, hold_on, start}
-use Rattle.reorder_buffer.proofs.Answering.{refused_why, refused_answer, held_answer, start_answer, start_in_time, settled_tells}
+use Rattle.reorder_buffer.proofs.Answering.{refused_why, refused_answer, held_answer, start_answer, settled_tells}
 use Rattle.stream_spec.specs.Lists.{In}
 use Rattle.reorder_buffer.proofs.Places.{not_held, in_put}
 use Rattle.reorder_buffer.proofs.Steps.{pass_follows}
+use Rattle.stream_spec.proofs.Walks.{first_in_time as start_in_time}
 
 -- ---- before the first packet, and after it
 some_past : (s : State) (story : Story) → Follows s story → Holding s (numbered story.past) story.given → (s.arrivals == 0) ≡ false

@@ -2,7 +2,7 @@
 use Rattle.std.proofs.Common.{◌≡◌, ℕ, suc, ◌+◌, ◌<◌, ◌≤◌, Bool, true, false, cond, not, ◌⊎◌, inl, inr, List, [], ◌∷◌, ◌++◌, length, refl, ap, subst, sym, ◌∙◌, arith, append_assoc}
 use Rattle.std.specs.Prelude.{◌&&◌, ◌||◌, ◌==◌, nat_lt, nat_le}
 use Rattle.std.specs.List.{list_any}
-use Rattle.std.proofs.lemmas.Bool.{cases_lt, true≢false, leb-true, le-leb, lt-leb, le-ltb, and_parts, and_from, and_right, or_right, false_from_ne_true, not-true, not_from_true, not_from_false}
+use Rattle.std.proofs.lemmas.Bool.{cases_lt, true≢false, leb-true, le-leb, lt-leb, and_parts, and_from, and_right, or_right, false_from_ne_true, not-true, not_from_true, not_from_false}
 use Rattle.stream_spec.specs.Numbering.{Numbered, first_number, has_number, in_time, by_number, used, distinct_from, is_given_up}
 use Rattle.stream_spec.specs.Lists.{In}
 use Rattle.stream_spec.proofs.Lists.{any_in, in_any, in_right, in_append}
@@ -10,6 +10,7 @@ use Rattle.stream_spec.proofs.Matched.{in_by_number, used_in}
 use Rattle.stream_spec.proofs.Rising.{by_number_in, length_by_number, rising_put}
 use Rattle.stream_spec.proofs.GivingUp.{has_in, in_has, one, distinct_split, distinct_same, is_cause, cause_at, cause_from, up_weaker, up_later, up_below, up_more}
 use Rattle.reorder_buffer.specs.Holding.{HoldsNumbers}
+use Rattle.stream_spec.proofs.Settled.{by_number_behind}
 
 pub later : (wait : ℕ) (past : List Numbered) (t t' first front : ℕ) (out held : List Numbered) → t ≤ t' → HoldsNumbers wait past t first front out held → HoldsNumbers wait past t' first front out held
 later wait past t t' first front out held l h = record {
@@ -83,10 +84,6 @@ jump wait past t first front out x held g h =
     above u i l = let r = h.all u i l in let v = from_x r.0 r.1 in omega (arith, r.2)
 
 -- ---- arrivals
-by_number_behind : (e : Numbered) (out held : List Numbered) → ((u : Numbered) → In u out → u.number ≤ e.number) → by_number e (out ++ held) ≡ out ++ by_number e held
-by_number_behind e [] held f = refl
-by_number_behind e (x ∷ out) held f = let l = f x (inl refl) in rw (le-ltb e.number x.number l) (ap (λ us. x ∷ us) (by_number_behind e out held (λ u i. f u (inr i))))
-
 -- a number from the front on that is not held, while the front waits
 pub arrive : (wait : ℕ) (past : List Numbered) (first front : ℕ) (out held : List Numbered) (e : Numbered) → HoldsNumbers wait past e.time first front out held
     → is_given_up wait past e.time front ≡ false → front ≤ e.number → has_number held e.number ≡ false

@@ -23,8 +23,3 @@ least_oldest wait x (y ∷ ys) = let r = least_oldest wait y ys in let m = oldes
 -- the first moment at which one of these came `wait` ago
 pub least_is_oldest : (wait t : ℕ) (x : Numbered) (xs : List Numbered) → x.time ≤ t → least (waits_of wait (x ∷ xs)) ≡ oldest_from t (x ∷ xs) + wait
 least_is_oldest wait t x xs l = let same : x.time ≡ min t x.time = omega arith in least_oldest wait x xs ∙ ap (λ n. oldest_from n xs + wait) same
-
-pub waited : (wait : ℕ) (held : List Numbered) (m : ℕ) → In m (waits_of wait held) → (x : Numbered) × In x held × (m ≡ x.time + wait)
-waited wait [] m i = absurd i
-waited wait (x ∷ held) m (inl e) = (x, inl refl, e)
-waited wait (x ∷ held) m (inr i) = let r = waited wait held m i in (r.0, inr r.1, r.2)

@@ -10,11 +10,11 @@ use Rattle.stream_spec.specs.Ready.{least, end_of, ready_of}
 use Rattle.stream_spec.proofs.Lists.{in_right, any_in, in_any}
 use Rattle.stream_spec.proofs.Ready.{up_moment, least_in}
 use Rattle.reorder_buffer.specs.States.{oldest_from, when_by, given_up_at, latest_after, latest_from}
-use Rattle.reorder_buffer.proofs.Oldest.{oldest_member, least_is_oldest, waited}
+use Rattle.reorder_buffer.proofs.Oldest.{oldest_member, least_is_oldest}
 use Rattle.reorder_buffer.specs.Holding.{HoldsNumbers, Timed}
 use Rattle.stream_spec.proofs.GivingUp.{has_in, in_has, distinct_split, one}
 use Rattle.reorder_buffer.proofs.Keeping.{come, jump, held_in_past, held_tells}
-use Rattle.reorder_buffer.proofs.Timing.{timed_come, timed_jump, end_by_wait, waits_of}
+use Rattle.reorder_buffer.proofs.Timing.{timed_come, timed_jump, end_by_wait, waits_of, in_waits as waited}
 
 pub some_is : (m n : ℕ) → Some m ≡ Some n → m ≡ n
 some_is m n e = ap (λ o. unwrap_or o 0) e

@@ -98,7 +98,7 @@ held_not_ready wait past t first front x fi b l i gone waits =
 abbrev pub waits_of : ℕ → List Numbered → List ℕ
 waits_of wait held = map (λ x. x.time + wait) held
 
-in_waits : (wait : ℕ) (held : List Numbered) (m : ℕ) → In m (waits_of wait held) → (x : Numbered) × In x held × (m ≡ x.time + wait)
+pub in_waits : (wait : ℕ) (held : List Numbered) (m : ℕ) → In m (waits_of wait held) → (x : Numbered) × In x held × (m ≡ x.time + wait)
 in_waits wait [] m i = absurd i
 in_waits wait (x ∷ held) m (inl e) = (x, inl refl, e)
 in_waits wait (x ∷ held) m (inr i) = let r = in_waits wait held m i in (r.0, inr r.1, r.2)

@@ -14,7 +14,8 @@ pub record HoldsNumbers (wait : ℕ) (past : List Numbered) (t first front : ℕ
   pub high : (u : Numbered) → In u held → front ≤ u.number
   pub rising : RisingNumbers held
   pub came : (u : Numbered) → In u past → u.time ≤ t
-  pub all : (u : Numbered) → In u past → front ≤ u.number → (v : Numbered) × In v held × (v.number ≡ u.number) × (v.time ≤ u.time)
+  pub all : (u : Numbered) → In u past → front ≤ u.number
+      → (v : Numbered) × In v held × (v.number ≡ u.number) × (v.time ≤ u.time)
   pub count : distinct_from front past ≡ length held
   pub ended : (n : ℕ) → first ≤ n → n < front → (has_number past n ≡ true) ⊎ (is_given_up wait past t n ≡ true)
 

@@ -1,4 +1,4 @@
--- Who holds the current packet of a pool, a hold or a tracker writes through it.
+-- Who holds the current packet of a pool, a hold or a buffer writes through it.
 use Rattle.std.specs.Borrow.{Lends, MutBor, Fml}
 use Rattle.rtt_base.specs.declared.text_packets.TextPacket.{TextPacket}
 use Rattle.rtt_base.specs.contracts.text_packets.TextPacket.{the_row as packet}
@@ -16,6 +16,6 @@ LendsCurrent p r = Lends pool packet p r (with_current p.now)
 abbrev pub LendsHeld : MutBor State → MutBor TextPacket → Fml
 LendsHeld s r = Lends hold packet s r (with_packet s.now)
 
--- a tracker ends with it
+-- a buffer ends with it
 abbrev pub LendsPacket : MutBor State → MutBor TextPacket → Fml
 LendsPacket s r = Lends buffer packet s r (with_packet s.now)

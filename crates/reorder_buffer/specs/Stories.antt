@@ -1,4 +1,4 @@
--- What a tracker was told and has given, and what it owes by then (profile).
+-- What a buffer was told and has given, and what it owes by then (profile).
 use Rattle.std.specs.Prelude.{ℕ, zero, suc, ◌+◌, ◌-◌, Bool, true, false, List, [], ◌∷◌, ◌++◌, map, filter, ◌&&◌, ◌||◌, nat_lt, nat_le, if◌then◌else◌, max}
 use Rattle.rtt_base.specs.declared.text_packets.TextPacket.{TextPacket}
 use Rattle.wire_spec.specs.Packets.{Packet, Arrival, packet_of}

@@ -1,4 +1,4 @@
--- What a call tells of all that the tracker may have been told and have given before it (profile).
+-- What a call tells of all that the buffer may have been told and have given before it (profile).
 use Rattle.std.specs.Prelude.{◌≡◌, ℕ, ◌+◌, ◌^◌, ◌<◌, ◌≤◌, ◌⊎◌, ◌∷◌, ◌++◌, Bool, None, List, length, nat_lt}
 use Rattle.rtt_base.specs.declared.limits.TheConstants.{MOST_HELD}
 use Rattle.rtt_base.specs.declared.text_packets.TextPacket.{TextPacket}
@@ -43,7 +43,8 @@ Gives old new due = LeadsStory old new (λ story. gave story (given_of due new.c
 
 -- the packet with this number, whichever it is, comes at `now` and is given at once
 abbrev pub GivesAtOnce : State → State → ℕ → ℕ → ℕ → Type 0
-GivesAtOnce old new now number ready = (p : Packet) → number ≡ next_number old p.seq → LeadsStory old new (λ story. gave (came story now p) (given_packet number ready p))
+GivesAtOnce old new now number ready = (p : Packet) → number ≡ next_number old p.seq
+    → LeadsStory old new (λ story. gave (came story now p) (given_packet number ready p))
 
 -- a packet is given as it came
 abbrev pub GivesAsItCame : State → State → Type 0

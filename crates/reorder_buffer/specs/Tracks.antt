@@ -1,4 +1,4 @@
--- What a tracker's state stands for.
+-- What a buffer's state stands for.
 use Rattle.std.specs.Prelude.{◌≡◌, ◌+◌, ◌<◌, ◌≤◌, Bool, List, [], ◌++◌, length, map, None}
 use Rattle.stream_spec.specs.Numbering.{Numbered, numbered, greatest, has_number, Falling}
 use Rattle.stream_spec.specs.Ready.{end_of}
@@ -36,7 +36,7 @@ pub record Follows (s : State) (story : Story) : Type 0 where
   pub top : s.top ≡ greatest (numbered story.past)
   pub phase : Phase s story
 
--- the tracker was told and gave what the story says, and nothing more can be settled now
+-- the buffer was told and gave what the story says, and nothing more can be settled now
 pub record Tracks (s : State) (story : Story) : Type 0 where
   pub follows : Follows s story
   pub still : next_latest s ≡ None

@@ -41,7 +41,7 @@ impl Model for ReorderBuffer {
 }
 
 impl ReorderBuffer {
-    /// A tracker to which nothing came yet. It reserves room for 66 packets, the current one and those that it will hold:
+    /// A buffer to which nothing came yet. It reserves room for 66 packets, the current one and those that it will hold:
     /// no other call takes memory.
     pub fn new(alloc: Global, wait: u64) -> Result<ReorderBuffer, NoMemory>
         requires { wait ≤ LONGEST_WAIT }

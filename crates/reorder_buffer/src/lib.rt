@@ -11,8 +11,3 @@ mod pool;
 
 pub use answers::{Due, Taken};
 pub use buffers::ReorderBuffer;
-
-#[cfg(test)]
-mod plain;
-#[cfg(test)]
-mod tests;

@@ -14,9 +14,7 @@ use Rattle.stream_spec.proofs.GivingUp.{distinct_split, one, in_has}
 use Rattle.report_spec.specs.Numbers.{Row, Lost, with_number, missing, lost_before, lost_from, lost_among, lost}
 use Rattle.report_spec.specs.Missed.{lost_count}
 use Rattle.report_spec.specs.ShowLaws.{size}
-
-from_zero : (n : ℕ) → 0 + n ≡ n
-from_zero n = omega arith
+use Rattle.std.proofs.Math.Nat.{zero-add as from_zero}
 
 -- ---- rows
 abbrev row_size : Row → ℕ

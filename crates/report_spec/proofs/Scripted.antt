@@ -2,8 +2,7 @@
 use Rattle.std.proofs.Common.{◌≡◌, ℕ, ◌≤◌, Bool, true, false, cond, List, [], ◌∷◌, ◌++◌, map, filter, flat_map, refl, ap, sym, ◌∙◌, subst, ◌==◌, ◌&&◌, ◌||◌, inl, inr, eq-eqb, append-nil}
 use Rattle.std.specs.Prelude.{codes, decimal}
 use Rattle.std.specs.List.{list_any, filter_map}
-use Rattle.std.proofs.lemmas.Bool.{true≢false}
-use Rattle.std.proofs.lemmas.Bool.Decides.{Decides-eqb}
+use Rattle.std.proofs.lemmas.Bool.{true≢false, or_parts as neither, eqb-true as same_is}
 use Rattle.std.proofs.lemmas.List.Folds.{list_any-append}
 use Rattle.std.proofs.lemmas.List.Elements.{filter-append}
 use Rattle.wire_spec.specs.Packets.{Arrival, has_text}
@@ -30,19 +29,12 @@ abbrev Apart : List ℕ → Type 0
 Apart [] = Unit {0}
 Apart (x ∷ xs) = (list_any (λ y. y == x) xs ≡ false) × Apart xs
 
-same_is : (m n : ℕ) → (m == n) ≡ true → m ≡ n
-same_is m n e = (Decides-eqb m n).0 e
-
 swapped : (m n : ℕ) → (m == n) ≡ false → (n == m) ≡ false
 swapped m n e = go (n == m) refl
   where
     go : (b : Bool) → (n == m) ≡ b → b ≡ false
     go false f = refl
     go true f = absurd (true≢false (sym (eq-eqb m n (sym (same_is n m f))) ∙ e))
-
-neither : (a b : Bool) → (a || b) ≡ false → (a ≡ false) × (b ≡ false)
-neither true b e = absurd (true≢false e)
-neither false b e = (refl, e)
 
 apart_push : (xs : List ℕ) (n : ℕ) → Apart xs → list_any (λ y. y == n) xs ≡ false → Apart (xs ++ n ∷ [])
 apart_push [] n a e = (refl, tt)

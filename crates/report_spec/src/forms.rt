@@ -41,6 +41,7 @@ pub enum LineWord {
     Wait,
     Turns,
     Relabel,
+    Mtu,
     Gone,
     Operator,
     Record,

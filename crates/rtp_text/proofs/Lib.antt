@@ -4,3 +4,4 @@ pub mod Spelling
 pub mod Offsets
 pub mod Pieces
 pub mod Viewing
+pub mod Plain

@@ -7,7 +7,7 @@ use Rattle.rtt_base.specs.Buffers.{Appends}
 use Rattle.rtt_base.proofs.Appending.{appends_both, appends_refused}
 
 -- the pieces of the members before place i, and of the one there
-piece_more : {X : Type 0} (f : X → List ℕ) (xs : List X) (i : ℕ) (x : X) → slice_get xs i ≡ Some x → flat_map f (take i xs) ++ f x ≡ flat_map f (take (i + 1) xs)
+pub piece_more : {X : Type 0} (f : X → List ℕ) (xs : List X) (i : ℕ) (x : X) → slice_get xs i ≡ Some x → flat_map f (take i xs) ++ f x ≡ flat_map f (take (i + 1) xs)
 piece_more f [] i x e = cc e
 piece_more f (y ∷ xs) zero x e = let q : y ≡ x = cc e in let one : 0 + 1 ≡ 1 = refl in ap f (sym q) ∙ sym (append-nil (f y))
 piece_more f (y ∷ xs) (suc i) x e =

@@ -9,13 +9,14 @@ use Rattle.rtt_base.specs.declared.blocks.TextBlock.{TextBlock}
 use Rattle.rtt_base.specs.declared.text_packets.PayloadTypes.{PayloadTypes}
 use Rattle.rtt_base.specs.declared.limits.TheConstants.{MOST_PACKET_OCTETS}
 use Rattle.wire_spec.specs.declared.headers.RedHeader.{RedHeader}
-use Rattle.wire_spec.specs.Packets.{primary, redundant, primary_text}
+use Rattle.wire_spec.specs.Packets.{primary}
 use Rattle.wire_spec.specs.Rtp.{Reading, rtp}
 use Rattle.wire_spec.specs.Red.{Headers, older_size, blocks_at, all_utf8, texts_at, red, headers_at}
 use Rattle.wire_spec.specs.Text.{text_of, text_of_short, text_packet, accepted}
 use Rattle.rtp_text.specs.declared.views.TextView.{TextView}
 use Rattle.rtp_text.specs.Views.{older_at, packet_in, IsCut, IsPacketOf}
 use Rattle.rtp_text.proofs.Steps.{texts_read}
+pub use Rattle.wire_spec.proofs.SentBack.{redundant_front as redundant_is, primary_last as primary_is}
 
 take_front : (n m : ℕ) (xs : List ℕ) → take n (take (n + m) xs) ≡ take n xs
 take_front zero m xs = refl
@@ -50,17 +51,6 @@ cut_older_ascii size texts older text c = subst IsAscii (sym c.older) (IsAscii-t
 
 pub cut_primary_ascii : (size : ℕ) (texts older text : List ℕ) → IsCut size texts older text → IsAscii text
 cut_primary_ascii size texts older text c = subst IsAscii (sym c.primary) (IsAscii-drop texts size c.ascii)
-
--- the blocks of a view: the redundant ones and the primary one
-pub redundant_is : (rest : List TextBlock) (b : TextBlock) → redundant (rest ++ b ∷ []) ≡ rest
-redundant_is [] b = refl
-redundant_is (x ∷ []) b = refl
-redundant_is (x ∷ y ∷ rest) b = ap (λ bs. x ∷ bs) (redundant_is (y ∷ rest) b)
-
-pub primary_is : (rest : List TextBlock) (b : TextBlock) → primary_text (rest ++ b ∷ []) ≡ b.text
-primary_is [] b = refl
-primary_is (x ∷ []) b = refl
-primary_is (x ∷ y ∷ rest) b = primary_is (y ∷ rest) b
 
 -- the packet of this header, these redundant blocks and this primary text
 pub packet_read : (r : Reading) (older : List TextBlock) (text : List ℕ)

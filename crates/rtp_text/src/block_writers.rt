@@ -234,7 +234,9 @@ pub fn write_text<O: OctetBuffer, B: OlderBlocks>(
 ) -> Result<(), O::Refusal>
     requires t140 { payload_types.t140 < 2 ^ 7 }
     requires red { payload_types.red < 2 ^ 7 }
-    ensures { Appends O.greatest (O.written out.old) (O.written out.new) (packet_written payload_types (packet_with head.now (B.blocks older.now head.now.timestamp) text.now)) result }
+    ensures { Appends O.greatest (O.written out.old) (O.written out.new)
+        (packet_written payload_types
+        (packet_with head.now (B.blocks older.now head.now.timestamp) text.now)) result }
 {
     let before = out.len();
     let rtp = rtp_head(head, older, payload_types);

@@ -40,7 +40,12 @@ pub fn write_header<O: OctetBuffer>(head: &RtpHead, out: &mut O) -> Result<(), O
     ensures { Appends O.greatest (O.written out.old) (O.written out.new) (rtp_written (spelled head.now) []) result }
 {
     let (octets, size) = header_octets(head);
-    out.append(&octets[..size])
+    // of most headers, which name no source, as many octets as is known here
+    if size == 12 {
+        out.append(&octets[..12])
+    } else {
+        out.append(&octets[..size])
+    }
 }
 
 /// Appends a packet of this header and payload, without extension and padding.
@@ -50,7 +55,8 @@ pub fn write_rtp<O: OctetBuffer>(
     out: &mut O,
 ) -> Result<(), O::Refusal>
     requires { head.now.pt < 2 ^ 7 }
-    ensures { Appends O.greatest (O.written out.old) (O.written out.new) (rtp_written (spelled head.now) payload.now) result }
+    ensures { Appends O.greatest (O.written out.old) (O.written out.new)
+        (rtp_written (spelled head.now) payload.now) result }
 {
     let before = out.len();
     let headed = write_header(head, out);

@@ -17,8 +17,3 @@ pub use header_writers::{write_header, write_rtp};
 pub use headers::{RtpHead, RtpView};
 pub use packets::read_text;
 pub use views::{TextView, view_text};
-
-#[cfg(test)]
-mod block_tests;
-#[cfg(test)]
-mod header_tests;

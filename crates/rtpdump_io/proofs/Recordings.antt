@@ -7,7 +7,7 @@ use Rattle.std.proofs.Math.Seq.{drop-append_seam, drop-append-add, take-append-a
 use Rattle.wire_spec.specs.declared.faults.DumpKind.{DumpKind}
 use Rattle.wire_spec.specs.declared.faults.DumpKind.TheVariants.{NotDump, BadLength, EndsInside, TooLong, TooLarge}
 use Rattle.wire_spec.specs.Dump as dumps
-use Rattle.wire_spec.specs.Dump.{Item, What, Place, Fault, Step, End, Broken, Next, past_line, past_head, after_line, opening, what_of, size_of, packet_size_of, time_of, item_of, record_fault, step_or, dump_step, Recording, with_item, records_by, records_within, records, dump_from, dump}
+use Rattle.wire_spec.specs.Dump.{Item, What, Place, Fault, Step, End, Broken, Next, past_line, past_head, after_line, opening, what_of, size_of, packet_size_of, time_of, item_of, record_fault, step_or, dump_step, Recording, records_by, records, dump_from, dump}
 use Rattle.rtpdump_io.specs.Input.{Passes}
 use Rattle.rtpdump_io.specs.Structures.{IsHead}
 use Rattle.rtpdump_io.specs.Reading.{broken, item_at, Gives, is_last, coming}
@@ -18,6 +18,7 @@ use Rattle.rtpdump_io.specs.declared.items.DumpItem.{DumpItem}
 use Rattle.rtpdump_io.specs.declared.items.DumpItem.TheVariants as answer
 use Rattle.rtt_base.specs.declared.limits.TheConstants.{MOST_PACKET_OCTETS}
 use Rattle.wire_spec.specs.declared.limits.TheConstants.{LAST_RECORD_MOMENT}
+use Rattle.wire_spec.proofs.Records.{unrolled}
 
 -- ---- the opening
 
@@ -245,15 +246,6 @@ module _ {X : Type 0} (limit : ℕ) (within : ℕ → Place → X) (by : (Place 
       enough (length p.rest) (suc (length p.rest)) p (omega arith) (omega arith)
       ∙ (folds.some (length p.rest) p
       ∙ by_step (within (length p.rest)) (λ q. within (length q.rest) q) p (λ q less. enough (length p.rest) (length q.rest) q (omega (arith, less)) (omega arith)))
-
-pub unrolled : (limit : ℕ) (p : Place) → records limit p ≡ records_by (records limit) (dump_step limit p)
-unfolding records records_within
-unrolled limit = unrolls limit (λ n. records_within n limit) (λ more p. records_by more) (record {
-  none = λ p more. refl;
-  some = λ n p. refl;
-  broken = λ f g p fault. refl;
-  next = λ f g p item q e. ap (with_item item) e;
-})
 
 -- what comes after a step that an answer stands for
 came : (limit : ℕ) (r : Result DumpItem DumpKind) (out : List ℕ) (q : Place) → records_by (records limit) (found_as r out q) ≡ came_as r out q.byte (records limit q)

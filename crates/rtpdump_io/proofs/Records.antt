@@ -41,7 +41,7 @@ not_last (Large at) e = refl
 not_last End e = absurd (true≢false e)
 
 -- more answers do not come
-most_few : (stage : Stage) (byte : ℕ) → answers_left stage byte ≤ 4194306
+pub most_few : (stage : Stage) (byte : ℕ) → answers_left stage byte ≤ 4194306
 most_few Opening byte = omega arith
 most_few Records byte = omega arith
 most_few Ended byte = omega arith

@@ -14,7 +14,8 @@ IsDump octets = (records : List (ℕ × List ℕ)) × (octets ≡ dump_written r
 
 -- the rest is all records of the recording, without its line and its head
 abbrev pub IsBehindOpening : List ℕ → List ℕ → Type 0
-IsBehindOpening rest recording = (records : List (ℕ × List ℕ)) → recording ≡ dump_written records → rest ≡ flat_map record_written records
+IsBehindOpening rest recording = (records : List (ℕ × List ℕ)) → recording ≡ dump_written records
+    → rest ≡ flat_map record_written records
 
 -- what stands first, and what follows it, is this record and these octets
 pub record IsSplit (at : ℕ) (octets behind : List ℕ) (r : ℕ × List ℕ) (more : List ℕ) : Type 0 where
@@ -24,7 +25,8 @@ pub record IsSplit (at : ℕ) (octets behind : List ℕ) (r : ℕ × List ℕ) (
 
 -- whatever record stands first in the octets, and whatever follows it, there is an answer, and it is so of these
 abbrev pub TellsFirst : {X : Type 0} → List ℕ → Option X → (X → ℕ × List ℕ → List ℕ → Type 0) → Type 0
-TellsFirst octets answer Is = (r : ℕ × List ℕ) (more : List ℕ) → IsRecord r → octets ≡ record_written r ++ more → MatchOption answer ⊥ (λ x. Is x r more)
+TellsFirst octets answer Is = (r : ℕ × List ℕ) (more : List ℕ) → IsRecord r → octets ≡ record_written r ++ more
+    → MatchOption answer ⊥ (λ x. Is x r more)
 
 -- these octets are those of the records, one behind the other
 pub record AreRecords (octets : List ℕ) (records : List (ℕ × List ℕ)) : Type 0 where

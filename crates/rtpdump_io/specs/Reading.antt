@@ -59,7 +59,8 @@ UnlessOfSource (Err fault) P = is_of_source fault.kind ≡ false → P
 
 -- the recording has this fault, where it is none of the source
 abbrev pub IsFaultOf : Recording → DumpFault → Type 0
-IsFaultOf recording fault = is_of_source fault.kind ≡ false → recording.fault ≡ Some (record { byte = fault.offset; kind = fault.kind })
+IsFaultOf recording fault = is_of_source fault.kind ≡ false
+    → recording.fault ≡ Some (record { byte = fault.offset; kind = fault.kind })
 
 -- nothing comes after this answer
 abbrev pub is_last : Result DumpItem DumpFault → Bool

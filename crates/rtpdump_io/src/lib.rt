@@ -13,6 +13,3 @@ pub use in_memory::{next_record, records_of};
 pub use items::{DumpFault, DumpItem, RecordingFault};
 pub use readers::DumpReader;
 pub use writers::{write_dump, write_opening, write_record};
-
-#[cfg(test)]
-mod tests;

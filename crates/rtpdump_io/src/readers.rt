@@ -119,7 +119,8 @@ impl<S: Source> DumpReader<S> {
     pub fn next_all(&mut self, out: &mut Packet) -> Result<DumpItem, DumpFault>
         requires { is_ended self.old ≡ false }
         ensures reads { Reads S.tells S.left S.faults S.name self.old self.new out.new result }
-        ensures entries { S.tells → GivesEntry result out.new (entries_to_come S.left self.old) (entries_to_come S.left self.new) }
+        ensures entries { S.tells → GivesEntry result out.new (entries_to_come S.left self.old)
+            (entries_to_come S.left self.new) }
     {
         self.read(true, out)
     }

@@ -22,20 +22,18 @@ use Rattle.rtt_mix.specs.declared.results.MixFault.TheVariants.{Open, Dump, TooL
 use Rattle.command_spec.specs.Inputs.{AllLie, LieBelow, NoneFailedBelow, inputs_under, octets_under}
 use Rattle.rtt_mix.specs.Mixes.{IsFirst, NoneFailed, RoseAt, Stops}
 use Rattle.rtt_mix.specs.Opened.{IsNotOpened}
-use Rattle.mixer_posts.proofs.Backward.{pushed}
-use Rattle.rtt_mix.proofs.Opening.{is_there, leg_read_at, rose_behind}
-use Rattle.rtt_mix.proofs.Handing.{input_is}
-use Rattle.rtt_mix.proofs.Answering.{broken_steps, leg_within}
+use Rattle.rtt_mix.proofs.Opening.{leg_read_at, rose_behind}
+use Rattle.rtt_mix.proofs.Handing.{input_is, some_of}
+use Rattle.rtt_mix.proofs.Answering.{broken_steps}
 use Rattle.rtt_attend.specs.declared.sender_reports.SenderReport.{SenderReport}
 use Rattle.rtt_attend.specs.Heard.{Hears, IsRead}
 use Rattle.view_spec.specs.Tallies.{tally_at}
 use Rattle.rtt_attend.specs.Opened.{heard_as, AreFresh, AreHeard, AreInputs, AreUnheard, HearsLeg, IsInput, IsUnheard}
 use Rattle.rtt_attend.specs.Named.{AreTold, IsNamed, or_nothing, says_in}
-use Rattle.rtt_attend.proofs.Lists.{in_rest, same_function}
-
-some_of : (o : Option (List ℕ)) (octets : List ℕ) → o ≡ Some octets → IsSome o
-some_of None octets e = absurd (cc e)
-some_of (Some x) octets e = refl
+use Rattle.rtt_attend.proofs.Lists.{in_rest}
+use Rattle.command_spec.proofs.SentBack.{below_legs as leg_within}
+use Rattle.wire_spec.proofs.Plain.{funext as same_function}
+use Rattle.stream_spec.proofs.Plain.{get_push as pushed, get_at as is_there}
 
 -- ---- inputs
 module _ {S : Type 0} (tells : Type 0) (left : S → List ℕ) (faults : S → ℕ) (name_of : S → List ℕ) where

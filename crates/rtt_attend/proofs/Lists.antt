@@ -21,8 +21,3 @@ pub in_rest : {X : Type 0} (xs : List X) (k j : ℕ) (x : X) → slice_get (drop
 in_rest xs zero j x e = let none : j ≡ 0 + j = omega arith in subst (λ (n : ℕ). slice_get xs n ≡ Some x) none e
 in_rest [] (suc k) j x e = absurd (cc e)
 in_rest (y ∷ xs) (suc k) j x e = let more : suc (k + j) ≡ suc k + j = omega arith in subst (λ (n : ℕ). slice_get (y ∷ xs) n ≡ Some x) more (in_rest xs k j x e)
-
--- ---- functions
--- what makes the same of everything is the same
-pub same_function : {A B : Type 0} (f g : A → B) → ((x : A) → f x ≡ g x) → f ≡ g
-same_function f g same = λ i x. same x i

@@ -8,11 +8,10 @@ use Rattle.view_spec.specs.Seen.{Fate, Foreigner, NoPacket, Reception, Refused, 
 use Rattle.rtpdump_io.specs.declared.items.DumpItem.{DumpItem}
 use Rattle.rtpdump_io.specs.declared.items.DumpItem.TheVariants.{Packet, Rtcp, Cut, Large, End}
 use Rattle.rtpdump_io.specs.declared.readers.DumpReader.{DumpReader}
-use Rattle.rtpdump_io.specs.declared.readers.Stage.{Stage}
-use Rattle.rtpdump_io.specs.declared.readers.Stage.TheVariants.{Opening, Records, Ended}
-use Rattle.rtpdump_io.specs.Reading.{Gives, answers_left, most_answers}
+use Rattle.rtpdump_io.specs.Reading.{Gives, most_answers}
 use Rattle.rtt_attend.specs.Counted.{CountsFate, IsCounted, IsFew, fate_in, one_if, untallied}
 use Rattle.rtt_attend.specs.Heard.{moment_of}
+use Rattle.rtpdump_io.proofs.Records.{most_few as few_answers}
 
 -- ---- how many of what came have a fate
 many_first : {A : Type 0} (p : Fate → Bool) (f : A → Fate) (i : A) (rest : List A) → many p f (i ∷ rest) ≡ one_if (p (f i)) + many p f rest
@@ -49,11 +48,6 @@ all_counted r y all k =
     cc (came, text, refused, foreign)
 
 -- ---- few are counted
-few_answers : (stage : Stage) (byte : ℕ) → answers_left stage byte ≤ 4194306
-few_answers Opening byte = omega arith
-few_answers Records byte = omega arith
-few_answers Ended byte = omega arith
-
 -- so few that each record that may come can be counted
 pub record StayFew {S : Type 0} (reader : DumpReader S) (y : Tally) : Type 0 where
   pub came : y.came + most_answers reader ≤ 4194306

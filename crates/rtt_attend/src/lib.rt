@@ -9,6 +9,3 @@ mod sender_reports;
 mod sums;
 
 pub use input_notes::{count_inputs, hear_names};
-
-#[cfg(test)]
-mod tests;

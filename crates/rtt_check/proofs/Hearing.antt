@@ -7,14 +7,11 @@ use Rattle.rtpdump_io.specs.declared.readers.DumpReader.{DumpReader}
 use Rattle.rtpdump_io.proofs.Records.{ReadSome}
 use Rattle.report_spec.specs.declared.streams.Stream.{Stream}
 use Rattle.report_spec.specs.Inputs.{first_stream, is_of_leg, or_later, stream_of}
+use Rattle.std.proofs.Math.Bool.{or-false as or_none}
 
 or_right : (a b c : Bool) → (a || (b || c)) ≡ ((a || b) || c)
 or_right true b c = refl
 or_right false b c = refl
-
-or_none : (a : Bool) → (a || false) ≡ a
-or_none true = refl
-or_none false = refl
 
 pub any_push : (p : Item → Bool) (items : List Item) (item : Item) → list_any p (items ++ item ∷ []) ≡ (list_any p items || p item)
 any_push p [] item = or_none (p item)

@@ -1,5 +1,5 @@
 -- What is appended piece by piece.
-use Rattle.std.proofs.Common.{◌≡◌, ℕ, List, [], ◌∷◌, ◌++◌, refl, ap, sym, ◌∙◌, append_assoc, append-nil, flat_map, map}
+use Rattle.std.proofs.Common.{◌≡◌, ℕ, List, [], ◌∷◌, ◌++◌, ap, sym, ◌∙◌, append_assoc, append-nil, flat_map, map, map-id as same_list}
 
 flat_map_push : {A : Type 0} (f : A → List ℕ) (xs : List A) (x : A) → flat_map f (xs ++ x ∷ []) ≡ flat_map f xs ++ f x
 flat_map_push f [] x = append-nil (f x)
@@ -13,10 +13,6 @@ one_more_piece f old mid new xs x before more =
 -- the first piece, and those behind it
 pub pieces_more : (old mid new first more : List ℕ) → mid ≡ old ++ first → new ≡ mid ++ more → new ≡ old ++ (first ++ more)
 pieces_more old mid new first more e f = f ∙ (ap (λ l. l ++ more) e ∙ append_assoc old first more)
-
-same_list : (xs : List ℕ) → map (λ x. x) xs ≡ xs
-same_list [] = refl
-same_list (x ∷ xs) = ap (λ l. x ∷ l) (same_list xs)
 
 -- all pieces of what was gone through
 pub all_pieces : (f : ℕ → List ℕ) (xs ys : List ℕ) → map (λ x. x) xs ≡ ys → flat_map f xs ≡ flat_map f ys

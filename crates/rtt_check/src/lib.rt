@@ -27,8 +27,3 @@ pub use ports::{links_in, ports_told};
 pub use real_ports::RealPorts;
 pub use reports::{Report, report_of};
 pub use trunks::{is_on_trunk, odd_line};
-
-#[cfg(test)]
-mod call_tests;
-#[cfg(test)]
-mod tests;

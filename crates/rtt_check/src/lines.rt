@@ -182,6 +182,7 @@ fn time_word(word: &str) -> LineWord
         "wait" => LineWord::Wait,
         "turns" => LineWord::Turns,
         "relabel" => LineWord::Relabel,
+        "mtu" => LineWord::Mtu,
         "counts" => LineWord::Counts,
         other => service_word(other),
     }

@@ -118,11 +118,11 @@ pub(crate) fn script_sentence(kind: ConfKind) -> &'static [u8]
 
 /// The first words that lines of a conference of recordings have.
 const RECORDINGS_WORDS: &[u8] =
-    b"a line begins with mixer, leg, gens, stay, tick, spacing, wait, turns, relabel, counts, lose, delay or twice, in small letters, or with # as its first octet: correct the word, and part words by spaces, not by tabs";
+    b"a line begins with mixer, leg, gens, stay, tick, spacing, wait, turns, relabel, mtu, counts, lose, delay or twice, in small letters, or with # as its first octet: correct the word, and part words by spaces, not by tabs";
 
 /// The first words that lines of a conference of links have.
 const LINKS_WORDS: &[u8] =
-    b"a line begins with mixer, leg, gens, tick, spacing, wait, turns, relabel, counts, gone, operator, record or follow, in small letters, or with # as its first octet: correct the word, and part words by spaces, not by tabs";
+    b"a line begins with mixer, leg, gens, tick, spacing, wait, turns, relabel, mtu, counts, gone, operator, record or follow, in small letters, or with # as its first octet: correct the word, and part words by spaces, not by tabs";
 
 /// The first word, or how a leg's terminal shows text, is none of those that there are.
 fn word_sentence(form: Form, word: LineWord) -> &'static [u8]
@@ -204,6 +204,7 @@ fn number_sentence(form: Form, word: LineWord) -> &'static [u8]
         LineWord::Wait => b"wait is a number of milliseconds from 0 to 10000",
         LineWord::Turns => b"turns is a number from 1 to 5000000",
         LineWord::Relabel => b"relabel is a number of milliseconds from 2000 to 60000",
+        LineWord::Mtu => b"mtu is a number of octets from 548 to 4224",
         LineWord::Gone => b"gone is a number of milliseconds from 10000 to 86400000",
         LineWord::Operator => b"PORT is a number from 1 to 65535",
         LineWord::Delay =>

@@ -23,7 +23,7 @@ pub use gates::{Gate, StillGate};
 pub use mem_sinks::{FailingWrite, MemSink};
 pub use mem_sources::{MemSource, SteadySource};
 pub use mem_worlds::{FailingCall, MemWorld};
-pub use new_files::NewFile;
+pub use new_files::{NewFile, PartFile};
 pub use real::{FileSink, FileSource, RealWorld, StandardError, StandardOutput, StreamSink};
 pub use sinks::Sink;
 pub use sources::Source;

@@ -5,7 +5,7 @@ ghost use Rattle.rtt_io.specs.Names.{Same, SameBut};
 ghost use Rattle.rtt_io.specs.Worlds.{octets_held, own_counted, objects_counted, Stores, Counts};
 
 use crate::mem_files::{MemFile, place};
-use crate::{FailingCalls, FailingWrite, Faults, MemSink, MemSource, Source, World};
+use crate::{FailingCalls, FailingWrite, Faults, MemSink, MemSource, Sink, Source, World};
 use rtt_base::{Bytes, Failed, NoMemory, Path};
 use std::alloc::Global;
 
@@ -37,6 +37,8 @@ impl World for MemWorld {
     type Src = MemSource;
 
     type Dst = MemSink;
+
+    type Part = MemSink;
 
     ghost tells = { Unit {0} };
 
@@ -74,6 +76,19 @@ impl World for MemWorld {
         let taken = sink.taken;
         self.count(sink.name.as_str(), Faults::of_objects(sink.faults));
         self.store(sink.name.as_str(), taken);
+    }
+
+    // Where a call is to fail, each write is one of the sink.
+    fn part(&self, name: &str) -> Option<MemSink> {
+        if !self.failing.is_empty() {
+            return None;
+        }
+        let path = Path::from_text(self.alloc, name).ok()?;
+        Some(MemSink::new(self.alloc, path))
+    }
+
+    fn give(&mut self, part: MemSink, sink: &mut MemSink) -> Result<(), Failed> {
+        sink.write_all(part.taken())
     }
 }
 

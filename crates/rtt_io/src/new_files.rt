@@ -1,9 +1,10 @@
 //! A file that takes its name once it is whole.
-ghost use Rattle.std.specs.Prelude.{◌≡◌, IfSome};
+ghost use Rattle.std.specs.Prelude.{◌≡◌, ◌≤◌, IfSome, IsErr, OnOk, OnErr};
+ghost use Rattle.rtt_io.specs.Counts.{Rose};
 
 use crate::{FileSink, Sink};
 use itoa::Buffer;
-use rtt_base::Failed;
+use rtt_base::{Failed, Path};
 use std::alloc::{AllocError, Global};
 use std::fs;
 use std::fs::{File, Metadata, OpenOptions};
@@ -158,6 +159,49 @@ impl<R: Files<File = File> + Copy> NewFile<R> {
         Ok(())
     }
 
+    /// Counts a fault.
+    pub(crate) fn fail(&mut self) -> Result<(), Failed>
+        ensures fails { IsErr result }
+        ensures rose { Rose self.old.sink.faults self.new.sink.faults }
+        ensures never_falls { self.old.sink.faults ≤ self.new.sink.faults }
+        ensures same_name { self.new.sink.name ≡ self.old.sink.name }
+    {
+        self.sink.faults = self.sink.faults.saturating_add(1);
+        Err(Failed)
+    }
+
+    /// Where the file of a part is to go: in the place of the empty one beside the name, or under the name where none was made
+    /// beside it.
+    fn place_of_part(&self) -> Option<&str> {
+        match &self.moves {
+            Some(moves) => Some(moves.from.as_str()),
+            None if is_replaceable(&self.rt, self.sink.name.as_str()) => Some(
+                self.sink.name.as_str(),
+            ),
+            None => None,
+        }
+    }
+
+    /// Takes the file of a part for the one that is empty, stores it and gives it the name. What is no ordinary file takes no part.
+    pub(crate) fn take_part(&mut self, part: PartFile<R>) -> Result<(), Failed>
+        ensures never_falls { self.old.sink.faults ≤ self.new.sink.faults }
+        ensures failed { OnErr result (Rose self.old.sink.faults self.new.sink.faults) }
+        ensures calm { OnOk result (self.new.sink.faults ≡ self.old.sink.faults) }
+        ensures same_name { self.new.sink.name ≡ self.old.sink.name }
+    {
+        let moved = match self.place_of_part() {
+            Some(place) => part.move_to(place),
+            None => None,
+        };
+        match moved {
+            Some(file) => {
+                self.sink.file = file;
+                self.write_all(&[])
+            }
+            None => self.fail(),
+        }
+    }
+
     /// Nothing more is written. A file to which nothing was written takes its name, and one that failed is removed.
     pub(crate) fn end(mut self) {
         if self.sink.faults == 0 {
@@ -198,5 +242,81 @@ impl<R: Files<File = File> + Copy> Sink for NewFile<R> {
                 Err(failed)
             }
         }
+    }
+}
+
+/// A file beside a name that an ordinary file may have. It is removed where it is let go.
+pub struct PartFile<R: Files<File = File> + Copy> {
+    rt: R,
+    sink: FileSink,
+    from: String,
+}
+
+/// A new file beside the name, where an ordinary file may have that.
+pub(crate) fn part_beside<R: Files<File = File> + Copy>(
+    rt: R,
+    alloc: Global,
+    name: &str,
+) -> Option<PartFile<R>> {
+    if !is_replaceable(&rt, name) {
+        return None;
+    }
+    let path = Path::from_text(alloc, name).ok()?;
+    let (file, moves) = file_beside(&rt, alloc, name).ok()??;
+    let sink = FileSink::new(file, path);
+    Some(PartFile {
+        rt,
+        sink,
+        from: moves.from,
+    })
+}
+
+impl<R: Files<File = File> + Copy> PartFile<R> {
+    /// Which file it is.
+    pub(crate) fn id(&self) -> Option<FileId> {
+        id_in(&self.sink.file.metadata().ok()?)
+    }
+
+    /// The file, under this name in place of what is there.
+    fn move_to(self, name: &str) -> Option<File> {
+        if fs::rename(&self.rt, self.from.as_str(), name).is_err() {
+            return None;
+        }
+        let PartFile {
+            rt: _,
+            sink,
+            from: _,
+        } = self;
+        Some(sink.file)
+    }
+}
+
+impl<R: Files<File = File> + Copy> Drop for PartFile<R> {
+    fn drop(self) {
+        let PartFile { rt, sink: _, from } = self;
+        let _gone = fs::remove_file(&rt, from.as_str());
+    }
+}
+
+/// What it takes is stored once a sink was given it.
+impl<R: Files<File = File> + Copy> Sink for PartFile<R> {
+    ghost use Rattle.std.specs.Prelude.{[]};
+
+    ghost tells = { ⊥ };
+
+    ghost took = { λ _. [] };
+
+    ghost stored = { λ _. [] };
+
+    ghost faults = { λ part. part.sink.faults };
+
+    ghost name = { λ part. part.sink.name };
+
+    fn write_part(&mut self, bytes: &[u8]) -> Result<(), Failed> {
+        self.sink.write_part(bytes)
+    }
+
+    fn write_all(&mut self, bytes: &[u8]) -> Result<(), Failed> {
+        self.sink.write_part(bytes)
     }
 }

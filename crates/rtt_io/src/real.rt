@@ -2,7 +2,7 @@
 ghost use Rattle.std.specs.Prelude.{◌≡◌, ℕ, ◌≤◌, List, [], None, OnOk, OnErr, IfSome, unwrap_or};
 ghost use Rattle.rtt_io.specs.Counts.{Rose};
 
-use crate::new_files::{FileId, NewFile, file_to_write, id_in, id_under};
+use crate::new_files::{FileId, NewFile, PartFile, file_to_write, id_in, id_under, part_beside};
 use crate::streams::{StoredWriter, read_once, write_stored, write_whole};
 use crate::{Sink, Source, World};
 use rtt_base::{Failed, Path};
@@ -74,8 +74,8 @@ fn count_failed(written: Result<(), Failed>, faults: &mut u64) -> Result<(), Fai
 /// its octets and those of the parts before are stored, so that a fault which the system tells only then is one of the write.
 #[derive(Drop)]
 pub struct FileSink<F = File> {
-    file: F,
-    name: Path,
+    pub(crate) file: F,
+    pub(crate) name: Path,
     pub(crate) faults: u64,
 }
 
@@ -177,7 +177,7 @@ pub struct RealWorld<R> {
     made: Vec<FileId>,
 }
 
-impl<R: Files<File = File> + Copy + Send> RealWorld<R> {
+impl<R: Files<File = File> + Copy + Send + Sync> RealWorld<R> {
     /// The files of this runtime. It takes no memory.
     pub fn new(rt: R, alloc: Global) -> RealWorld<R>
         ensures fresh { (n : List ℕ) → ⟦<RealWorld<R> as World>⟧.own_faults result n ≡ 0 }
@@ -237,10 +237,12 @@ impl<R: Files<File = File> + Copy> RealWorld<R> {
     }
 }
 
-impl<R: Files<File = File> + Copy + Send> World for RealWorld<R> {
+impl<R: Files<File = File> + Copy + Send + Sync> World for RealWorld<R> {
     type Src = FileSource;
 
     type Dst = NewFile<R>;
+
+    type Part = PartFile<R>;
 
     ghost tells = { ⊥ };
 
@@ -277,5 +279,20 @@ impl<R: Files<File = File> + Copy + Send> World for RealWorld<R> {
     fn done_dst(&mut self, sink: NewFile<R>) {
         self.object_faults = self.object_faults.saturating_add(sink.faults());
         sink.end();
+    }
+
+    fn part(&self, name: &str) -> Option<PartFile<R>> {
+        part_beside(self.rt, self.alloc, name)
+    }
+
+    // The file of the part is kept as one that was made.
+    fn give(&mut self, part: PartFile<R>, sink: &mut NewFile<R>) -> Result<(), Failed> {
+        if self.made.reserve(1).is_err() {
+            return sink.fail();
+        }
+        if let Some(id) = part.id() {
+            self.made.push_reserved(id);
+        }
+        sink.take_part(part)
     }
 }

@@ -231,6 +231,58 @@ fn a_real_file_is_made_once(rt: HostRuntime) -> Result<(), Fail> {
     Ok(())
 }
 
+// Makes a file with these octets, where a part can be made that takes them first.
+fn write_by_part<W: World>(world: &mut W, name: &str, octets: &[u8]) -> Result<(), Fail> {
+    let Some(mut part) = world.part(name) else {
+        return Ok(());
+    };
+    part.write_part(octets)?;
+    let mut sink = world.create_sink(name)?;
+    let given = world.give(part, &mut sink);
+    world.done_dst(sink);
+    given?;
+    Ok(())
+}
+
+// A part is made, and let go.
+fn makes_part<W: World>(world: &W, name: &str) -> bool {
+    world.part(name).is_some()
+}
+
+#[test]
+fn a_real_file_is_given_what_a_part_took(rt: HostRuntime) -> Result<(), Fail> {
+    let mut world = RealWorld::new(&rt, rt.alloc());
+    write_by_part(&mut world, "rtt_io_given", b"one")?;
+    let mut source = world.open_source("rtt_io_given")?;
+    assert!(rt; reads_all(&mut source, &["one", ""]));
+    world.done_src(source);
+    assert!(rt; world.create_sink("./rtt_io_given").is_err());
+    assert!(rt; !std::fs::exists(&rt, "rtt_io_given.rtt-part 1")?);
+    assert!(rt; !std::fs::exists(&rt, "rtt_io_given.rtt-part 2")?);
+    std::fs::remove_file(&rt, "rtt_io_given")?;
+    Ok(())
+}
+
+#[test]
+fn a_part_that_is_let_go_leaves_nothing(rt: HostRuntime) -> Result<(), Fail> {
+    let world = RealWorld::new(&rt, rt.alloc());
+    assert!(rt; makes_part(&world, "rtt_io_let_go"));
+    assert!(rt; !std::fs::exists(&rt, "rtt_io_let_go.rtt-part 1")?);
+    assert!(rt; !std::fs::exists(&rt, "rtt_io_let_go")?);
+    assert!(rt; !makes_part(&world, "/dev/null"));
+    Ok(())
+}
+
+#[test]
+fn a_world_in_memory_gives_a_file_what_a_part_took(rt: HostRuntime) -> Result<(), Fail> {
+    let mut world = world_of(rt.alloc(), &["a"])?;
+    write_by_part(&mut world, "a", b"one")?;
+    assert!(rt; holds(&world, "a", b"one"));
+    world.fail(FailingCall::Open(Path::from_text(rt.alloc(), "b")?))?;
+    assert!(rt; !makes_part(&world, "a"));
+    Ok(())
+}
+
 #[test]
 fn real_forms_over_memory_give_and_take_what_it_holds(rt: HostRuntime) -> Result<(), Fail> {
     let octets: &[u8] = b"abc";

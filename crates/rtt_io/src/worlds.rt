@@ -1,16 +1,20 @@
 //! What sources and sinks are opened in.
-ghost use Rattle.std.specs.Prelude.{◌≡◌, ℕ, List, [], Option, OnOk, OnErr, IfOk};
+ghost use Rattle.std.specs.Prelude.{◌≡◌, ℕ, ◌≤◌, List, [], ◌++◌, Option, OnOk, OnErr, OnSome, IfOk, IfSome};
 ghost use Rattle.rtt_io.specs.Counts.{Rose};
+ghost use Rattle.rtt_io.specs.Fronts.{TakesFront};
 ghost use Rattle.rtt_io.specs.Names.{Same, SameBut, NoneFalls, CountsMore, CountsNoOther, Replaces};
 
 use crate::{Sink, Source};
 use rtt_base::Failed;
 
 /// What holds octets under names. Each source and sink that it gives is handed back by its `done_` call.
-pub trait World {
+pub trait World: Sync {
     type Src: Source + Send;
 
     type Dst: Sink + Send;
+
+    /// What a sink is to be given at once. One that is let go leaves nothing behind.
+    type Part: Sink + Send + Drop;
 
     /// Whether worlds of this type tell what is under a name. Those over real files don't.
     ghost tells: { Type 0 };
@@ -70,4 +74,23 @@ pub trait World {
         ensures added { CountsMore object_faults (Self.Dst.name sink) (Self.Dst.faults sink) self.old self.new }
         ensures stored { tells → Replaces contents (Self.Dst.name sink) (Self.Dst.stored sink) self.old self.new }
         ensures other_contents { tells → SameBut (Self.Dst.name sink) contents self.old self.new };
+
+    /// An empty part, where one can be made beside what lies under the name, which stays.
+    fn part(&self, name: &str) -> Option<Self::Part>
+        ensures told { tells → OnSome result Self.Part.tells }
+        ensures nothing_taken { tells → IfSome result (λ part. Self.Part.took part ≡ []) };
+
+    /// Gives a sink all that a part took, and stores it behind what the sink took.
+    fn give(&mut self, part: Self::Part, sink: &mut Self::Dst) -> Result<(), Failed>
+        ensures same_own { Same own_faults self.old self.new }
+        ensures same_objects { Same object_faults self.old self.new }
+        ensures same_contents { tells → Same contents self.old self.new }
+        ensures never_falls { Self.Dst.faults sink.old ≤ Self.Dst.faults sink.new }
+        ensures failed { OnErr result (Rose (Self.Dst.faults sink.old) (Self.Dst.faults sink.new)) }
+        ensures same_name { Self.Dst.name sink.new ≡ Self.Dst.name sink.old }
+        ensures calm { OnOk result (Self.Dst.faults sink.new ≡ Self.Dst.faults sink.old) }
+        ensures stored { tells → OnOk result
+            (Self.Dst.stored sink.new ≡ Self.Dst.took sink.old ++ Self.Part.took part) }
+        ensures partly { tells →
+            OnErr result (TakesFront (Self.Dst.took sink.old) (Self.Dst.stored sink.new) (Self.Part.took part)) };
 }

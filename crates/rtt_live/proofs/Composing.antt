@@ -1,6 +1,6 @@
 -- From turns that were made to a live call of the conference.
-use Rattle.std.proofs.Common.{◌≡◌, ◌<◌, ◌≤◌, ◌+◌, ◌⊎◌, ℕ, zero, suc, Bool, true, false, inl, inr, Some, List, [], ◌∷◌, ◌++◌, append_assoc, length, map, refl, ap, sym, ◌∙◌, subst, arith}
-use Rattle.std.specs.Prelude.{Option, slice_get}
+use Rattle.std.proofs.Common.{◌≡◌, ◌<◌, ◌≤◌, ◌+◌, ◌⊎◌, ℕ, suc, Bool, true, false, inl, inr, Option, None, Some, List, [], ◌∷◌, ◌++◌, append_assoc, length, map, refl, ap, sym, ◌∙◌, subst, arith}
+use Rattle.std.specs.Prelude.{slice_get}
 use Rattle.std.proofs.lemmas.List.{append-nil}
 use Rattle.std.proofs.lemmas.Option.{slice_get_within}
 use Rattle.rtt_base.specs.declared.text_packets.PayloadTypes.{PayloadTypes}
@@ -8,6 +8,8 @@ use Rattle.rtt_io.specs.Counts.{Rose}
 use Rattle.file_spec.specs.declared.conference_lines.LegLine.{LegLine}
 use Rattle.file_spec.specs.Conference.{Conference}
 use Rattle.mixer_spec.specs.Setups.{Setup, leg_at, setup, ssrc_of}
+use Rattle.mixer_spec.specs.Rooms.{piece_within}
+use Rattle.receiver.specs.Cuts.{cut_within, most_of}
 use Rattle.mixer_spec.specs.Table.{Call, Turn, after_calls}
 use Rattle.mixer.specs.declared.batches.Post.{Post}
 use Rattle.mixer.specs.Turns.{posts_at}
@@ -46,7 +48,6 @@ use Rattle.mix_loop.specs.Served.{IsOfConference}
 use Rattle.mix_loop.proofs.AsLeg.{tally_as}
 use Rattle.mix_loop.proofs.Covering.{covers}
 use Rattle.mix_loop.proofs.Served.{broken_law, closed_law, done_law}
-use Rattle.mix_loop.proofs.Serving.{some_there}
 use Rattle.rtt_live.specs.declared.far_ends.FarEnds.{FarEnds}
 use Rattle.rtt_live.specs.declared.faults.LiveFault.{LiveFault}
 use Rattle.rtt_live.specs.declared.faults.LiveFault.TheVariants.{Link, NoMemory}
@@ -64,32 +65,16 @@ use Rattle.rtt_live.specs.Spans.{Span}
 use Rattle.rtt_live.specs.Taps.{HaltsTold, IsUnsentIn, Learns, Notice, Shows, TellsFor, ended_with, notices_by}
 use Rattle.rtt_live.proofs.Failing.{closed_calm, fault_rose}
 use Rattle.mix_loop.specs.Addresses.{Address}
-use Rattle.rtt_live.proofs.Linking.{some_leg}
 use Rattle.rtt_live.proofs.Ordering.{ports_are, was_given}
 use Rattle.rtt_live.proofs.Sent.{given_by, given_law, sent_law}
 use Rattle.rtt_live.proofs.Taking.{none_offered}
+use Rattle.mixer_spec.proofs.Arriving.{length_map as map_long}
+use Rattle.command_spec.proofs.SentBack.{below_legs as leg_within}
+use Rattle.wire_spec.proofs.Plain.{get_map as map_there, map_from as mapped}
+use Rattle.mixer_spec.proofs.Plain.{leg_there as some_leg}
+use Rattle.stream_spec.proofs.Plain.{get_at as some_there}
 
 -- ---- lists
-pub leg_within : (legs : List LegLine) (j : ℕ) (line : LegLine) → leg_at legs j ≡ Some line → j < length legs
-leg_within [] j line at = absurd (cc at)
-leg_within (l ∷ legs) zero line at = omega arith
-leg_within (l ∷ legs) (suc j) line at = let low = leg_within legs j line at in omega (arith, low)
-
-pub map_there : {X Y : Type 0} (f : X → Y) (xs : List X) (j : ℕ) (x : X) → slice_get xs j ≡ Some x → slice_get (map f xs) j ≡ Some (f x)
-map_there f [] j x e = absurd (cc e)
-map_there f (y ∷ xs) zero x e = let is : y ≡ x = cc e in ap (λ z. Some (f z)) is
-map_there f (y ∷ xs) (suc j) x e = map_there f xs j x e
-
--- and what is there was made of one
-mapped : {X Y : Type 0} (f : X → Y) (xs : List X) (j : ℕ) (y : Y) → slice_get (map f xs) j ≡ Some y → (x : X) × (slice_get xs j ≡ Some x) × (f x ≡ y)
-mapped f [] j y e = absurd (cc e)
-mapped f (x ∷ xs) zero y e = (x, refl, cc e)
-mapped f (x ∷ xs) (suc j) y e = mapped f xs j y e
-
-pub map_long : {X Y : Type 0} (f : X → Y) (xs : List X) → length (map f xs) ≡ length xs
-map_long f [] = refl
-map_long f (x ∷ xs) = ap suc (map_long f xs)
-
 -- one for each number below n, and else none
 module _ {T : Type 0} (none : T) (holds : ℕ → T → Type 0) (n : ℕ) (each : (j : ℕ) → j < n → (t : T) × holds j t) where
   abbrev picked : (j : ℕ) → (j < n) ⊎ (n ≤ j) → T
@@ -113,10 +98,14 @@ module _ {T : Type 0} (none : T) (holds : ℕ → T → Type 0) (n : ℕ) (each 
   pick_none : (j : ℕ) → n ≤ j → pick j ≡ none
   pick_none j h = picked_none j (lt_or_ge j n) h
 
+piece_is : (mtu : Option ℕ) → piece_within mtu ≡ most_of (cut_within mtu)
+piece_is None = refl
+piece_is (Some n) = refl
+
 hearing_line : (c : Conference) (j : ℕ) (line : LegLine) → leg_at c.legs j ≡ Some line → hearing_at c j ≡ as_leg j (hearing_of (leg_settings_at c line))
 hearing_line c j line at =
-    let hears : Option LegLine → Hearing = λ l. record { leg = j; ssrc = ssrc_of l; payload_types = payload_types_of l; wait = c.wait; follow = is_followed l } in
-    ap hears at
+    let hears : Option LegLine → ℕ → Hearing = λ l n. record { leg = j; ssrc = ssrc_of l; payload_types = payload_types_of l; wait = c.wait; follow = is_followed l; piece = n } in
+    λ i. hears (at i) (piece_is c.mtu i)
 
 -- ---- legs that were opened as the first, gave what was popped at these ports, and came back
 module _ {I G : Type 0} (i : ins.Ghosts I) (tells : Type 0) (opened : ℕ → Bool) (c : Conference) (firsts backs : List (LinkLeg I)) (ports : List (LivePort (Worker LinkItem (LinkLeg I) G))) (are : OpenLegs i tells opened c firsts)

@@ -18,15 +18,7 @@ use Rattle.live_leg.specs.Stories.{hearing_of}
 use Rattle.live_leg.proofs.Pacing.{fault_append}
 use Rattle.live_leg.proofs.Texts.{fault_behind, items_calm, texts_calm}
 use Rattle.rtt_live.specs.Jobs.{GaveFirst}
-
--- where one of the first items is a fault, one of all is
-front_fault : (xs ys : List Item) → has_fault xs ≡ true → has_fault (xs ++ ys) ≡ true
-front_fault [] ys e = absurd (true≢false (sym e))
-front_fault (x ∷ xs) ys e = go (is_fault x) e (front_fault xs ys)
-  where
-    go : (b : Bool) → (b || has_fault xs) ≡ true → (has_fault xs ≡ true → has_fault (xs ++ ys) ≡ true) → (b || has_fault (xs ++ ys)) ≡ true
-    go true e f = refl
-    go false e f = f e
+use Rattle.mix_loop.proofs.Enough.{fault_before as front_fault}
 
 none_fails : (xs : List Item) → fault_in xs ≡ None → has_fault xs ≡ false
 none_fails [] e = refl

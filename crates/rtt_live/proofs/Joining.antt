@@ -8,7 +8,6 @@ use Rattle.mixer_spec.specs.Table.{Call}
 use Rattle.workers.specs.declared.lanes.Worker.{Worker}
 use Rattle.workers.specs.Lanes.{AreBack, AreStarted, BeganWith, ComesBack, IsStarted, LaneFollows, popped_of}
 use Rattle.workers.specs.Pairs.{Pairs}
-use Rattle.workers.proofs.Matching.{is_there}
 use Rattle.link_io.specs.declared.ends.LinkIn as links
 use Rattle.live_leg.specs.LinkLegs.{Item, LegGave, LegStands, LinkItem, LinkLeg, has_fault}
 use Rattle.live_leg.specs.Items.{items_of}
@@ -24,6 +23,7 @@ use Rattle.rtt_live.specs.declared.faults.LiveFault.{LiveFault}
 use Rattle.rtt_live.specs.Jobs.{ArePortsOf, GaveFirst, IsInletOf, IsPortOf, TurnsWere, popped_in}
 use Rattle.rtt_live.specs.Mixers.{all_admitted}
 use Rattle.rtt_live.proofs.Seating.{all_seated, may_come}
+use Rattle.stream_spec.proofs.Plain.{get_at as is_there}
 
 -- ---- ports
 pub port_of : {I : Type 0} (inlet : I) (leg : ℕ) (p : LivePort I) → IsBegun inlet leg p → IsPortOf inlet p

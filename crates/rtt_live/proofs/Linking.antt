@@ -1,5 +1,5 @@
 -- Links that are opened one by one, in leg order.
-use Rattle.std.proofs.Common.{◌≡◌, ℕ, zero, suc, ◌+◌, ◌<◌, ◌≤◌, ◌⊎◌, inl, inr, Some, List, [], ◌∷◌, ◌++◌, true, append_assoc, get_or, length, map, take, refl, ap, sym, ◌∙◌, subst, arith}
+use Rattle.std.proofs.Common.{◌≡◌, ℕ, ◌+◌, ◌<◌, ◌≤◌, ◌⊎◌, inl, inr, Some, List, [], ◌∷◌, ◌++◌, true, append_assoc, get_or, length, map, take, ap, sym, ◌∙◌, subst, arith}
 use Rattle.std.specs.Option.{option_map_or}
 use Rattle.std.specs.Prelude.{Bool, Option, slice_get}
 use Rattle.std.proofs.lemmas.List.{append-nil, map_more, take_all}
@@ -8,7 +8,6 @@ use Rattle.rtt_io.specs.Counts.{Rose}
 use Rattle.file_spec.specs.declared.conference_lines.LegLine.{LegLine}
 use Rattle.file_spec.specs.Conference.{Conference, port}
 use Rattle.mixer_spec.specs.Setups.{leg_at}
-use Rattle.workers.proofs.Matching.{is_there}
 use Rattle.link_io.specs.declared.ends.LinkIn as ins
 use Rattle.link_io.specs.declared.ends.LinkOut as outs
 use Rattle.live_leg.specs.LinkLegs.{LinkLeg}
@@ -16,12 +15,8 @@ use Rattle.rtt_live.specs.declared.faults.LiveFault.{LiveFault}
 use Rattle.rtt_live.specs.declared.faults.LiveFault.TheVariants.{Link, NoMemory}
 use Rattle.rtt_live.specs.Opened.{AreCalm, AreEmptyAt, AreOpenBelow, IsNotOpened, IsRefusedAt, LeadsAll, LeadsFirst, LeadsOne, LeadsSome, OpenEnds, OpenLegs, OpensEnd, OpensLeg, link_of}
 use Rattle.rtt_live.proofs.Showing.{read_leg}
-use Rattle.mixer_posts.proofs.Backward.{pushed}
-
-pub some_leg : (legs : List LegLine) (j : ℕ) → j < length legs → (line : LegLine) × (leg_at legs j ≡ Some line)
-some_leg [] j low = absurd (omega arith)
-some_leg (x ∷ legs) zero low = (x, refl)
-some_leg (x ∷ legs) (suc j) low = some_leg legs j (omega arith)
+use Rattle.mixer_spec.proofs.Plain.{leg_there as some_leg}
+use Rattle.stream_spec.proofs.Plain.{get_at as is_there, get_push as pushed}
 
 module _ {I : Type 0} (g : ins.Ghosts I) (tells : Type 0) (c : Conference) where
   -- a port that was open is open still

@@ -15,7 +15,6 @@ use Rattle.live_leg.specs.LinkLegs.{LinkLeg}
 use Rattle.live_leg.specs.declared.tallies.LegTally.{LegTally}
 use Rattle.mix_loop.specs.declared.live_turns.TurnsEnd.{TurnsEnd}
 use Rattle.mix_loop.specs.declared.live_turns.TurnsEnd.TheVariants.{Done, Closed, Faulted, Stopped}
-use Rattle.mix_loop.proofs.Serving.{some_there}
 use Rattle.live_spec.specs.Served.{Broken, End, IsCutShort, IsServed, live_printed}
 use Rattle.live_spec.specs.Served as served
 use Rattle.file_spec.specs.declared.conference_lines.LegLine.{LegLine}
@@ -36,8 +35,10 @@ use Rattle.rtt_live.specs.Spans.{Span, span_of}
 use Rattle.rtt_live.specs.Tallies.{AreTallies, tallies_in}
 use Rattle.rtt_live.specs.Taps.{Notice}
 use Rattle.rtt_live.proofs.Closing.{rose_on}
-use Rattle.rtt_live.proofs.Composing.{leg_within, map_long}
-use Rattle.rtt_live.proofs.Linking.{some_leg}
+use Rattle.mixer_spec.proofs.Arriving.{length_map as map_long}
+use Rattle.command_spec.proofs.SentBack.{below_legs as leg_within}
+use Rattle.mixer_spec.proofs.Plain.{leg_there as some_leg}
+use Rattle.stream_spec.proofs.Plain.{get_at as some_there}
 
 -- ---- ports
 some_port : (number : Option ℕ) → IsSome number → (p : ℕ) × (number ≡ Some p)

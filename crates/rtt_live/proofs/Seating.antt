@@ -1,48 +1,15 @@
 -- Where no leg comes later or goes, and each has a place, the legs that are admitted in order come to the places 0, 1, 2 ..
-use Rattle.std.proofs.Common.{◌≡◌, ℕ, zero, suc, ◌+◌, ◌<◌, ◌≤◌, Bool, true, false, cond, inl, inr, Option, Some, None, [], refl, ap, subst, sym, ◌∙◌, arith, not}
+use Rattle.std.proofs.Common.{◌≡◌, ℕ, zero, suc, ◌<◌, ◌≤◌, true, inl, inr, Some, [], refl, ap, subst, sym, ◌∙◌, arith}
 use Rattle.std.specs.Prelude.{is_some}
-use Rattle.std.proofs.lemmas.Bool.{cases_eq, cases_lt}
-use Rattle.mixer_spec.specs.Rounds.{first_from}
+use Rattle.std.proofs.lemmas.Bool.{cases_eq}
 use Rattle.mixer_spec.specs.Setups.{AllStay, Setup, is_before_end}
-use Rattle.mixer_spec.specs.Table.{Seats, Table, after_calls, admitted, come_to, free_place, is_free, is_seated, leg_in}
+use Rattle.mixer_spec.specs.Table.{Table, after_calls, admitted, come_to, is_seated}
 use Rattle.mixer_spec.specs.Calls.{IsAdmit, turns_made}
 use Rattle.mixer_spec.proofs.Lists.{set_same, set_other}
-use Rattle.mixer_spec.proofs.Seats.{Seated, leg_in_some, leg_in_is}
-use Rattle.mixer_spec.proofs.Staying.{Filled}
+use Rattle.mixer_spec.proofs.Staying.{Filled, next_free}
 use Rattle.mixer_posts.specs.Posts.{sent_by}
 use Rattle.mixer_posts.specs.Standing.{AreBefore}
 use Rattle.rtt_live.specs.Mixers.{all_admitted}
-
-filled_place : (s : Setup) (n : ℕ) (seats : Seats) (a p : ℕ) → Filled s n seats → seats.place a ≡ Some p → (a ≡ p) × (a < n)
-filled_place s n seats a p f e = elim (cases_lt a n) [
-  | inl l ↦ (cc (sym (f.place a l) ∙ e), l)
-  | inr g ↦ cc (sym (f.none a g) ∙ e)
-]
-
-filled_seated : (s : Setup) (n : ℕ) (seats : Seats) → AllStay s → n ≤ s.legs → Filled s n seats → Seated s seats
-filled_seated s n seats st l f = record {
-  below = λ a p e. let r = filled_place s n seats a p f e in let m = st.seats in (omega (arith, r), omega (arith, r));
-  one = λ a b p e g. (filled_place s n seats a p f e).0 ∙ sym (filled_place s n seats b p f g).0;
-  came = λ a p e. f.came a (filled_place s n seats a p f e).1;
-}
-
-first_at : (p : ℕ → Bool) (low n u : ℕ) → low ≤ u → u < low + n → p u ≡ true → ((x : ℕ) → low ≤ x → x < u → p x ≡ false) → first_from p low n ≡ Some u
-first_at p low zero u a b t f = absurd (omega arith)
-first_at p low (suc n) u a b t f = elim (cases_eq low u) [
-  | inl e ↦ ap (λ c. cond c (Some low) (first_from p (suc low) n)) (ap p e ∙ t) ∙ ap Some e
-  | inr ne ↦ ap (λ c. cond c (Some low) (first_from p (suc low) n)) (f low (omega arith) (omega (arith, a, ne))) ∙ first_at p (suc low) n u (omega (arith, a, ne)) (omega (arith, b)) t (λ x c d. f x (omega (arith, c)) d)
-]
-
--- the next place is the lowest that is free
-next_free : (s : Setup) (n : ℕ) (seats : Seats) → AllStay s → n < s.legs → Filled s n seats → free_place s seats ≡ Some n
-next_free s n seats st l f = let m = st.seats in first_at (is_free s seats) 0 s.places n (omega arith) (omega arith) (free (leg_in seats s.legs n) refl) held
-  where
-    free : (o : Option ℕ) → leg_in seats s.legs n ≡ o → not (is_some o) ≡ true
-    free None e = refl
-    free (Some a) e = let r = filled_place s n seats a n f (leg_in_some seats s.legs n a e).1 in absurd (omega (arith, r))
-
-    held : (x : ℕ) → 0 ≤ x → x < n → is_free s seats x ≡ false
-    held x a b = ap (λ (o : Option ℕ). not (is_some o)) (leg_in_is s seats x x (filled_seated s n seats st (omega (arith, l)) f) (f.place x b))
 
 come_filled : (s : Setup) (n : ℕ) (table : Table) → AllStay s → n < s.legs → Filled s n table.seats → Filled s (suc n) (admitted s n true table).seats
 come_filled s n table st l f = subst (λ (v : Table). Filled s (suc n) v.seats) (sym (ap (come_to n true table) (next_free s n table.seats st l f))) (record {

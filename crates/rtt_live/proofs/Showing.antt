@@ -96,7 +96,3 @@ first_all c listeners k views low first = λ given heard.
 -- stands for a leg where none is looked at
 abbrev pub no_leg : LegLine
 no_leg = record { line = 0; name = []; aware = false; ssrc = 0; input = []; output = []; payload_types = record { t140 = 0; red = 0 }; generations = 0; stay = record { from = 0; until = None }; follow = false }
-
-pub get_seam : {X : Type 0} (xs : List X) (x : X) (rest : List X) → slice_get (xs ++ x ∷ rest) (length xs) ≡ Some x
-get_seam [] x rest = refl
-get_seam (y ∷ xs) x rest = get_seam xs x rest

@@ -9,7 +9,6 @@ use Rattle.mixer_spec.specs.Setups.{setup}
 use Rattle.packetizer.specs.declared.outputs.PacketizerSettings.{PacketizerSettings}
 use Rattle.packetizer.specs.OutputStanding.{PacketizerStandsFor, speaker_of}
 use Rattle.packetizer.specs.OutputStates.{State}
-use Rattle.mix_loop.proofs.Serving.{some_there}
 use Rattle.mixer.specs.Making.{source_counts}
 use Rattle.mixer_posts.specs.Streams.{AreSourcesAt, settings_at, payload_types_at}
 use Rattle.mixer_posts.proofs.Streaming.{count_law}
@@ -18,8 +17,8 @@ use Rattle.rtt_live.specs.Ends.{WereGiven, count_sources, counts_of}
 use Rattle.rtt_live.specs.Listeners.{NoneHeard}
 use Rattle.rtt_live.specs.Opened.{AreUnused}
 use Rattle.rtt_live.specs.Outputs.{HasSentNone, NoneSent}
-use Rattle.mixer_posts.proofs.Backward.{pushed}
-use Rattle.rtt_live.proofs.Composing.{map_there}
+use Rattle.wire_spec.proofs.Plain.{get_map as map_there}
+use Rattle.stream_spec.proofs.Plain.{get_at as some_there, get_push as pushed}
 
 -- ---- one by one
 pub output_made : {E : Type 0} (c : Conference) (j : ℕ) (settings : PacketizerSettings) (sources slice : List ℕ) (r : Result State E) → settings ≡ settings_at (setup c) (payload_types_at c j) j → slice ≡ sources → AreSourcesAt (setup c) j sources

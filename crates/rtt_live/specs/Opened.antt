@@ -7,6 +7,7 @@ use Rattle.file_spec.specs.Conference.{Conference, port}
 use Rattle.mixer_spec.specs.Setups.{leg_at}
 use Rattle.link_io.specs.declared.ends.LinkIn as ins
 use Rattle.link_io.specs.declared.ends.LinkOut as outs
+use Rattle.receiver.specs.Cuts.{cut_within}
 use Rattle.live_leg.specs.declared.settings.LegSettings.{LegSettings}
 use Rattle.live_leg.specs.LinkLegs.{LegStands, LinkLeg}
 use Rattle.rtt_live.specs.declared.faults.LiveFault.{LiveFault}
@@ -14,7 +15,7 @@ use Rattle.rtt_live.specs.declared.faults.LiveFault.TheVariants.{Link, NoMemory}
 
 -- how a leg is heard
 abbrev pub leg_settings_at : Conference → LegLine → LegSettings
-leg_settings_at c leg = record { ear = record { ssrc = leg.ssrc; payload_types = leg.payload_types; wait = c.wait }; follow = leg.follow }
+leg_settings_at c leg = record { ear = record { ssrc = leg.ssrc; payload_types = leg.payload_types; wait = c.wait; cut = cut_within c.mtu }; follow = leg.follow }
 
 -- the input of each leg is a port
 abbrev pub HavePorts : Conference → Type 0

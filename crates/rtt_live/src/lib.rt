@@ -34,8 +34,3 @@ pub use services::{serve, serve_tapped};
 pub use taps::{NoTap, Tap};
 pub use views::printed;
 pub use watch_calls::serve_watched;
-
-#[cfg(test)]
-mod tests;
-#[cfg(test)]
-mod watch_tests;

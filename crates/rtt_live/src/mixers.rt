@@ -41,7 +41,8 @@ pub fn live_mixer<O: LinkOut>(
 ) -> Result<SendingMixer<FarEnds<O>>, FarEnds<O>>
     requires stay { AllStay (setup (meaning_of conference.now)) }
     requires each { length ends.links.items ≡ length conference.now.legs }
-    requires none { WereGiven O.tells (packets_in O.given) O.faults ends (setup (meaning_of conference.now)) (payload_types_at (meaning_of conference.now)) [] }
+    requires none { WereGiven O.tells (packets_in O.given) O.faults ends (setup (meaning_of conference.now))
+        (payload_types_at (meaning_of conference.now)) [] }
     ensures legs { IfOk result (λ sending. legs_of sending.mixer ≡ length conference.now.legs) }
     ensures turns { IfOk result (λ sending. sending.mixer.turns ≡ 0) }
     ensures stands { IfOk result (HasAll O.tells (packets_in O.given) O.faults (meaning_of conference.now)) }

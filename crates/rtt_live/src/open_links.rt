@@ -1,15 +1,16 @@
 //! The links of a live call are opened, and handed back.
-ghost use Rattle.std.specs.Prelude.{◌≡◌, ◌<◌, ◌≤◌, ◌⊎◌, [], length, IfOk, IfErr, OnOk, OnErr};
+ghost use Rattle.std.specs.Prelude.{◌≡◌, ◌<◌, ◌≤◌, ◌⊎◌, [], true, length, IfOk, IfErr, OnOk, OnErr};
 ghost use Rattle.std.specs.Vec.{vec_capacity};
 ghost use Rattle.link_io.specs.Ports.{NoneFalls, Same, StayOpened};
 ghost use Rattle.file_spec.specs.Conferences.{meaning_of};
+ghost use Rattle.receiver.specs.Cuts.{is_cut};
 ghost use Rattle.rtt_live.specs.Opened.{AreCalm, AreEmptyAt, AreStored, FaultsRose, GivesNothing, HavePorts, IsNotOpened, IsRefusedAt, LeadsAll, LeadsOne, LeadsSome, OpenEnds, OpenLegs, OpensEnd, OpensLeg, leg_settings_at, link_in};
 
 use crate::LiveFault;
 use file_spec::{Conference, LegLine};
 use link_io::{LinkIn, LinkOut, Links};
 use live_leg::{Leg, LegSettings, LinkLeg, PacedLink};
-use receiver::EarSettings;
+use receiver::{EarSettings, TextCut};
 use rtt_base::NoMemory;
 use script_text::number_from;
 use std::alloc::Global;
@@ -24,13 +25,15 @@ pub(crate) struct OpenLinks<I, O> {
 
 /// How a leg is heard.
 fn leg_settings(conference: &Conference, leg: &LegLine) -> LegSettings
-    ensures { result ≡ leg_settings_at (meaning_of conference.now) leg.now }
+    ensures value { result ≡ leg_settings_at (meaning_of conference.now) leg.now }
+    ensures cut { is_cut result.ear.cut ≡ true }
 {
     LegSettings {
         ear: EarSettings {
             ssrc: leg.ssrc,
             payload_types: leg.payload_types,
             wait: u64::from(conference.wait),
+            cut: TextCut::within(conference.mtu),
         },
         follow: leg.follow,
     }

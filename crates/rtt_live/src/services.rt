@@ -53,7 +53,8 @@ pub fn serve<R: Threads + Wait + Sync, W: Links, G: Gate + Sync>(
     ensures served { IfOk result (λ report. WasServed W.tells (span_of W.Links world.old world.new)
         (W.taken_at world.new) (W.given_at world.new) (meaning_of conference.now) (end_of report.end) report.views) }
     ensures counted { IfOk result (λ report. WasCounted W.tells (span_of W.Links world.old world.new)
-        (W.taken_at world.new) (W.given_at world.new) (meaning_of conference.now) (end_of report.end) report.views report.tallies.items) }
+        (W.taken_at world.new) (W.given_at world.new) (meaning_of conference.now)
+        (end_of report.end) report.views report.tallies.items) }
     ensures given_up { IfErr result (WasGivenUp (W.own_faults world.old) (W.own_faults world.new)
         (W.object_faults world.old) (W.object_faults world.new) (meaning_of conference.now)) }
     ensures broke_off { OnErr result (BrokeOff W.tells (span_of W.Links world.old world.new) (W.given_at world.old)
@@ -88,10 +89,12 @@ pub fn serve_tapped<R: Threads + Wait + Sync, W: Links, G: Gate + Sync, T: Tap>(
 ) -> (Result<LiveReport, LiveFault>, T)
     requires links { IsOfLinks (meaning_of conference.now) }
     requires told { T.stands tap [] }
-    ensures tapped { IfOk result.0 (λ report. WasTapped (T.stands result.1) W.tells (span_of W.Links world.old world.new)
+    ensures tapped { IfOk result.0
+        (λ report. WasTapped (T.stands result.1) W.tells (span_of W.Links world.old world.new)
         (W.taken_at world.new) (W.given_at world.new) (meaning_of conference.now) (end_of report.end) report.views) }
     ensures counted { IfOk result.0 (λ report. WasCounted W.tells (span_of W.Links world.old world.new)
-        (W.taken_at world.new) (W.given_at world.new) (meaning_of conference.now) (end_of report.end) report.views report.tallies.items) }
+        (W.taken_at world.new) (W.given_at world.new) (meaning_of conference.now)
+        (end_of report.end) report.views report.tallies.items) }
     ensures given_up { IfErr result.0 (WasGivenUp (W.own_faults world.old) (W.own_faults world.new)
         (W.object_faults world.old) (W.object_faults world.new) (meaning_of conference.now)) }
     ensures broke_off { OnErr result.0 (BrokeOff W.tells (span_of W.Links world.old world.new) (W.given_at world.old)
@@ -104,7 +107,8 @@ pub fn serve_tapped<R: Threads + Wait + Sync, W: Links, G: Gate + Sync, T: Tap>(
         → IsPaused conference.now.turns (W.pauses world.old) (W.pauses world.new)) }
     ensures leads_all { W.tells → OnOk result.0 (LeadsAll (meaning_of conference.now) (W.leads world.old)
         (W.leads world.new)) }
-    ensures leads_some { W.tells → OnErr result.0 (LeadsSome (meaning_of conference.now) (W.leads world.old) (W.leads world.new)) }
+    ensures leads_some { W.tells → OnErr result.0
+        (LeadsSome (meaning_of conference.now) (W.leads world.old) (W.leads world.new)) }
     ensures all_opened { OnOk result.0 (Same W.own_faults world.old world.new) }
     ensures own_never_falls { NoneFalls W.own_faults world.old world.new }
     ensures objects_never_fall { NoneFalls W.object_faults world.old world.new }

@@ -1,7 +1,7 @@
 -- Of a script with little text no line is full.
-use Rattle.std.proofs.Common.{◌≡◌, ◌+◌, ◌*◌, ◌<◌, ◌≤◌, ℕ, zero, suc, Bool, true, false, inl, inr, Option, None, Some, List, [], ◌∷◌, ◌++◌, length, length-append, length-drop, refl, ap, sym, subst, ◌∙◌, arith, true≢false}
+use Rattle.std.proofs.Common.{◌≡◌, ◌+◌, ◌*◌, ◌≤◌, ℕ, zero, suc, Bool, true, false, inl, inr, Option, None, Some, List, [], ◌∷◌, ◌++◌, length, length-append, length-drop, refl, ap, sym, subst, ◌∙◌, arith, true≢false}
 use Rattle.std.specs.Prelude.{All, nat_le, nat_lt, ◌==◌, if◌then◌else◌}
-use Rattle.std.proofs.lemmas.Bool.{cases_Bool, cases_lt, eqb-true, eq-eqb, leb-true, le-leb, ltb-true}
+use Rattle.std.proofs.lemmas.Bool.{cases_Bool, cases_lt, eqb-true, eq-eqb, le-leb, ltb-true, lt-leb as not_le}
 use Rattle.std.proofs.lemmas.List.Elements.{All-head, All-tail, All-push}
 use Rattle.file_spec.specs.Script.{ScriptLine}
 use Rattle.stream_spec.specs.declared.limits.TheConstants.{MOST_WAITING_OCTETS}
@@ -9,9 +9,6 @@ use Rattle.stream_spec.specs.Typed.{Event, Text, Ask, carried, entries, typed, w
 use Rattle.command_spec.specs.Scripts.{Sending, events_before, events_until, full_below, full_line, typed_at}
 
 -- ---- tests on numbers
-not_le : (a b : ℕ) → b < a → nat_le a b ≡ false
-not_le a b h = elim (cases_Bool (nat_le a b)) [ inl t ↦ let x = leb-true a b t in absurd (omega arith) | inr f ↦ f ]
-
 not_eq : (a b : ℕ) → (a ≡ b → ⊥) → (a == b) ≡ false
 not_eq a b h = elim (cases_Bool (a == b)) [ inl t ↦ absurd (h (eqb-true a b t)) | inr f ↦ f ]
 

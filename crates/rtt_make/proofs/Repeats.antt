@@ -2,7 +2,7 @@
 use Rattle.std.proofs.Common.{◌≡◌, Bool, true, false, cond, ◌&&◌, List, [], ◌∷◌, ◌++◌, inl, inr, refl, ap, sym, subst, ◌∙◌, true≢false, filter}
 use Rattle.std.specs.Prelude.{not, ◌==◌, ◌||◌, if◌then◌else◌}
 use Rattle.std.specs.List.{list_any}
-use Rattle.std.proofs.lemmas.Bool.{and_parts, cases_Bool, eqb-true, eq-eqb, or_parts, or_cases}
+use Rattle.std.proofs.lemmas.Bool.{and_parts, cases_Bool, eqb-true, eq-eqb, or_parts, or_cases, not-false as not_of}
 use Rattle.std.proofs.lemmas.List.{append-nil}
 use Rattle.std.proofs.lemmas.List.Elements.{filter-append}
 use Rattle.file_spec.specs.declared.conference_lines.PlanLine.{PlanLine}
@@ -71,10 +71,6 @@ one_kept k p e = rw e refl
 
 one_lost : (k : PlanLine → Bool) (p : PlanLine) → k p ≡ false → filter k (p ∷ []) ≡ []
 one_lost k p e = rw e refl
-
-not_of : (b : Bool) → not b ≡ false → b ≡ true
-not_of true e = refl
-not_of false e = absurd (true≢false e)
 
 -- ---- one line more
 abbrev says : PlanLine → PlanLine → Bool

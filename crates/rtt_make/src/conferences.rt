@@ -74,6 +74,7 @@ fn conference_with(alloc: Global, legs: u32, plan: Plan) -> Result<Conference, N
         wait: USUAL_WAIT,
         turns: MOST_TURNS,
         relabel: None,
+        mtu: None,
         mixer: MixerLine {
             ssrc: MIXER_SSRC,
             seq: 0,

@@ -14,6 +14,3 @@ mod texts;
 pub use conferences::{Made, Scripts, Seqs, make_conf};
 pub use senders::recordings_of;
 pub use summaries::{Totals, summary_of};
-
-#[cfg(test)]
-mod tests;

@@ -31,7 +31,8 @@ fn append_number(line: &mut Bytes, before: &[u8], number: u64) -> Result<(), NoM
 pub fn summary_of(alloc: Global, number: u32, made: &Made, heard: Totals) -> Result<Bytes, NoMemory>
     requires { IsGenerated made.now }
     ensures { IfOk result (λ line. line
-        ≡ summary number (made_of made.now) (record { packets = heard.packets; used = heard.used; markers = heard.markers })) }
+        ≡ summary number (made_of made.now)
+        (record { packets = heard.packets; used = heard.used; markers = heard.markers })) }
 {
     let legs = made.conference.legs.len() as u64;
     let lines = lines_in(made.scripts.as_slice());

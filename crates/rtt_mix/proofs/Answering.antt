@@ -25,6 +25,7 @@ use Rattle.mix_loop.specs.declared.turns.MixEnd.{MixEnd}
 use Rattle.mix_loop.specs.declared.turns.MixEnd.TheVariants as mixing
 use Rattle.sent_log.specs.Files.{recordings_of}
 use Rattle.rtt_mix.specs.Logs.{LogOf, out_at}
+use Rattle.receiver.specs.Cuts.{cut_within}
 use Rattle.leg.specs.declared.inlets.LegInlet.{LegInlet}
 use Rattle.leg.specs.Answers.{AllAsked, AllWhole, AreChunks, AreOfConference, IsAnswer, IsReadWell, PlainMixed, SourceKept, source_in}
 use Rattle.leg.proofs.OfConferences.{asked_law}
@@ -35,6 +36,7 @@ use Rattle.rtt_mix.specs.declared.results.MixFault.TheVariants.{Dump, NoMemory}
 use Rattle.rtt_mix.specs.declared.results.Mixed.{Mixed}
 use Rattle.rtt_mix.specs.Answered.{AreKept, IsKept, IsOfLegs, MixesTo, WasReadWell, asked_of}
 use Rattle.rtt_mix.specs.Mixes.{counted, outputs_of}
+use Rattle.command_spec.proofs.SentBack.{below_legs as leg_within}
 
 -- ---- the recordings
 whole_steps : (limit n : ℕ) (inputs : List (List ℕ)) (steps : Steps) → ((k : ℕ) → k < length inputs → (dump limit (input_at inputs k)).fault ≡ None)
@@ -73,11 +75,6 @@ outs_from c table n (l ∷ ls) (o ∷ os) same h =
     h (suc i) leg at ∙ ap (λ j. dump_written (records_to c table j leg)) there)) in
     ap (λ (x : Made). x ∷ outputs_of ls os) head
     ∙ ap (λ xs. out_of c table n l ∷ xs) (tail ∙ ap (λ k. map (λ x. out_of c table x.0 x.1) (enumerate_from k ls)) next)
-
-pub leg_within : (legs : List LegLine) (k : ℕ) (leg : LegLine) → leg_at legs k ≡ Some leg → k < length legs
-leg_within [] k leg at = absurd (cc at)
-leg_within (l ∷ legs) zero leg at = omega arith
-leg_within (l ∷ legs) (suc k) leg at = let below = leg_within legs k leg at in omega arith
 
 -- what was sent to the terminal of a leg
 pub sent_at : (c : Conference) (table : Table) (logs : List (List ℕ)) (i : ℕ) (leg : LegLine) → LogOf (payload_types_at c) (setup c) table logs → leg_at c.legs i ≡ Some leg
@@ -127,7 +124,7 @@ module _ (c : Conference) (inputs : List (List ℕ)) (legs : length inputs ≡ l
 pub are_of_settings : (c : Conference) (inputs : List (List ℕ)) → AreOfConference c (input_at inputs) (asked_of c inputs)
 are_of_settings c inputs = λ j l at.
     ap (λ (o : Option LegLine). record {
-      settings = record { ssrc = ssrc_of o; payload_types = payload_types_of o; wait = c.wait };
+      settings = record { ssrc = ssrc_of o; payload_types = payload_types_of o; wait = c.wait; cut = cut_within c.mtu };
       limit = input_limit c;
       octets = input_at inputs j;
     }) at

@@ -1,5 +1,5 @@
 -- A conference is mixed over the inputs that were opened.
-use Rattle.std.proofs.Common.{◌≡◌, ℕ, zero, suc, ◌<◌, Bool, true, false, Option, Some, None, List, [], ◌∷◌, length, Result, Ok, Err, refl, ap, sym, subst, ◌∙◌, inl, inr, arith}
+use Rattle.std.proofs.Common.{◌≡◌, ℕ, zero, suc, ◌<◌, Option, Some, None, List, [], ◌∷◌, length, Result, Ok, Err, refl, ap, sym, subst, ◌∙◌, inl, inr, arith}
 use Rattle.std.specs.Prelude.{IfErr, IfOk, IsSome, OnOk, slice_get, unwrap_or}
 use Rattle.std.proofs.lemmas.List.{length-map}
 use Rattle.rtt_io.specs.Counts.{Rose}
@@ -11,19 +11,22 @@ use Rattle.mixer_spec.specs.Setups.{leg_at, ssrc_of}
 use Rattle.mixer_spec.specs.Bridged.{input_limit}
 use Rattle.command_spec.specs.Work.{Contents}
 use Rattle.command_spec.specs.Mixing.{input_at}
+use Rattle.receiver.specs.Cuts.{cut_within}
 use Rattle.leg.specs.Gives.{Stands, LegPast, begins}
 use Rattle.mix_loop.proofs.Lists.{get_within, lt_or_ge}
 use Rattle.leg.specs.declared.inlets.LegInlet.{LegInlet}
 use Rattle.leg.specs.Answers.{AllAsked, AllNew, read_well, source_in}
 use Rattle.mixer_posts.specs.Streams.{payload_types_of}
+use Rattle.rtt_mix.specs.declared.hearings.LegHearing.{LegHearing}
 use Rattle.rtt_mix.specs.declared.results.MixFault.{MixFault}
 use Rattle.rtt_mix.specs.declared.results.MixFault.TheVariants.{Open, Dump, TooLong, NoMemory}
 use Rattle.rtt_mix.specs.declared.results.Mixed.{Mixed}
 use Rattle.rtt_mix.specs.Answered.{AreKept, IsOfLegs, MixesAsked, MixesTo, NoReadFailed, WasReadWell, asked_of}
 use Rattle.command_spec.specs.Inputs.{AllLie, inputs_under, octets_under}
 use Rattle.rtt_mix.specs.Mixes.{IsFirst, IsMade, NoneFailed, RoseAt, Stops}
-use Rattle.rtt_mix.proofs.Opening.{is_there}
-use Rattle.rtt_mix.specs.Opened.{AllOpened, AllOver, AreCalm, EachSource, IsNotOpened, LeavesCount, ear_of}
+use Rattle.rtt_mix.specs.Opened.{AllOpened, AllOver, AreCalm, EachSource, IsNotOpened, LeavesCount, ear_of, hearing_of}
+use Rattle.std.proofs.lemmas.Bool.{false_from_ne_true as no_fault}
+use Rattle.stream_spec.proofs.Plain.{get_at as is_there}
 
 -- ---- lists
 pub input_is : (held : Contents) (legs : List LegLine) (j : ℕ) (leg : LegLine) (octets : List ℕ) → leg_at legs j ≡ Some leg → held leg.input ≡ Some octets
@@ -33,7 +36,7 @@ input_is held (l ∷ legs) zero leg octets at is =
     let same : l ≡ leg = cc at in sym (ap (λ (x : LegLine). octets_under held x.input) same ∙ ap (λ o. unwrap_or o []) is)
 input_is held (l ∷ legs) (suc j) leg octets at is = input_is held legs j leg octets at is
 
-some_of : (o : Option (List ℕ)) (octets : List ℕ) → o ≡ Some octets → IsSome o
+pub some_of : (o : Option (List ℕ)) (octets : List ℕ) → o ≡ Some octets → IsSome o
 some_of None octets e = absurd (cc e)
 some_of (Some x) octets e = refl
 
@@ -58,7 +61,7 @@ by_reading n P Well (Err NoMemory) of well made long none dump = none
 
 -- ---- legs over inputs
 module _ {S : Type 0} (Told : Type 0) (left : S → List ℕ) (c : Conference) (inputs : List (List ℕ)) (inlets : List (LegInlet S))
-    (over : AllOver Told left c.wait (input_limit c) c.legs inputs inlets) where
+    (over : AllOver Told left (hearing_of c) (input_limit c) c.legs inputs inlets) where
   pub new_over : AllNew inlets
   new_over = λ j i at. (over j i at).2.not_over
 
@@ -66,7 +69,7 @@ module _ {S : Type 0} (Told : Type 0) (left : S → List ℕ) (c : Conference) (
   asked_over told = λ j p at.
       let o = over j p at in
       let past : Option LegLine → LegPast = λ leg. record {
-        settings = record { ssrc = ssrc_of leg; payload_types = payload_types_of leg; wait = c.wait };
+        settings = record { ssrc = ssrc_of leg; payload_types = payload_types_of leg; wait = c.wait; cut = cut_within c.mtu };
         limit = input_limit c;
         octets = input_at inputs j;
         gave = [];
@@ -74,20 +77,23 @@ module _ {S : Type 0} (Told : Type 0) (left : S → List ℕ) (c : Conference) (
       subst (λ leg. Stands left p.leg (past leg)) (sym o.1) (o.2.told told)
 
 -- the same, as these lines and this limit are those of the conference
-pub over_of : {S : Type 0} (Told : Type 0) (left : S → List ℕ) (c : Conference) (lines : List LegLine) (limit : ℕ) (inputs : List (List ℕ)) (inlets : List (LegInlet S)) → lines ≡ c.legs → limit ≡ input_limit c
-    → AllOver Told left c.wait limit lines inputs inlets → AllOver Told left c.wait (input_limit c) c.legs inputs inlets
-over_of Told left c lines limit inputs inlets are fits over =
-    subst (λ l. AllOver Told left c.wait l c.legs inputs inlets) fits (subst (λ (xs : List LegLine). AllOver Told left c.wait limit xs inputs inlets) are over)
+pub over_of : {S : Type 0} (Told : Type 0) (left : S → List ℕ) (c : Conference) (lines : List LegLine) (hearing : LegHearing) (limit : ℕ) (inputs : List (List ℕ)) (inlets : List (LegInlet S)) → lines ≡ c.legs → hearing ≡ hearing_of c → limit ≡ input_limit c
+    → AllOver Told left hearing limit lines inputs inlets → AllOver Told left (hearing_of c) (input_limit c) c.legs inputs inlets
+over_of Told left c lines hearing limit inputs inlets are heard fits over =
+    subst (λ h. AllOver Told left h (input_limit c) c.legs inputs inlets) heard
+    (subst (λ l. AllOver Told left hearing l c.legs inputs inlets) fits (subst (λ (xs : List LegLine). AllOver Told left hearing limit xs inputs inlets) are over))
 
-module _ {S : Type 0} (Told : Type 0) (left : S → List ℕ) (faults : S → ℕ) (name : S → List ℕ) (held : Contents) (c : Conference) (lines : List LegLine) (limit : ℕ) (inlets : List (LegInlet S))
-    (are : lines ≡ c.legs) (fits : limit ≡ input_limit c) (count : length inlets ≡ length lines) (opened_of : AllOpened Told left faults name held c.wait limit lines inlets) where
+module _ {S : Type 0} (Told : Type 0) (left : S → List ℕ) (faults : S → ℕ) (name : S → List ℕ) (held : Contents) (c : Conference) (lines : List LegLine) (hearing : LegHearing) (limit : ℕ) (inlets : List (LegInlet S))
+    (are : lines ≡ c.legs) (heard : hearing ≡ hearing_of c) (fits : limit ≡ input_limit c) (count : length inlets ≡ length lines) (opened_of : AllOpened Told left faults name held hearing limit lines inlets) where
   many : length inlets ≡ length c.legs
   many = count ∙ ap (λ (xs : List LegLine). length xs) are
 
-  opened : AllOpened Told left faults name held c.wait (input_limit c) c.legs inlets
-  opened = subst (λ l. AllOpened Told left faults name held c.wait l c.legs inlets) fits (subst (λ (xs : List LegLine). AllOpened Told left faults name held c.wait limit xs inlets) are opened_of)
+  opened : AllOpened Told left faults name held (hearing_of c) (input_limit c) c.legs inlets
+  opened =
+      subst (λ h. AllOpened Told left faults name held h (input_limit c) c.legs inlets) heard
+      (subst (λ l. AllOpened Told left faults name held hearing l c.legs inlets) fits (subst (λ (xs : List LegLine). AllOpened Told left faults name held hearing limit xs inlets) are opened_of))
 
-  all_over : AllOver Told left c.wait (input_limit c) c.legs (inputs_under held c.legs) inlets
+  all_over : AllOver Told left (hearing_of c) (input_limit c) c.legs (inputs_under held c.legs) inlets
   all_over = λ j p at.
       let o = opened j p at in (
         o.0,
@@ -95,7 +101,7 @@ module _ {S : Type 0} (Told : Type 0) (left : S → List ℕ) (faults : S → �
         record {
           not_over = o.2.not_over;
           told = λ told. (let t = o.2.told told in
-              subst (λ octets. Stands left p.leg (begins (ear_of c.wait o.0) (input_limit c) octets)) (input_is held c.legs j o.0 t.0 o.1 t.1) t.2);
+              subst (λ octets. Stands left p.leg (begins (ear_of (hearing_of c) o.0) (input_limit c) octets)) (input_is held c.legs j o.0 t.0 o.1 t.1) t.2);
         },
       )
 
@@ -196,13 +202,9 @@ on_ok (Ok mixed) P p = p
 on_ok (Err fault) P p = tt
 
 -- ---- sources that never fail
-never_rose : (old new : ℕ) → old ≡ 0 → new ≡ 0 → Rose old new → ⊥
+pub never_rose : (old new : ℕ) → old ≡ 0 → new ≡ 0 → Rose old new → ⊥
 never_rose old new o n (inl l) = omega (arith, o, n, l)
 never_rose old new o n (inr e) = omega (arith, n, e)
-
-no_fault : (b : Bool) → (b ≡ true → ⊥) → b ≡ false
-no_fault true f = absurd (f refl)
-no_fault false f = refl
 
 pub never_read : {S : Type 0} (faults : S → ℕ) (name : S → List ℕ) (n : ℕ) (result : Result Mixed MixFault) (old new : List (LegInlet S)) → ((s : S) → faults s ≡ 0) → length old ≡ n → length new ≡ length old
     → AreKept faults name result old new → IsOfLegs n result → NoReadFailed result

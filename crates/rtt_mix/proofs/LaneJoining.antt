@@ -5,7 +5,6 @@ use Rattle.mixer_spec.specs.Setups.{Setup}
 use Rattle.mixer_spec.specs.Table.{Call}
 use Rattle.workers.specs.declared.lanes.Worker.{Worker}
 use Rattle.workers.specs.Lanes.{AreBack, AreNew, AreStarted, popped_of}
-use Rattle.workers.proofs.Matching.{is_there}
 use Rattle.mix_loop.specs.declared.answers.Answer.{Answer}
 use Rattle.mix_loop.specs.declared.turns.MixEnd.{MixEnd}
 use Rattle.mix_loop.specs.Answers.{GaveAs, gave_of}
@@ -13,6 +12,7 @@ use Rattle.mix_loop.specs.Items.{Gave, is_open}
 use Rattle.mix_loop.specs.Lanes.{LaneStands}
 use Rattle.mix_loop.specs.Mixing.{MixedAll, NoneGave}
 use Rattle.mix_loop.proofs.Answering.{all_came}
+use Rattle.stream_spec.proofs.Plain.{get_at as is_there}
 
 -- legs that gave nothing yet give nothing by their answers
 pub are_new : {I F : Type 0} (stands : I → I → Gave F → Type 0) (legs : List I) → NoneGave stands legs → AreNew (GaveAs stands) legs

@@ -15,14 +15,11 @@ use Rattle.mixer_posts.specs.Posts.{AreNext, sents_to}
 use Rattle.mixer_posts.specs.Streams.{payload_types_at}
 use Rattle.sent_log.specs.States.{HasSource, Sending, State, sent_to, with_sent}
 use Rattle.rtt_mix.specs.Logs.{HasSent, IsNew, IsSentTo, sources_in}
-use Rattle.mixer_posts.proofs.Backward.{pushed}
+use Rattle.sent_log.proofs.Recorded.{terminal_there as found_at}
+use Rattle.sent_log.proofs.Noting.{sent_to_is as sent_is}
+use Rattle.stream_spec.proofs.Plain.{get_push as pushed}
 
 -- ---- lists
-pub found_at : (log : State) (j : ℕ) → j < length log → (x : Sending) × (slice_get log j ≡ Some x)
-found_at [] j low = absurd (omega arith)
-found_at (x ∷ log) zero low = (x, refl)
-found_at (x ∷ log) (suc j) low = found_at log j (omega arith)
-
 set_there : (log : State) (i : ℕ) (x y : Sending) → slice_get (slice_set log i x) i ≡ Some y → y ≡ x
 set_there [] i x y at = absurd (cc at)
 set_there (z ∷ log) zero x y at = sym (same_Some x y at)
@@ -49,10 +46,6 @@ has_source (x ∷ log) (suc terminal) source low below = has_source log terminal
 -- what is sent of the post's terminal, which has these sources, with this text
 abbrev pub of_post : Post → List ℕ → List ℕ → Sent
 of_post p text sources = text_of sources p.source p.media text
-
-sent_is : (log : State) (terminal at : ℕ) (sent_of : List ℕ → Sent) (x : Sending) → slice_get log terminal ≡ Some x
-    → sent_to terminal at sent_of log ≡ slice_set log terminal (with_sent at (sent_of x.sources) x)
-sent_is log terminal at sent_of x e = rw e refl
 
 -- what the log has of each terminal, behind a post more
 noted : (old new : State) (now : ℕ) (p : Post) → p.terminal < length old → new ≡ sent_to p.terminal now (of_post p p.text) old

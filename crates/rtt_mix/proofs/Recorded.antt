@@ -32,14 +32,10 @@ use Rattle.sent_log.specs.Files.{recording_at, recordings_of}
 use Rattle.rtt_mix.specs.Logs.{LogOf, out_at, records, records_to}
 use Rattle.rtt_mix.specs.Loggers.{RecordsFor}
 use Rattle.rtt_mix.specs.Viewed.{AreSent}
-use Rattle.rtt_mix.proofs.Noting.{found_at}
+use Rattle.mixer_spec.proofs.Plain.{leg_there as found_leg}
+use Rattle.sent_log.proofs.Recorded.{terminal_there as found_at}
 
 -- ---- lists
-found_leg : (legs : List LegLine) (j : ℕ) → j < length legs → (leg : LegLine) × (leg_at legs j ≡ Some leg)
-found_leg [] j l = absurd (omega arith)
-found_leg (x ∷ legs) zero l = (x, refl)
-found_leg (x ∷ legs) (suc j) l = found_leg legs j (omega arith)
-
 read_leg : (legs : List LegLine) (j : ℕ) (d leg : LegLine) → leg_at legs j ≡ Some leg → slice_index_or legs j d ≡ leg
 read_leg [] j d leg at = absurd (cc at)
 read_leg (x ∷ legs) zero d leg at = cc at

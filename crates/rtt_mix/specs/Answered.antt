@@ -11,6 +11,7 @@ use Rattle.command_spec.specs.declared.faults.Refusal.TheVariants.{AtByte, After
 use Rattle.command_spec.specs.Work.{Refuses, Makes}
 use Rattle.command_spec.specs.Mixing.{input_at, mixes}
 use Rattle.command_spec.specs.Sums.{sums_mixed}
+use Rattle.receiver.specs.Cuts.{cut_within}
 use Rattle.leg.specs.declared.inlets.LegInlet.{LegInlet}
 use Rattle.leg.specs.Feds.{Asked}
 use Rattle.leg.specs.Answers.{AllAsked, read_well, source_in}
@@ -19,12 +20,18 @@ use Rattle.rtt_mix.specs.declared.results.MixFault.{MixFault}
 use Rattle.rtt_mix.specs.declared.results.MixFault.TheVariants.{Open, Dump, TooLong, NoMemory}
 use Rattle.rtt_mix.specs.declared.results.Mixed.{Mixed}
 use Rattle.sent_log.specs.Files.{recordings_of}
+use Rattle.sent_log.specs.States.{AreLawful}
 use Rattle.rtt_mix.specs.Mixes.{WholeBelow, counted, outputs_of}
 
 -- what the leg j is asked for, where the inputs have these octets
 abbrev pub asked_of : Conference → List (List ℕ) → ℕ → Asked
 asked_of c inputs j = record {
-  settings = record { ssrc = ssrc_of (leg_at c.legs j); payload_types = payload_types_at c j; wait = c.wait };
+  settings = record {
+    ssrc = ssrc_of (leg_at c.legs j);
+    payload_types = payload_types_at c j;
+    wait = c.wait;
+    cut = cut_within c.mtu;
+  };
   limit = input_limit c;
   octets = input_at inputs j;
 }
@@ -59,9 +66,9 @@ WasReadWell (Err (Dump leg fault)) j = j < read_well leg fault
 WasReadWell (Err TooLong) j = Unit {0}
 WasReadWell (Err NoMemory) j = ⊥
 
--- it has so many outputs
+-- it has so many outputs, of each of which each packet could be sent after those before it
 abbrev pub HasOutputs : ℕ → Mixed → Type 0
-HasOutputs n mixed = length mixed.outs ≡ n
+HasOutputs n mixed = (length mixed.outs ≡ n) × AreLawful mixed.outs
 
 -- it is no failed reading of a recording
 abbrev pub NoReadFailed : Result Mixed MixFault → Type 0

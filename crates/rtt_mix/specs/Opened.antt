@@ -2,23 +2,31 @@
 use Rattle.std.specs.Prelude.{◌≡◌, ◌≢◌, ◌⊎◌, ℕ, false, IsSome, Option, Some, List, slice_get}
 use Rattle.std.specs.Global.{Vec}
 use Rattle.file_spec.specs.declared.conference_lines.LegLine.{LegLine}
+use Rattle.file_spec.specs.Conference.{Conference}
 use Rattle.rtt_io.specs.Counts.{Rose}
 use Rattle.rtt_io.specs.Names.{Same}
 use Rattle.rtt_io.specs.declared.mem_sources.SteadySource.{SteadySource}
 use Rattle.rtt_io.specs.contracts.mem_sources.SteadySourceSource.TheImpl.{left-value, tells-value}
 use Rattle.receiver.specs.declared.settings.EarSettings.{EarSettings}
+use Rattle.receiver.specs.Cuts.{cut_within}
 use Rattle.leg.specs.Gives.{Stands, begins, is_over}
 use Rattle.leg.specs.declared.inlets.LegInlet.{LegInlet}
 use Rattle.leg.specs.Answers.{source_in}
 use Rattle.mixer_spec.specs.Setups.{leg_at}
 use Rattle.command_spec.specs.Mixing.{input_at}
 use Rattle.command_spec.specs.Inputs.{LieBelow}
+use Rattle.rtt_mix.specs.declared.hearings.LegHearing.{LegHearing}
 use Rattle.rtt_mix.specs.declared.results.MixFault.{MixFault}
 use Rattle.rtt_mix.specs.declared.results.MixFault.TheVariants.{Open, Dump, TooLong, NoMemory}
 
+-- how the legs of a conference are heard
+abbrev pub hearing_of : Conference → LegHearing
+hearing_of c = record { wait = c.wait; cut = cut_within c.mtu }
+
 -- what is heard of a leg
-abbrev pub ear_of : ℕ → LegLine → EarSettings
-ear_of wait leg = record { ssrc = leg.ssrc; payload_types = leg.payload_types; wait = wait }
+abbrev pub ear_of : LegHearing → LegLine → EarSettings
+ear_of hearing leg =
+    record { ssrc = leg.ssrc; payload_types = leg.payload_types; wait = hearing.wait; cut = hearing.cut }
 
 module _ {S : Type 0} where
   -- this holds of each of these sources
@@ -35,37 +43,40 @@ module _ {S : Type 0} where
   LeavesCount faults name_of contents name s = (faults s ≡ 0) ⊎ ((name ≢ name_of s) × IsSome (contents (name_of s)))
 
   -- A leg over a source that holds these octets, where it tells what it holds.
-  pub record IsOver (tells : Type 0) (left : S → List ℕ) (wait limit : ℕ) (leg : LegLine) (octets : List ℕ) (i : LegInlet S) : Type 0 where
+  pub record IsOver (tells : Type 0) (left : S → List ℕ) (hearing : LegHearing) (limit : ℕ) (leg : LegLine) (octets : List ℕ) (i : LegInlet S) : Type 0 where
     pub not_over : is_over i.leg ≡ false
-    pub told : tells → Stands left i.leg (begins (ear_of wait leg) limit octets)
+    pub told : tells → Stands left i.leg (begins (ear_of hearing leg) limit octets)
 
   -- these legs, in order, over these inputs
-  abbrev pub AllOver : Type 0 → (S → List ℕ) → ℕ → ℕ → List LegLine → List (List ℕ) → List (LegInlet S) → Type 0
-  AllOver tells left wait limit lines inputs legs = (j : ℕ) (i : LegInlet S) → slice_get legs j ≡ Some i
-      → (leg : LegLine) × (leg_at lines j ≡ Some leg) × IsOver tells left wait limit leg (input_at inputs j) i
+  abbrev pub AllOver : Type 0 → (S → List ℕ) → LegHearing → ℕ → List LegLine → List (List ℕ) → List (LegInlet S)
+      → Type 0
+  AllOver tells left hearing limit lines inputs legs = (j : ℕ) (i : LegInlet S) → slice_get legs j ≡ Some i
+      → (leg : LegLine) × (leg_at lines j ≡ Some leg) × IsOver tells left hearing limit leg (input_at inputs j) i
 
   -- A leg over its input. Where sources tell what they hold, it holds the octets under its name.
-  pub record IsOpened (tells : Type 0) (left : S → List ℕ) (faults : S → ℕ) (name_of : S → List ℕ) (contents : List ℕ → Option (List ℕ)) (wait limit : ℕ) (leg : LegLine) (i : LegInlet S) : Type 0 where
+  pub record IsOpened (tells : Type 0) (left : S → List ℕ) (faults : S → ℕ) (name_of : S → List ℕ) (contents : List ℕ → Option (List ℕ)) (hearing : LegHearing) (limit : ℕ) (leg : LegLine) (i : LegInlet S) : Type 0 where
     pub not_over : is_over i.leg ≡ false
     pub named : name_of (source_in i) ≡ leg.input
     pub fresh : faults (source_in i) ≡ 0
-    pub told : tells → (octets : List ℕ) × (contents leg.input ≡ Some octets) × Stands left i.leg (begins (ear_of wait leg) limit octets)
+    pub told : tells → (octets : List ℕ) × (contents leg.input ≡ Some octets)
+        × Stands left i.leg (begins (ear_of hearing leg) limit octets)
 
   -- these legs, in order
-  abbrev pub AllOpened : Type 0 → (S → List ℕ) → (S → ℕ) → (S → List ℕ) → (List ℕ → Option (List ℕ)) → ℕ → ℕ
+  abbrev pub AllOpened : Type 0 → (S → List ℕ) → (S → ℕ) → (S → List ℕ) → (List ℕ → Option (List ℕ)) → LegHearing → ℕ
       → List LegLine → List (LegInlet S) → Type 0
-  AllOpened tells left faults name_of contents wait limit lines legs = (j : ℕ) (i : LegInlet S)
+  AllOpened tells left faults name_of contents hearing limit lines legs = (j : ℕ) (i : LegInlet S)
       → slice_get legs j ≡ Some i
-      → (leg : LegLine) × (leg_at lines j ≡ Some leg) × IsOpened tells left faults name_of contents wait limit leg i
+      → (leg : LegLine) × (leg_at lines j ≡ Some leg) × IsOpened tells left faults name_of contents hearing limit leg i
 
   -- the same of a whole list of legs
-  abbrev pub AreOpened : Type 0 → (S → List ℕ) → (S → ℕ) → (S → List ℕ) → (List ℕ → Option (List ℕ)) → ℕ → ℕ
+  abbrev pub AreOpened : Type 0 → (S → List ℕ) → (S → ℕ) → (S → List ℕ) → (List ℕ → Option (List ℕ)) → LegHearing → ℕ
       → List LegLine → Vec (LegInlet S) → Type 0
-  AreOpened tells left faults name_of contents wait limit lines legs = AllOpened tells left faults name_of contents wait limit lines legs.items
+  AreOpened tells left faults name_of contents hearing limit lines legs =
+      AllOpened tells left faults name_of contents hearing limit lines legs.items
 
 -- these legs, in order, over inputs that are held in memory
-abbrev pub AreHeld : ℕ → ℕ → List LegLine → List (List ℕ) → Vec (LegInlet SteadySource) → Type 0
-AreHeld wait limit lines inputs legs = AllOver tells-value.it left-value.it wait limit lines inputs legs.items
+abbrev pub AreHeld : LegHearing → ℕ → List LegLine → List (List ℕ) → Vec (LegInlet SteadySource) → Type 0
+AreHeld hearing limit lines inputs legs = AllOver tells-value.it left-value.it hearing limit lines inputs legs.items
 
 -- Why the leg j was not opened: the count of its name rose, or memory ran out.
 abbrev pub OpeningIsRefused : (List ℕ → ℕ) → (List ℕ → ℕ) → ℕ → LegLine → MixFault → Type 0

@@ -8,7 +8,7 @@ ghost use Rattle.rtt_base.specs.declared.limits.TheConstants.{LONGEST_WAIT};
 ghost use Rattle.wire_spec.specs.declared.limits.TheConstants.{MOST_RECORDING_OCTETS};
 ghost use Rattle.file_spec.specs.declared.limits.TheConstants.{MOST_LEGS};
 
-use crate::MixFault;
+use crate::{LegHearing, MixFault};
 use file_spec::LegLine;
 use leg::{Leg, LegInlet, LegLost};
 use receiver::EarSettings;
@@ -20,20 +20,21 @@ use std::alloc::Global;
 pub fn leg_over<S: Source>(
     alloc: Global,
     leg: &LegLine,
-    wait: u32,
+    hearing: LegHearing,
     limit: u32,
     source: S,
 ) -> Result<LegInlet<S>, LegLost<S>>
-    requires wait { wait ≤ LONGEST_WAIT }
+    requires wait { hearing.wait ≤ LONGEST_WAIT }
     requires limit { limit ≤ MOST_RECORDING_OCTETS }
-    ensures over { IfOk result (IsOver S.tells S.left wait limit leg.now (S.left source)) }
+    ensures over { IfOk result (IsOver S.tells S.left hearing limit leg.now (S.left source)) }
     ensures source { IfOk result (λ inlet. source_in inlet ≡ source) }
     ensures lost { IfErr result (λ lost. lost.source ≡ source) }
 {
     let settings = EarSettings {
         ssrc: leg.ssrc,
         payload_types: leg.payload_types,
-        wait: u64::from(wait),
+        wait: u64::from(hearing.wait),
+        cut: hearing.cut,
     };
     match Leg::with_limit(alloc, source, settings, limit) {
         Ok(leg) => Ok(LegInlet { leg }),
@@ -46,14 +47,14 @@ fn open_leg<W: World>(
     alloc: Global,
     leg: &LegLine,
     number: u8,
-    wait: u32,
+    hearing: LegHearing,
     limit: u32,
     world: &mut W,
 ) -> Result<LegInlet<W::Src>, MixFault>
-    requires wait { wait ≤ LONGEST_WAIT }
+    requires wait { hearing.wait ≤ LONGEST_WAIT }
     requires limit { limit ≤ MOST_RECORDING_OCTETS }
     ensures opened { IfOk result (IsOpened W.tells W.Src.left W.Src.faults W.Src.name
-        (W.contents world.old) wait limit leg.now) }
+        (W.contents world.old) hearing limit leg.now) }
     ensures shown { W.tells → OnOk result W.Src.tells }
     ensures refused { IfErr result (RefusedIn W.own_faults world.old world.new number leg.now) }
     ensures no_other { W.tells → OnErr result (CountsNoOther W.contents W.own_faults leg.now.input world.old world.new) }
@@ -65,7 +66,7 @@ fn open_leg<W: World>(
     let Ok(source) = world.open_source(leg.input.as_str()) else {
         return Err(MixFault::Open { leg: number });
     };
-    match leg_over(alloc, leg, wait, limit, source) {
+    match leg_over(alloc, leg, hearing, limit, source) {
         Ok(inlet) => Ok(inlet),
         Err(lost) => {
             world.done_src(lost.source);
@@ -79,16 +80,16 @@ fn open_leg<W: World>(
 pub(crate) fn open_legs<W: World>(
     alloc: Global,
     legs: &[LegLine],
-    wait: u32,
+    hearing: LegHearing,
     limit: u32,
     world: &mut W,
 ) -> Result<Vec<LegInlet<W::Src>>, MixFault>
     requires few { length legs.now ≤ MOST_LEGS }
-    requires wait { wait ≤ LONGEST_WAIT }
+    requires wait { hearing.wait ≤ LONGEST_WAIT }
     requires limit { limit ≤ MOST_RECORDING_OCTETS }
     ensures legs { IfOk result (λ inlets. length inlets.items ≡ length legs.now) }
     ensures opened { IfOk result (AreOpened W.tells W.Src.left W.Src.faults W.Src.name
-        (W.contents world.old) wait limit legs.now) }
+        (W.contents world.old) hearing limit legs.now) }
     ensures shown { W.tells → OnOk result (0 < length legs.now → W.Src.tells) }
     ensures refused { IfErr result (Unopened W.tells W.contents W.own_faults world.old world.new legs.now) }
     ensures first { IfErr result (IsFirstIn W.tells W.contents W.own_faults world.old world.new legs.now) }
@@ -101,7 +102,7 @@ pub(crate) fn open_legs<W: World>(
         return Err(MixFault::NoMemory);
     };
     for index in 0..legs.len() {
-        match open_leg(alloc, &legs[index], index as u8, wait, limit, world) {
+        match open_leg(alloc, &legs[index], index as u8, hearing, limit, world) {
             Ok(inlet) => inlets.push_reserved(inlet),
             Err(fault) => {
                 close_legs(inlets, world);
@@ -116,22 +117,22 @@ pub(crate) fn open_legs<W: World>(
 pub(crate) fn held_legs(
     alloc: Global,
     legs: &[LegLine],
-    wait: u32,
+    hearing: LegHearing,
     limit: u32,
     inputs: Vec<Bytes>,
 ) -> Result<Vec<LegInlet<SteadySource>>, NoMemory>
     requires each { length inputs.items ≡ length legs.now }
     requires few { length legs.now ≤ MOST_LEGS }
-    requires wait { wait ≤ LONGEST_WAIT }
+    requires wait { hearing.wait ≤ LONGEST_WAIT }
     requires limit { limit ≤ MOST_RECORDING_OCTETS }
     ensures legs { IfOk result (λ inlets. length inlets.items ≡ length legs.now) }
-    ensures over { IfOk result (AreHeld wait limit legs.now inputs.items) }
+    ensures over { IfOk result (AreHeld hearing limit legs.now inputs.items) }
 {
     let mut inlets = Vec::with_capacity(alloc, legs.len())?;
     for octets in inputs {
         let number = inlets.len();
         let source = SteadySource::new(octets);
-        match leg_over(alloc, &legs[number], wait, limit, source) {
+        match leg_over(alloc, &legs[number], hearing, limit, source) {
             Ok(inlet) => inlets.push_reserved(inlet),
             Err(_) => return Err(NoMemory),
         }

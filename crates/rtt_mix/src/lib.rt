@@ -2,6 +2,7 @@
 //! and what is seen there.
 #![tactic(auto)]
 
+mod hearings;
 mod jobs;
 mod known_lines;
 mod legs;
@@ -17,6 +18,7 @@ mod showing;
 mod threads;
 mod views;
 
+pub use hearings::LegHearing;
 pub use legs::leg_over;
 pub use mixes::{InputReturn, input_limit, mix, mix_held, mix_opened};
 pub use pieces::Piece;
@@ -24,6 +26,3 @@ pub use readers::{Readers, mix_legs};
 pub use results::{MixFault, Mixed};
 pub use threads::LegReturn;
 pub use views::{Views, views_of};
-
-#[cfg(test)]
-mod tests;

@@ -8,6 +8,7 @@ ghost use Rattle.leg.specs.Answers.{AllNew};
 ghost use Rattle.playback.specs.Written.{IsPlayable};
 ghost use Rattle.rtt_mix.specs.Answered.{AreKept, HasOutputs, IsOfLegs, MixesAsked, MixesTo, NoReadFailed};
 ghost use Rattle.sent_log.specs.Files.{recordings_of};
+ghost use Rattle.sent_log.specs.States.{AreLawful};
 ghost use Rattle.rtt_mix.specs.Mixes.{IsFirstIn, IsMade, NoneFailedIn, StopsIn, counted};
 ghost use Rattle.rtt_mix.specs.Viewed.{AreSumsOf, AreViewsOf};
 
@@ -16,7 +17,7 @@ use crate::loggers::recording_mixer;
 use crate::logs::Log;
 use crate::parts::views_on_threads;
 use crate::views::Views;
-use crate::{LegReturn, MixFault, Mixed, Readers, mix_legs};
+use crate::{LegHearing, LegReturn, MixFault, Mixed, Readers, mix_legs};
 use file_spec::Conference;
 use leg::LegInlet;
 use mix_loop::MixEnd;
@@ -52,6 +53,7 @@ fn made<R: Threads + Sync>(
     ensures views { IfOk result (λ mixed. AreViewsOf (meaning_of conference.now) (recordings_of log) (concat mixed.views.items)) }
     ensures sums { IfOk result (λ mixed. AreSumsOf (meaning_of conference.now) (recordings_of log) (counted mixed)) }
     ensures outs { IfOk result (λ mixed. mixed.outs ≡ log) }
+    ensures lawful { IfOk result (λ mixed. AreLawful mixed.outs) }
     ensures fault { IfErr result (λ fault. fault ≡ MixFault.NoMemory) }
 {
     let Ok(outs) = SentFiles::new(alloc, log.into_sent()) else {
@@ -147,14 +149,9 @@ pub fn mix_held<R: Threads + Wait + Sync, G: Gate + Sync>(
     ensures read { NoReadFailed result }
     ensures outs { IfOk result (HasOutputs (length conference.now.legs)) }
 {
+    let hearing = LegHearing::of(conference);
     let limit = input_limit(conference);
-    let Ok(legs) = held_legs(
-        alloc,
-        conference.legs.as_slice(),
-        conference.wait,
-        limit,
-        inputs,
-    ) else {
+    let Ok(legs) = held_legs(alloc, conference.legs.as_slice(), hearing, limit, inputs) else {
         return Err(MixFault::NoMemory);
     };
     let InputReturn { mixed, legs: _ } = mix_opened(
@@ -191,8 +188,9 @@ pub fn mix<R: Threads + Wait + Sync, W: World, G: Gate + Sync>(
     ensures objects_never_fall { NoneFalls W.object_faults world.old world.new }
 {
     let lines = conference.legs.as_slice();
+    let hearing = LegHearing::of(conference);
     let limit = input_limit(conference);
-    let legs = match open_legs(alloc, lines, conference.wait, limit, world) {
+    let legs = match open_legs(alloc, lines, hearing, limit, world) {
         Ok(legs) => legs,
         Err(fault) => return Err(fault),
     };

@@ -4,7 +4,7 @@ use conf_text::{ConfFault, Form, read_conf};
 use file_spec::Conference;
 use file_spec::limits::MOST_CONFERENCE_OCTETS;
 use link_io::Links;
-use recorded_links::{BeginFault, Journals, RecordedLinks, start_of};
+use recorded_links::{BeginFault, CallRecording, Journals, start_of};
 use rtt_base::NoMemory;
 use rtt_io::{ReadFault, World, read_whole};
 use rtt_words::{Command, WordFault, command_of};
@@ -20,12 +20,13 @@ use std::time::Clock;
 
 /// What a call is given beside what `run` makes of its conference.
 #[derive(Drop)]
-pub(crate) struct CallService<L: Links, J: Journals, R> {
+pub(crate) struct CallService<L, J: Journals, R> {
     /// After how long without a datagram a terminal has gone (milliseconds), if it does.
     pub(crate) gone: Option<u32>,
     pub(crate) operator: Operator<RealPort>,
-    /// Its links, which are recorded where its conference says so.
-    pub(crate) links: RecordedLinks<L, J, R>,
+    pub(crate) links: L,
+    /// The recordings of the links, where the conference says so.
+    pub(crate) recording: CallRecording<J, R>,
 }
 
 /// Why no command is begun.
@@ -115,40 +116,34 @@ fn conference_of_call<R: Files<File = File>, W: World>(
     }
 }
 
-/// The links of a call of this conference: where it says so they are recorded, in files that are made now.
-fn links_of<
+impl From<BeginFault> for CallFault {
+    fn from(fault: BeginFault) -> CallFault {
+        match fault {
+            BeginFault::Failed(name) => CallFault::Unwritten(name),
+            BeginFault::NoMemory => CallFault::NoMemory,
+        }
+    }
+}
+
+/// The recordings of a call of this conference over these links: where it says so they are begun, in files that are made now.
+fn recording_of<
     R: Threads + Wait + Clock + Copy + Drop + Send + 'static,
-    L: Links + Drop,
+    L: Links,
     J: Journals + Drop + Send + 'static,
 >(
     rt: R,
     alloc: Global,
     conference: &Conference,
-    mut links: L,
+    links: &mut L,
     journals: J,
-) -> Result<RecordedLinks<L, J, R>, CallFault>
-where
-    J::File: 'static,
-{
+) -> Result<CallRecording<J, R>, CallFault> {
     let Some(prefix) = &conference.service.recorded else {
-        return Ok(RecordedLinks::plain(rt, alloc, links, journals)?);
+        return Ok(CallRecording::nothing(rt, alloc, journals)?);
     };
-    let start = start_of(&rt, &mut links);
+    let start = start_of(&rt, links);
     let legs = conference.legs.as_slice();
-    match RecordedLinks::begin(
-        rt,
-        alloc,
-        links,
-        journals,
-        prefix.as_str(),
-        legs,
-        start,
-        conference.tick,
-    ) {
-        Ok(links) => Ok(links),
-        Err(BeginFault::Failed(name)) => Err(CallFault::Unwritten(name)),
-        Err(BeginFault::NoMemory) => Err(CallFault::NoMemory),
-    }
+    let tick = conference.tick;
+    Ok(CallRecording::begin(rt, alloc, journals, prefix.as_str(), legs, start, tick)?)
 }
 
 /// Whether a stream is open. That there is room for what is written, or that somebody reads it, is not known before.
@@ -170,29 +165,28 @@ pub(crate) fn service_of<
     alloc: Global,
     words: &[String],
     world: &mut W,
-    links: L,
+    mut links: L,
     journals: J,
     out: &mut O,
-) -> Result<CallService<L, J, R>, CallFault>
-where
-    J::File: 'static,
-{
+) -> Result<CallService<L, J, R>, CallFault> {
     let Some(conference) = conference_of_call(&rt, alloc, words, world)? else {
         return Ok(CallService {
             gone: None,
             operator: Operator::Nobody,
-            links: RecordedLinks::plain(rt, alloc, links, journals)?,
+            links,
+            recording: CallRecording::nothing(rt, alloc, journals)?,
         });
     };
     if !is_open(out) {
         return Err(CallFault::Unprinted);
     }
-    let links = links_of(rt, alloc, &conference, links, journals)?;
+    let recording = recording_of(rt, alloc, &conference, &mut links, journals)?;
     let gone = conference.service.gone;
     let operator = operator_of(&rt, alloc, conference)?;
     Ok(CallService {
         gone,
         operator,
         links,
+        recording,
     })
 }

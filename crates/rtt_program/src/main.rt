@@ -3,9 +3,18 @@
 #![tactic(auto)]
 
 mod calls;
+#[cfg(test)]
+mod failures;
+#[cfg(test)]
+mod gate_tests;
+#[cfg(test)]
+mod plays;
+#[cfg(test)]
+mod port_tests;
 
-ghost use Rattle.std.specs.Prelude.{◌≡◌, ◌≢◌, ◌++◌, true, None, Ok, drop, codes, string_bytes, IfOk, IfSome, IsSome, OnErr};
+ghost use Rattle.std.specs.Prelude.{◌≡◌, ◌≢◌, ◌++◌, true, None, Ok, drop, length, codes, string_bytes, IfOk, IfSome, IsSome, OnErr};
 ghost use Rattle.std.specs.Process.{exit_status};
+ghost use Rattle.recorded_links.specs.Begun.{recordings_of};
 ghost use Rattle.report_spec.specs.Told.{told_name};
 ghost use Rattle.command_spec.specs.Messages.{trouble};
 ghost use Rattle.rtt_io.specs.Counts.{Rose};
@@ -18,7 +27,7 @@ use call_links::{LeavingLinks, OperatedLinks, Operator, OperatorPort, Silence};
 use calls::{CallFault, CallService, service_of};
 use command_spec::Fault;
 use link_io::{Links, RealLinks};
-use recorded_links::{Journals, LinksReturn, RealJournals, RecordedLinks};
+use recorded_links::{Call, CallRecording, Journals, LinksReturn, RealJournals, RecordedLinks};
 use rtt_base::NoMemory;
 use rtt_check::{Ports, RealPorts};
 use rtt_io::{RealWorld, Sink, StandardError, StandardOutput, StillGate, World};
@@ -153,10 +162,20 @@ fn recorded_exit<E: Sink>(
     }
 }
 
+/// The exit where no command is begun, which is told.
+fn unbegun<E: Sink>(fault: CallFault, err: &mut E) -> ExitCode {
+    match fault {
+        CallFault::NoMemory => exit_with(no_memory(err)),
+        CallFault::Unprinted => exit_with(unprinted(err)),
+        CallFault::Unwritten(name) => exit_with(unwritten(name.as_str(), err)),
+    }
+}
+
 /// The program over links that are recorded, that terminals leave by RTCP, or without a word where they are silent so long
 /// (milliseconds), and of whose call an operator may ask.
 fn program_over<
     S: Silence + Send,
+    C: Call + Send + 'static,
     R: Threads + Wait + Clock + Copy + Drop + Send + Sync + 'static,
     W: World,
     L: Links + Drop,
@@ -172,16 +191,23 @@ fn program_over<
     gone: Option<u32>,
     operator: Operator<P>,
     world: &mut W,
-    links: RecordedLinks<L, J, R>,
+    links: L,
+    recording: CallRecording<J, R>,
     ports: &mut T,
     out: &mut K,
     err: &mut E,
 ) -> ExitCode
 where
     J::File: 'static,
-    requires { gone ≡ S.longest }
+    requires gone { gone ≡ S.longest }
+    requires recordings { C.recordings ≡ recordings_of recording }
+    requires before { C.before ≡ length (L.leads links) }
 {
-    let leaving: LeavingLinks<RecordedLinks<L, J, R>, S> = LeavingLinks::new(links, gone);
+    let recorded: RecordedLinks<L, J, R, C> = match RecordedLinks::open(recording, links) {
+        Ok(recorded) => recorded,
+        Err(fault) => return unbegun(CallFault::from(fault), err),
+    };
+    let leaving: LeavingLinks<RecordedLinks<L, J, R, C>, S> = LeavingLinks::new(recorded, gone);
     let mut links = OperatedLinks::new(leaving, operator);
     let exit = program(rt, alloc, words, world, &mut links, ports, out, err);
     let LinksReturn {
@@ -192,7 +218,7 @@ where
     recorded_exit(exit, failed, err)
 }
 
-/// The same, for whichever silence is said.
+/// The same, for whichever silence is said, and whichever recordings are begun.
 fn program_for<
     R: Threads + Wait + Clock + Copy + Drop + Send + Sync + 'static,
     W: World,
@@ -209,7 +235,8 @@ fn program_for<
     gone: Option<u32>,
     operator: Operator<P>,
     world: &mut W,
-    links: RecordedLinks<L, J, R>,
+    links: L,
+    recording: CallRecording<J, R>,
     ports: &mut T,
     out: &mut K,
     err: &mut E,
@@ -217,8 +244,8 @@ fn program_for<
 where
     J::File: 'static,
 {
-    program_over::<Brand, R, W, L, J, P, T, K, E>(
-        rt, alloc, words, gone, operator, world, links, ports, out, err,
+    program_over::<Brand, Brand, R, W, L, J, P, T, K, E>(
+        rt, alloc, words, gone, operator, world, links, recording, ports, out, err,
     )
 }
 
@@ -245,11 +272,10 @@ fn main(rt: HostRuntime) -> ExitCode {
         gone,
         operator,
         links,
+        recording,
     } = match asked {
         Ok(service) => service,
-        Err(CallFault::NoMemory) => return exit_with(no_memory(&mut err)),
-        Err(CallFault::Unprinted) => return exit_with(unprinted(&mut err)),
-        Err(CallFault::Unwritten(name)) => return exit_with(unwritten(name.as_str(), &mut err)),
+        Err(fault) => return unbegun(fault, &mut err),
     };
     let mut ports = RealPorts::new(&rt, rt.alloc());
     program_for(
@@ -260,6 +286,7 @@ fn main(rt: HostRuntime) -> ExitCode {
         operator,
         &mut world,
         links,
+        recording,
         &mut ports,
         &mut out,
         &mut err,

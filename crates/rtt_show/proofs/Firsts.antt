@@ -3,7 +3,7 @@ use Rattle.std.proofs.Common.{◌≡◌, ℕ, ◌≤◌, Bool, true, false, cond
 use Rattle.std.specs.Prelude.{◌≢◌, ◌==◌, ◌||◌, AllPairs}
 use Rattle.std.specs.List.{list_any}
 use Rattle.std.proofs.Math.Bool.{or-true}
-use Rattle.std.proofs.lemmas.Bool.{true≢false, ltb-true}
+use Rattle.std.proofs.lemmas.Bool.{true≢false, ltb-true, eqb-true as eq_is}
 use Rattle.std.proofs.lemmas.Bool.Decides.{Decides-eqb}
 use Rattle.std.proofs.lemmas.List.Folds.{list_any-append, list_any_at}
 use Rattle.std.proofs.lemmas.List.Quantifiers.{all_pairs_push}
@@ -12,9 +12,6 @@ use Rattle.command_spec.specs.Firsts.{Firsts, is_kept, has_room, with_kept, with
 
 pub eq_same : (n : ℕ) → (n == n) ≡ true
 eq_same n = (Decides-eqb n n).1 refl
-
-pub eq_is : (m n : ℕ) → (m == n) ≡ true → m ≡ n
-eq_is m n e = (Decides-eqb m n).0 e
 
 -- what is kept stays kept
 keeps_one : (f : Firsts) (x n : ℕ) → is_kept f x ≡ true → is_kept (with_name f n) x ≡ true

@@ -6,9 +6,7 @@ use Rattle.wire_spec.specs.declared.faults.DumpKind.{DumpKind}
 use Rattle.wire_spec.specs.declared.faults.DumpKind.TheVariants as kinds
 use Rattle.wire_spec.specs.Dump.{Item, Recording, with_item}
 use Rattle.rtpdump_io.specs.declared.readers.DumpReader.{DumpReader}
-use Rattle.rtpdump_io.specs.declared.readers.Stage.{Stage}
-use Rattle.rtpdump_io.specs.declared.readers.Stage.TheVariants.{Opening, Records, Ended}
-use Rattle.rtpdump_io.specs.Reading.{Breaks, broken, nothing, is_of_source, is_ended, answers_left, most_answers, source_of, to_come}
+use Rattle.rtpdump_io.specs.Reading.{Breaks, broken, nothing, is_of_source, is_ended, most_answers, source_of, to_come}
 use Rattle.rtt_show.specs.declared.findings.Findings.{Findings}
 use Rattle.rtpdump_io.specs.declared.items.DumpFault.{DumpFault}
 use Rattle.rtpdump_io.specs.declared.items.RecordingFault.TheVariants.{Dump}
@@ -28,11 +26,6 @@ pub record Going {S : Type 0} (tells : Type 0) (left : S → List ℕ) (faults :
   pub never_falls : faults (source_of before) ≤ faults (source_of now)
   pub same_name : name (source_of now) ≡ name (source_of before)
   pub is : tells → to_come left before ≡ record { items = items ++ (to_come left now).items; fault = (to_come left now).fault }
-
-pub most_few : (stage : Stage) (byte : ℕ) → answers_left stage byte ≤ 4194306
-most_few Opening byte = omega arith
-most_few Records byte = omega arith
-most_few Ended byte = omega arith
 
 pub one_more : (tells : Type 0) (before now next : Recording) (items : List Item) (item : Item) → (tells → before ≡ record { items = items ++ now.items; fault = now.fault }) → (tells → now ≡ with_item item next)
     → tells → before ≡ record { items = (items ++ item ∷ []) ++ next.items; fault = next.fault }

@@ -1,10 +1,10 @@
 -- One record more, and the groups of what was named.
 use Rattle.std.proofs.Common.{◌≡◌, ℕ, suc, ◌+◌, ◌<◌, ◌≤◌, Bool, true, false, cond, List, [], ◌∷◌, ◌++◌, length, map, flat_map, get_or, refl, ap, sym, ◌∙◌, subst, arith, ◌⊎◌, inl, inr, nat_lt, length-append, append-nil}
 use Rattle.std.specs.Prelude.{◌≢◌, ◌==◌, ◌||◌, not, Result, Ok, Err, OnOk, All, AllPairs, Option, None, Some, position}
-use Rattle.std.specs.List.{AllByRecursion, list_any, filter_map, cons_option, position_or_len}
+use Rattle.std.specs.List.{list_any, filter_map, cons_option, position_or_len}
 use Rattle.std.proofs.Math.ListN.{set}
 use Rattle.std.proofs.Math.Seq.{get_or-append_seam, map-set_same}
-use Rattle.std.proofs.lemmas.Bool.{true≢false, cases_lt, cases_eq, ltb-false}
+use Rattle.std.proofs.lemmas.Bool.{true≢false, cases_lt, cases_eq, ltb-false, eqb-true as eq_is}
 use Rattle.std.proofs.lemmas.Bool.Decides.{Decides-ltb}
 use Rattle.std.proofs.lemmas.Grind.{flat_map-append}
 use Rattle.std.proofs.lemmas.List.{map-append, length-map, get_or_default, get_or-map, get_or_append_left, get_or-set_same, get_or-set_other}
@@ -19,8 +19,9 @@ use Rattle.command_spec.specs.Streams.{Sort, sort_of, named, naming, is_name}
 use Rattle.rtt_show.specs.declared.groups.Group.{Group}
 use Rattle.rtt_show.specs.declared.groups.Groups.{Groups}
 use Rattle.rtt_show.specs.Groups.{one_group, with_record, AddedAt, GroupHolds, firsts_in, Grouped}
-use Rattle.rtt_show.proofs.Firsts.{eq_same, eq_is, none_other, apart}
+use Rattle.rtt_show.proofs.Firsts.{eq_same, none_other, apart}
 use Rattle.rtt_show.proofs.Surveying.{firsts_more}
+use Rattle.command_spec.proofs.SentBack.{all_push}
 
 -- ---- what is named
 named_none : (of : Sort → Option ℕ) (items : List Item) (item : Item) → of (sort_of item) ≡ None → named of (items ++ item ∷ []) ≡ named of items
@@ -70,11 +71,6 @@ passed of limit g items item e w = record {
   firsts = w.firsts ∙ sym (named_none of items item e);
   each = λ k d low. holds_passed of items item (get_or g.groups.items k d) (ap (is_name (get_or g.groups.items k d).name) e) (w.each k d low);
 }
-
--- a group with one record more
-all_push : {X : Type 0} (P : X → Type 0) (xs : List X) (x : X) → AllByRecursion P xs → P x → AllByRecursion P (xs ++ x ∷ [])
-all_push P [] x a p = (p, tt)
-all_push P (y ∷ ys) x a p = (a.0, all_push P ys x a.1 p)
 
 written_more : (records : List (ℕ × List ℕ)) (r : ℕ × List ℕ) → flat_map record_written (records ++ r ∷ []) ≡ flat_map record_written records ++ record_written r
 written_more records r = flat_map-append record_written records (r ∷ []) ∙ ap (λ (xs : List ℕ). flat_map record_written records ++ xs) (append-nil (record_written r))

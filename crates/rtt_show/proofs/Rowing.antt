@@ -40,6 +40,7 @@ use Rattle.rtt_show.specs.Spreads.{IsSpread}
 use Rattle.rtt_show.specs.Surveys.{all_faults, firsts_of}
 use Rattle.rtt_show.proofs.Straying.{late_in_time, used_few}
 use Rattle.rtt_show.proofs.Surveying.{arrives_more, map_alike, firsts_more, greatest_more, least_more, refused_more}
+use Rattle.stream_spec.proofs.Plain.{all_numbered as numbered_length}
 
 -- ---- a header
 abbrev has_ok : {A E : Type 0} → Result A E → Bool
@@ -81,10 +82,6 @@ top_is first e (d ∷ past) a = let t = top_is first d past a.1 in omega (arith,
 
 next_is : (f k seq : ℕ) → seq ≡ (f + suc k) % 65536 → nearest (f + 65536 + k) seq ≡ f + 65536 + suc k
 next_is f k seq e = omega (arith, e)
-
-numbered_length : (past : List Arrival) → length (numbered past) ≡ length past
-numbered_length [] = refl
-numbered_length (a ∷ past) = ap suc (numbered_length past)
 
 -- the number of the next packet
 number_is : (f seq : ℕ) (past : List Numbered) → Ascends (f + 65536) past → seq ≡ (f + length past) % 65536 → f < 65536 → number_after past seq ≡ f + 65536 + length past

@@ -44,6 +44,7 @@ use Rattle.rtt_show.specs.Shown.{asked, settings_of, heard_text, pair_line}
 use Rattle.rtt_show.specs.Finds.{one_if}
 use Rattle.rtt_show.proofs.Surveying.{count_more}
 use Rattle.rtt_show.proofs.Firsts.{apart, few}
+use Rattle.view_spec.proofs.Counted.{filter_fits as length_filter_le}
 
 -- ---- the sources that are named
 pub sources_few : (payload_types : PayloadTypes) (ssrc : ℕ) (s : Survey) (came : List Item) → IsSurvey payload_types ssrc s came → length s.sources.kept.items ≤ MOST_SOURCES
@@ -144,14 +145,6 @@ guess_is ssrc pt came signs red near text s d r n m =
     ∙ ap (λ b. if b then guess ssrc pt came else []) (sym d)))
 
 -- ---- groups
-length_filter_le : {X : Type 0} (p : X → Bool) (xs : List X) → length (filter p xs) ≤ length xs
-length_filter_le p [] = omega arith
-length_filter_le p (x ∷ xs) = go (p x) (length_filter_le p xs)
-  where
-    go : (b : Bool) → length (filter p xs) ≤ length xs → length (cond b (x ∷ filter p xs) (filter p xs)) ≤ length (x ∷ xs)
-    go true l = omega (arith, l)
-    go false l = omega (arith, l)
-
 -- a group's records, of a recording that is not too long
 pub records_of : (of : Sort → Option ℕ) (items : List Item) (group : Group) → length items < 2 ^ 32 → (h : GroupHolds of items group) → AreRecords group.records h.records
 records_of of items group few h = record {

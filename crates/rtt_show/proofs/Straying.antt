@@ -19,16 +19,11 @@ use Rattle.rtt_show.specs.declared.strays.NumberedPacket.{NumberedPacket}
 use Rattle.rtt_show.specs.declared.strays.Strays.{Strays}
 use Rattle.rtt_show.specs.Finds.{one_if}
 use Rattle.rtt_show.specs.Strays.{has, is_late_number, AreStrays, UsesMore, LatesMore, StraysMore}
-
-zero_more : (n : ℕ) → 0 + n ≡ n
-zero_more n = omega arith
+use Rattle.std.proofs.Math.Nat.{zero-add as zero_more}
+use Rattle.wire_spec.proofs.Plain.{or_swap}
+use Rattle.std.proofs.Math.Bool.{and-false as and_none}
 
 -- ---- numbers that came
-or_swap : (a b c : Bool) → (a || (b || c)) ≡ (b || (a || c))
-or_swap true true c = refl
-or_swap true false c = refl
-or_swap false b c = refl
-
 has_put : (e : Numbered) (us : List Numbered) (n : ℕ) → has_number (by_number e us) n ≡ (e.number == n || has_number us n)
 has_put e [] n = refl
 has_put e (u ∷ us) n = go (nat_lt e.number u.number) (has_put e us n)
@@ -132,10 +127,6 @@ module _ (wait : ℕ) where
       go false t n ih = absurd (omega (arith, n, used_few past))
 
 -- ---- what came twice or late
-and_none : (b : Bool) → (b && false) ≡ false
-and_none true = refl
-and_none false = refl
-
 -- the same, by the first number of one packet more
 abbrev Firsts : Strays → List Numbered → ℕ → Type 0
 Firsts s past first = ((n : ℕ) → has s.late n ≡ is_late_number first past n) × (s.above ≡ distinct_from (suc first) past)

@@ -9,7 +9,7 @@ use Rattle.wire_spec.specs.declared.faults.TextFault.{TextFault}
 use Rattle.wire_spec.specs.declared.faults.TextFault.TheVariants.{Short, Version, Padding, Sources, WrongType, Cut, Many, Long, NotText, Foreign}
 use Rattle.wire_spec.specs.Packets.{Packet, Arrival}
 use Rattle.wire_spec.specs.Text.{text_of}
-use Rattle.wire_spec.specs.Dump.{Item, sent_item, arrived, latest, arrivals_after, arrivals_with}
+use Rattle.wire_spec.specs.Dump.{Item, sent_item, arrived, latest, arrivals_after}
 use Rattle.stream_spec.specs.Numbering.{numbered, number_it}
 use Rattle.view_spec.specs.Seen.{Reception}
 use Rattle.command_spec.specs.Firsts.{Firsts, firsts, with_name, with_names}
@@ -21,6 +21,7 @@ use Rattle.rtt_show.specs.declared.spreads.Spread.{Spread}
 use Rattle.rtt_show.specs.Finds.{one_if}
 use Rattle.report_spec.specs.Guesses.{is_ok}
 use Rattle.rtt_show.specs.declared.surveys.Survey.{Survey}
+use Rattle.wire_spec.proofs.Plain.{arrivals_more as after_more}
 
 pub least_more : (came : List Item) (item : Item) → least_time (came ++ item ∷ []) ≡ min (least_time came) item.time
 least_more [] item = omega arith
@@ -88,10 +89,6 @@ sources_more f (Err fault) = refl
 
 -- a packet more of the stream
 -- ---- the numbers
-pub after_more : (ssrc : ℕ) (payload_types : PayloadTypes) (before : List Arrival) (came : List Item) (item : Item) → arrivals_after ssrc payload_types before (came ++ item ∷ []) ≡ arrivals_with ssrc payload_types item (arrivals_after ssrc payload_types before came)
-after_more ssrc payload_types before [] item = refl
-after_more ssrc payload_types before (x ∷ came) item = after_more ssrc payload_types (arrivals_with ssrc payload_types x before) came item
-
 pub arrives_more : (payload_types : PayloadTypes) (ssrc : ℕ) (came : List Item) (at : ℕ) (octets : List ℕ)
     → arrivals_after ssrc payload_types [] (came ++ sent_item (at, octets) ∷ []) ≡ arrived at (text_of octets (Some ssrc) payload_types) (arrivals_after ssrc payload_types [] came)
 arrives_more payload_types ssrc came at octets = after_more ssrc payload_types [] came (sent_item (at, octets))

@@ -31,8 +31,3 @@ pub use heads::HeadReader;
 pub use rows::{Row, row_of};
 pub use shows::{gather, show_recording};
 pub use views::append_end;
-
-#[cfg(test)]
-mod start_tests;
-#[cfg(test)]
-mod tests;

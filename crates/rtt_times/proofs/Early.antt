@@ -22,13 +22,9 @@ use Rattle.report_spec.specs.Numbers.{Lost, Row, is_late, late, lost, lost_among
 use Rattle.report_spec.specs.Times as times
 use Rattle.report_spec.specs.Times.{chunk_lines, late_line, lost_line, number_lines, source_lines, text_lines}
 use Rattle.rtt_times.specs.Lines.{Line, at_of}
+use Rattle.stream_spec.proofs.Still.{in_map}
 
 -- ---- lists
-pub in_map : {X Y : Type 0} (f : X → Y) (y : Y) (xs : List X) → In y (map f xs) → (x : X) × In x xs × (y ≡ f x)
-in_map f y [] i = absurd i
-in_map f y (x ∷ xs) (inl e) = (x, inl refl, e)
-in_map f y (x ∷ xs) (inr i) = let r = in_map f y xs i in (r.0, inr r.1, r.2)
-
 pub in_flat : {X Y : Type 0} (f : X → List Y) (y : Y) (xs : List X) → In y (flat_map f xs) → (x : X) × In x xs × In y (f x)
 in_flat f y [] i = absurd i
 in_flat {X} {Y} f y (x ∷ xs) i = go (in_flat f y xs) (in_append y (f x) (flat_map f xs) i)

@@ -23,10 +23,11 @@ use Rattle.reorder_buffer.proofs.Steps.{tracks_with}
 use Rattle.receiver.specs.Hears.{IsToldOf, told}
 use Rattle.receiver.proofs.ReadyBy.{told_arrived}
 use Rattle.rtt_show.specs.Surveys.{firsts_of}
-use Rattle.rtt_show.proofs.Surveying.{after_more, firsts_more}
+use Rattle.rtt_show.proofs.Surveying.{firsts_more}
 use Rattle.rtt_times.specs.declared.stream_packets.TimedPacket.{TimedPacket}
 use Rattle.rtt_times.specs.declared.stream_packets.StreamPackets.{StreamPackets}
 use Rattle.rtt_times.specs.Heard.{Counts, Drains, Hearing, HearsOctets, HearsPacket, IsEmpty, IsHeard, Listening, came_in, due_in, number_from, with_given}
+use Rattle.wire_spec.proofs.Plain.{arrivals_more as after_more}
 
 -- ---- numbers
 high : (a : Arrival) (before : List Arrival) → 65536 ≤ greatest (numbered (a ∷ before))

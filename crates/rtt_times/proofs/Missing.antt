@@ -27,6 +27,7 @@ use Rattle.rtt_times.specs.Lines.{AddsLines, Line, written}
 use Rattle.rtt_show.proofs.Showing.{drop_at}
 use Rattle.rtt_times.proofs.Writing.{adds_both, adds_none, adds_same}
 use Rattle.rtt_times.specs.Numbers.{AddsBefore, AddsMissing, AddsNumbers, AreAbove, AreLateNumbers, IsLate, IsPart, came_line, due_number, gap_lines, has_due, has_one, late_among, late_lines, row_lines}
+use Rattle.stream_spec.proofs.Plain.{used_fits as used_few}
 
 -- ---- rows
 -- where two tell the same of the numbers, the same are missing
@@ -238,14 +239,6 @@ has_put e (u ∷ us) n = go (nat_lt e.number u.number) (has_put e us n)
     go : (b : Bool) → has_number (by_number e us) n ≡ ((e.number == n) || has_number us n) → has_number (cond b (e ∷ u ∷ us) (u ∷ by_number e us)) n ≡ ((e.number == n) || ((u.number == n) || has_number us n))
     go true h = refl
     go false h = ap (λ c. (u.number == n) || c) h ∙ swap (u.number == n) (e.number == n) (has_number us n)
-
-used_few : (wait : ℕ) (past : List Numbered) → length (used wait past) ≤ length past
-used_few wait [] = omega arith
-used_few wait (e ∷ past) = go (in_time wait e past) (used_few wait past)
-  where
-    go : (b : Bool) → length (used wait past) ≤ length past → length (cond b (by_number e (used wait past)) (used wait past)) ≤ suc (length past)
-    go true l = omega (arith, l, length_by_number e (used wait past))
-    go false l = omega (arith, l)
 
 none_late : (wait : ℕ) (past : List Numbered) → length (used wait past) ≡ length past → (more : List Numbered) → ((n : ℕ) → has_number (used wait past) n ≡ true → has_number more n ≡ true) → filter (is_late more) past ≡ []
 none_late wait [] l more h = refl

@@ -4,7 +4,6 @@ use Rattle.std.specs.Prelude.{All, Option, None, Some, codes}
 use Rattle.std.specs.List.{sum, AllByRecursion, filter_map}
 use Rattle.std.proofs.lemmas.List.Elements.{All-head, All-tail}
 use Rattle.std.proofs.lemmas.Grind.{flat_map-append}
-use Rattle.std.proofs.lemmas.List.Sums.{sum_by-append}
 use Rattle.std.proofs.lemmas.List.{map-append, length-map, get_or-map}
 use Rattle.rtt_base.specs.declared.text_packets.PayloadTypes.{PayloadTypes}
 use Rattle.wire_spec.specs.Dump.{Item, arrivals_after, sent_item}
@@ -33,8 +32,10 @@ use Rattle.report_spec.proofs.Ordered.{ordered_made}
 use Rattle.rtt_times.specs.declared.lines.Lines.{Lines}
 use Rattle.rtt_times.specs.Lines.{AddsLines, AreEarly, Keeps, Line, at_of, timed_line, timed_written, written}
 use Rattle.rtt_times.specs.Found.{AddsTexts, AreNumbered, AreTexted, HasNumbersAdded, IsFoundOf, IsPrintedOf, IsStream, IsTimedFrom, IsToldOf, NamesSources, all_numbers, all_texts, began_and_written, names, sources_of, sum_others}
-use Rattle.rtt_times.proofs.Early.{AreBy, after_by, in_flat, in_map, numbered_by, numbers_early, ordered_early, texts_early}
+use Rattle.rtt_times.proofs.Early.{AreBy, after_by, in_flat, numbered_by, numbers_early, ordered_early, texts_early}
 use Rattle.rtt_times.proofs.Writing.{adds_both, adds_none, adds_same}
+use Rattle.stream_spec.proofs.Still.{in_map}
+use Rattle.stream_spec.proofs.Plain.{sum_cons}
 
 -- ---- lists
 pub take_more : {X : Type 0} (xs : List X) (i : ℕ) (d : X) → i < length xs → take (i + 1) xs ≡ take i xs ++ get_or xs i d ∷ []
@@ -166,9 +167,6 @@ texted_end payload_types groups i named old now l h items few each e =
     adds_same old now _ _ (ap (all_texts payload_types items) (take_over (names groups) i (omega (arith, l, length-map groups (λ (group : Group). group.name))))) (h items few each e)
 
 -- ---- a recording
-sum_cons : (n : ℕ) (ns : List ℕ) → sum (n ∷ ns) ≡ n + sum ns
-sum_cons n ns = omega (arith, sum_by-append (λ x. x) (n ∷ []) ns)
-
 sum_of : (named : List FirstSources) → sum_others named ≡ sum (map (λ (f : Firsts). f.others) (map firsts_of named))
 sum_of [] = refl
 sum_of (n ∷ named) = sum_cons n.others (map (λ (x : FirstSources). x.others) named) ∙ (ap (λ k. n.others + k) (sum_of named) ∙ sym (sum_cons n.others (map (λ (f : Firsts). f.others) (map firsts_of named))))

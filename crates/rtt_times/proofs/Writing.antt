@@ -17,10 +17,10 @@ use Rattle.receiver.proofs.ReadyBy.{told_arrived}
 use Rattle.recording_views.specs.Writing.{IsBegunFor, asked_of}
 use Rattle.recording_views.proofs.Printing.{told_given, told_still}
 use Rattle.report_spec.specs.Times.{chunk_lines, source_lines}
-use Rattle.rtt_show.proofs.Surveying.{after_more}
 use Rattle.rtt_times.specs.declared.lines.Lines.{Lines}
 use Rattle.rtt_times.specs.Lines.{Line, AddsLines, Keeps, written, chunk_written}
 use Rattle.rtt_times.specs.Writing.{BeginsWriting, HasWritten, HasWrittenOf, Written, WritesEnd, WritesPacket, WritesReady, lines_of}
+use Rattle.wire_spec.proofs.Plain.{arrivals_more as after_more}
 
 -- ---- lines that are added
 pub adds_none : (l : Lines) → AddsLines l [] l

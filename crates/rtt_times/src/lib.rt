@@ -9,6 +9,3 @@ mod texts;
 mod times;
 
 pub use times::times_recording;
-
-#[cfg(test)]
-mod tests;

@@ -1,5 +1,5 @@
 -- How a conference that is mixed ends.
-use Rattle.std.proofs.Common.{◌≡◌, ℕ, zero, suc, ◌+◌, ◌<◌, ◌≤◌, Bool, true, false, cond, Some, List, [], ◌∷◌, ◌++◌, length, take, Ok, Err, refl, ap, sym, subst, ◌∙◌, inl, inr, arith}
+use Rattle.std.proofs.Common.{◌≡◌, ℕ, zero, suc, ◌+◌, ◌≤◌, Bool, true, false, cond, Some, List, [], ◌∷◌, ◌++◌, take, Ok, Err, refl, ap, sym, subst, ◌∙◌, inl, inr, arith}
 use Rattle.std.specs.Prelude.{◌⊎◌, IfErr, OnOk, OnErr, if◌then◌else◌}
 use Rattle.std.specs.Result.{is_err}
 use Rattle.rtpdump_io.specs.declared.items.DumpFault.{DumpFault}
@@ -11,7 +11,7 @@ use Rattle.command_spec.specs.declared.faults.Refusal.TheVariants.{AtByte, After
 use Rattle.command_spec.specs.declared.faults.Fault.{Fault}
 use Rattle.command_spec.specs.declared.faults.Fault.TheVariants.{WrongWords, CannotOpen, CannotRead, Refused, CannotPrint, CannotWrite, LinkFailed, NoMemory}
 use Rattle.command_spec.specs.Work.{Contents, Made, Makes, IsInput, IsOutput, IsNth}
-use Rattle.command_spec.specs.Outcomes.{outcome, Same, Stores, AllStored}
+use Rattle.command_spec.specs.Outcomes.{outcome, Same, AllStored}
 use Rattle.command_spec.specs.Outcomes as outcomes
 use Rattle.rtt_words.specs.Words.{Command}
 use Rattle.rtt_words.specs.Tasks.{work}
@@ -31,13 +31,10 @@ use Rattle.rtt_top.specs.Outside.{Outside, Output, Failed, CallFailed, ObjectFai
 use Rattle.rtt_top.specs.Runs.{Prints, PrintsFront, Unchanged, PartlyStored, Ends, NoneFailedBefore}
 use Rattle.rtt_top.proofs.Working.{done}
 use Rattle.rtt_top.proofs.Chain.{none_before, outcome_done, outcome_refused}
+use Rattle.command_spec.proofs.Plain.{stores_since}
+use Rattle.command_spec.proofs.SentBack.{below_legs as leg_within}
 
 -- ---- legs
-pub leg_within : (legs : List LegLine) (k : ℕ) (leg : LegLine) → leg_at legs k ≡ Some leg → k < length legs
-leg_within [] k leg at = absurd (cc at)
-leg_within (l ∷ legs) zero leg at = omega arith
-leg_within (l ∷ legs) (suc k) leg at = let below = leg_within legs k leg at in omega arith
-
 lie_below : (held : Contents) (legs : List LegLine) (n : ℕ) → AllLie held legs → LieBelow n held legs
 lie_below held legs n lie = λ k leg less at. lie k leg (leg_within legs k leg at) at
 
@@ -103,9 +100,6 @@ nth_output (l ∷ legs) [] n name nth = absurd nth
 nth_output (l ∷ legs) (o ∷ outs) zero name nth = (l, refl, nth)
 nth_output (l ∷ legs) (o ∷ outs) (suc n) name nth = nth_output legs outs n name nth
 
-stores_since : (file : Made) (old between new : Contents) → Same old between → Stores file between new → Stores file old new
-stores_since file old between new same s = record { stored = s.stored; others = λ name other. s.others name other ∙ same name }
-
 pub all_stored_since : (files : List Made) (old between new : Contents) → Same old between → AllStored files between new → AllStored files old new
 all_stored_since [] old between new same s = λ name. s name ∙ same name
 all_stored_since (f ∷ files) old between new same s = (s.0, stores_since f old between s.0 same s.1, s.2)
@@ -118,10 +112,6 @@ partly_since Call Object Call' Object' zero (file ∷ more) old between new f g 
     inr (g file.name p.0, (p.1.0, stores_since (record file { octets = take p.1.0 file.octets }) old between new same p.1.1))
 partly_since Call Object Call' Object' (suc n) (file ∷ more) old between new f g same p =
     (p.0, stores_since file old between p.0 same p.1, partly_since Call Object Call' Object' n more p.0 p.0 new f g (λ name. refl) p.2)
-
-either : (A B C D : Type 0) → (A → C) → (B → D) → A ⊎ B → C ⊎ D
-either A B C D f g (inl a) = inl (f a)
-either A B C D f g (inr b) = inr (g b)
 
 -- a world that lies between two others: nothing was changed, and no count fell
 pub record IsBetween (WorldTells : Type 0) (old new : Outside) (contents : Contents) (calls objects : List ℕ → ℕ) : Type 0 where

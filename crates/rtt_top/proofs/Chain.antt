@@ -1,6 +1,6 @@
 -- A conference whose inputs are read one after another.
 use Rattle.std.proofs.Common.{◌≡◌, ℕ, zero, suc, ◌+◌, ◌-◌, ◌<◌, ◌≤◌, Bool, true, false, Option, Some, None, List, [], ◌∷◌, length, get_or, refl, ap, sym, subst, ◌∙◌, arith}
-use Rattle.std.specs.Prelude.{IsSome, if◌then◌else◌, unwrap_or}
+use Rattle.std.specs.Prelude.{if◌then◌else◌}
 use Rattle.file_spec.specs.declared.conference_lines.LegLine.{LegLine}
 use Rattle.file_spec.specs.Conference.{Conference}
 use Rattle.mixer_spec.specs.Setups.{leg_at, setup}
@@ -19,10 +19,9 @@ use Rattle.rtt_mix.specs.Mixes.{WholeBelow, steps_of}
 use Rattle.rtt_top.specs.Faults.{NoneBefore}
 use Rattle.rtt_top.specs.Conferences.{ComesToMixing, input_name, input_of, steps_counted}
 use Rattle.rtt_top.proofs.Before.{none_broken, none_makes}
-
-some_under : (o : Option (List ℕ)) → IsSome o → o ≡ Some (unwrap_or o [])
-some_under None there = absurd (cc there)
-some_under (Some octets) there = refl
+use Rattle.mixer_spec.proofs.Conferences.{no_leg as leg_behind}
+use Rattle.command_spec.proofs.Outputs.{is_under as some_under}
+use Rattle.rtt_mix.proofs.Opening.{leg_read_at as leg_read}
 
 -- ---- the inputs
 pub leg_input : (WorldTells : Type 0) (held : Contents) (legs : List LegLine) (next : List (List ℕ) → Steps) (k : ℕ) (leg : LegLine) → leg_at legs k ≡ Some leg
@@ -95,16 +94,6 @@ none_before WorldTells held command c k m told lie whole =
     (none_counted (k + 1) held (length c.legs + 1) c inputs (none_broken held (length c.legs + 1) (input_limit c) 1 inputs (makes c table) k whole (none_makes held (length c.legs + 1) c table))))
 
 -- ---- a leg by its number
-pub leg_read : (legs : List LegLine) (k : ℕ) (leg : LegLine) → k < length legs → leg ≡ get_or legs k leg → leg_at legs k ≡ Some leg
-leg_read [] k leg less is = absurd (omega arith)
-leg_read (l ∷ legs) zero leg less is = ap Some (sym is)
-leg_read (l ∷ legs) (suc k) leg less is = leg_read legs k leg (omega arith) is
-
-pub leg_behind : (legs : List LegLine) (k : ℕ) → length legs ≤ k → leg_at legs k ≡ None
-leg_behind [] k more = refl
-leg_behind (l ∷ legs) zero more = absurd (omega arith)
-leg_behind (l ∷ legs) (suc k) more = leg_behind legs k (omega arith)
-
 pub input_at : (file : List ℕ) (legs : List LegLine) (n : ℕ) (leg : LegLine) → 0 < n → n ≤ length legs → leg ≡ get_or legs (n - 1) leg → leg.input ≡ input_name file legs n
 input_at file legs zero leg some within is = absurd (omega arith)
 input_at file legs (suc k) leg some within is =

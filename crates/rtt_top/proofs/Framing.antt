@@ -16,8 +16,6 @@ use Rattle.command_spec.specs.Outcomes as outcomes
 use Rattle.rtt_words.specs.Tasks.{recording_fault, saves_frames, sending_of, unless_broken, work}
 use Rattle.command_spec.specs.Frames.{channel, relay, relay_read}
 use Rattle.command_spec.specs.Scripts.{Sending}
-use Rattle.wire_spec.specs.declared.faults.DumpKind.{DumpKind}
-use Rattle.wire_spec.specs.declared.faults.DumpKind.TheVariants.{NotDump, BadLength, EndsInside, TooLong, TooLarge, Read}
 use Rattle.rtt_io.specs.Counts.{Rose}
 use Rattle.rtpdump_io.specs.declared.items.DumpFault.{DumpFault}
 use Rattle.rtpdump_io.specs.Reading.{is_of_source}
@@ -30,8 +28,10 @@ use Rattle.text_conversions.specs.RelayAnswers.{IsRelayCause}
 use Rattle.rtt_top.specs.Files.{IsFrontOf, IsReadOf, made_file}
 use Rattle.rtt_top.specs.Faults.{Stops}
 use Rattle.rtt_top.specs.Frames.{most_read, fault_of_channel, fault_of_relay}
-use Rattle.rtt_top.proofs.FrameFronts.{front_broken, front_read}
+use Rattle.rtt_top.proofs.FrameFronts.{front_broken}
 use Rattle.rtt_top.proofs.Working.{lies}
+use Rattle.file_spec.proofs.Fronts.{long_front as front_read}
+use Rattle.rtt_mix.proofs.Answering.{source_read as read_kind}
 
 -- ---- what was read of frames
 relay_front : (s : Sending) (octets whole : List ℕ) → IsFrontOf most_read octets whole → relay s whole ≡ relay s octets
@@ -69,14 +69,6 @@ relay_stops WorldTells held s Call Object octets relay_fault.NoMemory given e = 
 -- what comes of a recording
 channel_next : ChannelWords → List ℕ → Steps
 channel_next c octets = unless_broken (recording_fault octets) (saves_frames c.out (channel c.ssrc octets))
-
-read_kind : (kind : DumpKind) → is_of_source kind ≡ true → kind ≡ Read
-read_kind NotDump e = absurd (false≢true e)
-read_kind BadLength e = absurd (false≢true e)
-read_kind EndsInside e = absurd (false≢true e)
-read_kind TooLong e = absurd (false≢true e)
-read_kind TooLarge e = absurd (false≢true e)
-read_kind Read e = refl
 
 -- where the fault is one of reading, its source failed
 pub source_rose : {S : Type 0} (faults : S → ℕ) (old new : S) (fault : ChannelFault) → IsFailed faults old new fault

@@ -4,19 +4,9 @@ use Rattle.std.specs.Prelude.{OnOk, OnErr}
 use Rattle.std.specs.List.{concat}
 use Rattle.std.proofs.lemmas.List.{take_more}
 use Rattle.rtt_io.specs.Fronts.{TakesFront}
-
-take_front : (n : ℕ) (xs ys : List ℕ) → (m : ℕ) × (take n xs ≡ take m (xs ++ ys))
-take_front zero xs ys = (0, refl)
-take_front (suc n) [] ys = (0, refl)
-take_front (suc n) (x ∷ xs) ys = let r = take_front n xs ys in (suc r.0, ap (λ zs. x ∷ zs) r.1)
-
-take_behind : (n : ℕ) (xs ys : List ℕ) → (m : ℕ) × (xs ++ take n ys ≡ take m (xs ++ ys))
-take_behind n [] ys = (n, refl)
-take_behind n (x ∷ xs) ys = let r = take_behind n xs ys in (suc r.0, ap (λ zs. x ∷ zs) r.1)
-
--- a front of the first piece is one of both
-pub front_before : (old new first second : List ℕ) → TakesFront old new first → TakesFront old new (first ++ second)
-front_before old new first second f = let r = take_front f.0 first second in (r.0, f.1 ∙ ap (λ xs. old ++ xs) r.1)
+use Rattle.wire_spec.proofs.Plain.{front_behind as take_behind}
+use Rattle.sent_log.proofs.Passing.{front_before}
+use Rattle.rtt_check.proofs.Pieces.{pieces_more as both}
 
 -- the first piece, and behind it a front of the second
 pub front_behind : (old mid new first second : List ℕ) → mid ≡ old ++ first → TakesFront mid new second → TakesFront old new (first ++ second)
@@ -48,10 +38,6 @@ on_err P (Err b) p = p
 pub behind_err : {A B : Type 0} (old mid new first second : List ℕ) (result : Result A B) → mid ≡ old ++ first → OnErr result (TakesFront mid new second) → OnErr result (TakesFront old new (first ++ second))
 behind_err old mid new first second (Ok a) whole f = tt
 behind_err old mid new first second (Err b) whole f = front_behind old mid new first second whole f
-
--- two pieces, one after the other
-pub both : (old mid new first second : List ℕ) → mid ≡ old ++ first → new ≡ mid ++ second → new ≡ old ++ (first ++ second)
-both old mid new first second e f = f ∙ (ap (λ xs. xs ++ second) e ∙ append_assoc old first second)
 
 -- ---- pieces, one behind the other
 pub concat_push : (pieces : List (List ℕ)) (piece : List ℕ) → concat (pieces ++ piece ∷ []) ≡ concat pieces ++ piece

@@ -7,6 +7,7 @@ pub mod Ending
 pub mod Sending
 pub mod Histories
 pub mod Saving
+pub mod Taking
 pub mod Conferring
 pub mod Chain
 pub mod Bridging

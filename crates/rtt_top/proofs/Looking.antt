@@ -117,7 +117,7 @@ pub told_later : (WorldTells : Type 0) (held : Contents) (limit : ℕ) (conferen
 told_later WorldTells held limit conference leg legs told result off l t is = read_so WorldTells held limit conference leg legs told None off l t ∙ is
 
 -- ---- an input that is not read
-pub unread_at : {W S D : Type 0} (w : worlds.Ghosts W S D) (input : ℕ) (old new : W) (name : List ℕ) (fault : Fault) → IsUnreadIn w old new name fault
+pub unread_at : {W S D P : Type 0} (w : worlds.Ghosts W S D P) (input : ℕ) (old new : W) (name : List ℕ) (fault : Fault) → IsUnreadIn w old new name fault
     → (w.tells → SameBut name w.object_faults old new) → IsUnreadAt w input old new name (fault_at input fault)
 unread_at w input old new name WrongWords u other = absurd u
 unread_at w input old new name (CannotOpen n) u other = λ before same.
@@ -137,7 +137,7 @@ unread_at w input old new name (CannotWrite n) u other = absurd u
 unread_at w input old new name (LinkFailed leg) u other = absurd u
 unread_at w input old new name NoMemory u other = λ before same. tt
 
-pub where_map : {W S D : Type 0} (w : worlds.Ghosts W S D) (Is Js : ℕ → Type 0) (old new : W) (name : List ℕ) (fault : Fault) → ((n : ℕ) → Is n → Js n)
+pub where_map : {W S D P : Type 0} (w : worlds.Ghosts W S D P) (Is Js : ℕ → Type 0) (old new : W) (name : List ℕ) (fault : Fault) → ((n : ℕ) → Is n → Js n)
     → IsUnreadWhere w Is old new name fault → IsUnreadWhere w Js old new name fault
 where_map w Is Js old new name WrongWords f u = u
 where_map w Is Js old new name (CannotOpen n) f u = (f n u.0, u.1)
@@ -180,7 +180,7 @@ pub in_err : {A B : Type 0} {P Q : B → Type 0} (r : Result A B) → ((b : B) �
 in_err (Ok a) f p = tt
 in_err (Err b) f p = f b p
 
-same_through : {W S D : Type 0} (w : worlds.Ghosts W S D) (old mid new : W) → SameIn w old mid → SameIn w mid new → SameIn w old new
+same_through : {W S D P : Type 0} (w : worlds.Ghosts W S D P) (old mid new : W) → SameIn w old mid → SameIn w mid new → SameIn w old new
 same_through w old mid new p q = ((λ t n. q.0 t n ∙ p.0 t n), (λ n. q.1 n ∙ p.1 n), (λ n. q.2 n ∙ p.2 n))
 
 -- the first of the legs, and those behind it
@@ -189,40 +189,40 @@ first_and_more [] d some = absurd (omega arith)
 first_and_more (leg ∷ more) d some = ap (λ (l : List LegLine). leg ∷ l) (take_rest (leg ∷ more) 1)
 
 -- the leg stands behind another mixer
-pub unread_behind : {W S D : Type 0} (w : worlds.Ghosts W S D) (limit : ℕ) (conference : List ℕ) (leg : LegLine) (legs : List LegLine) (first : ℕ) (old new : W) (name : List ℕ) (fault : Fault) → is_on_trunk leg ≡ true
+pub unread_behind : {W S D P : Type 0} (w : worlds.Ghosts W S D P) (limit : ℕ) (conference : List ℕ) (leg : LegLine) (legs : List LegLine) (first : ℕ) (old new : W) (name : List ℕ) (fault : Fault) → is_on_trunk leg ≡ true
     → IsUnreadAmong w limit conference legs first old new name fault → IsUnreadAmong w limit conference (leg ∷ legs) first old new name fault
 unread_behind w limit conference leg legs first old new name fault on u = λ before same told.
     where_map w (IsInputFrom w.tells (w.contents before) (steps_of (looks_at limit conference legs told)) first name)
     (IsInputFrom w.tells (w.contents before) (steps_of (looks_at limit conference (leg ∷ legs) told)) first name) before new name fault
     (λ n i. input_behind w.tells (w.contents before) limit conference leg legs told first name n on i) (u before same told)
 
-pub looks_behind : {W S D : Type 0} (w : worlds.Ghosts W S D) (limit : ℕ) (conference : List ℕ) (leg : LegLine) (legs : List LegLine) (old : W) (found : Option Report) → is_on_trunk leg ≡ true
+pub looks_behind : {W S D P : Type 0} (w : worlds.Ghosts W S D P) (limit : ℕ) (conference : List ℕ) (leg : LegLine) (legs : List LegLine) (old : W) (found : Option Report) → is_on_trunk leg ≡ true
     → LooksAmongIn w limit conference legs old found → LooksAmongIn w limit conference (leg ∷ legs) old found
 looks_behind w limit conference leg legs old found on l = λ before same t told.
     told_behind w.tells (w.contents before) limit conference leg legs told (Some (told_of found told)) on (l before same t told)
 
 -- its IN is not read, or something is told of it
-pub unread_here : {W S D : Type 0} (w : worlds.Ghosts W S D) (limit : ℕ) (conference : List ℕ) (leg : LegLine) (legs : List LegLine) (input : ℕ) (old new : W) (name : List ℕ) (fault : Fault) → is_on_trunk leg ≡ false
+pub unread_here : {W S D P : Type 0} (w : worlds.Ghosts W S D P) (limit : ℕ) (conference : List ℕ) (leg : LegLine) (legs : List LegLine) (input : ℕ) (old new : W) (name : List ℕ) (fault : Fault) → is_on_trunk leg ≡ false
     → name ≡ leg.input → IsUnreadAt w input old new leg.input fault → IsUnreadAmong w limit conference (leg ∷ legs) input old new name fault
 unread_here w limit conference leg legs input old new name fault off named u = λ before same told.
     let Is : ℕ → Type 0 = IsInputFrom w.tells (w.contents before) (steps_of (looks_at limit conference (leg ∷ legs) told)) input leg.input in
     subst (λ n. IsUnreadWhere w (IsInputFrom w.tells (w.contents before) (steps_of (looks_at limit conference (leg ∷ legs) told)) input n) before new n fault) (sym named)
     (where_map w (λ n. n ≡ input) Is before new leg.input fault (λ n e. input_here w.tells (w.contents before) limit conference leg legs told input n off e) (u before same))
 
-pub looks_here : {W S D : Type 0} (w : worlds.Ghosts W S D) (limit : ℕ) (conference : List ℕ) (leg : LegLine) (legs : List LegLine) (old : W) (found : Report) → is_on_trunk leg ≡ false
+pub looks_here : {W S D P : Type 0} (w : worlds.Ghosts W S D P) (limit : ℕ) (conference : List ℕ) (leg : LegLine) (legs : List LegLine) (old : W) (found : Report) → is_on_trunk leg ≡ false
     → LooksAtIn w limit conference leg old (Some found) → LooksAmongIn w limit conference (leg ∷ legs) old (Some found)
 looks_here w limit conference leg legs old found off l = λ before same t told.
     told_here w.tells (w.contents before) limit conference leg legs told found off (l before same) t
 
 -- nothing is told of it
-pub unread_later : {W S D : Type 0} (w : worlds.Ghosts W S D) (limit : ℕ) (conference : List ℕ) (leg : LegLine) (legs : List LegLine) (first : ℕ) (old mid new : W) (name : List ℕ) (fault : Fault) → is_on_trunk leg ≡ false
+pub unread_later : {W S D P : Type 0} (w : worlds.Ghosts W S D P) (limit : ℕ) (conference : List ℕ) (leg : LegLine) (legs : List LegLine) (first : ℕ) (old mid new : W) (name : List ℕ) (fault : Fault) → is_on_trunk leg ≡ false
     → SameIn w old mid → LooksAtIn w limit conference leg old None → IsUnreadAmong w limit conference legs (first + 1) mid new name fault → IsUnreadAmong w limit conference (leg ∷ legs) first old new name fault
 unread_later w limit conference leg legs first old mid new name fault off step l u = λ before same told.
     where_map w (IsInputFrom w.tells (w.contents before) (steps_of (looks_at limit conference legs told)) (first + 1) name)
     (IsInputFrom w.tells (w.contents before) (steps_of (looks_at limit conference (leg ∷ legs) told)) first name) before new name fault
     (λ n i. input_later w.tells (w.contents before) limit conference leg legs told first name n off (l before same) i) (u before (same_through w before old mid same step) told)
 
-pub looks_later : {W S D : Type 0} (w : worlds.Ghosts W S D) (limit : ℕ) (conference : List ℕ) (leg : LegLine) (legs : List LegLine) (old mid : W) (found : Option Report) → is_on_trunk leg ≡ false
+pub looks_later : {W S D P : Type 0} (w : worlds.Ghosts W S D P) (limit : ℕ) (conference : List ℕ) (leg : LegLine) (legs : List LegLine) (old mid : W) (found : Option Report) → is_on_trunk leg ≡ false
     → SameIn w old mid → LooksAtIn w limit conference leg old None → LooksAmongIn w limit conference legs mid found → LooksAmongIn w limit conference (leg ∷ legs) old found
 looks_later w limit conference leg legs old mid found off step l m = λ before same t told.
     told_later w.tells (w.contents before) limit conference leg legs told (Some (told_of found told)) off (l before same) t (m before (same_through w before old mid same step) t told)
@@ -239,7 +239,7 @@ look_begun file octets told legs none is are =
     ∙ (ap (looks_at (most_of_input (legs_in octets)) octets (legs_in octets)) is
     ∙ sym (ap (λ (c : Option Conference). look_over c octets (report file octets)) none))
 
-pub told_whole : {W S D : Type 0} (w : worlds.Ghosts W S D) (world : W) (file octets : List ℕ) (told result : checking.Report) (legs : List LegLine) → links_in octets ≡ None → IsBegunIn w world file octets told legs → w.tells
+pub told_whole : {W S D P : Type 0} (w : worlds.Ghosts W S D P) (world : W) (file octets : List ℕ) (told result : checking.Report) (legs : List LegLine) → links_in octets ≡ None → IsBegunIn w world file octets told legs → w.tells
     → told_by (w.contents world) (looks_at (most_of_input legs) octets legs told) ≡ Some result → told_by (w.contents world) (look file) ≡ Some result
 told_whole w world file octets told result legs none b t is =
     let held = w.contents world in
@@ -248,7 +248,7 @@ told_whole w world file octets told result legs none b t is =
     ap P read.1 ∙ (ap (told_by held) (front_is file octets read.0 read.2 ∙ sym (look_begun file octets told legs none b.1 b.2)) ∙ is)
 
 -- an IN that is looked at is an input of the command
-input_of_file : {W S D : Type 0} (w : worlds.Ghosts W S D) (world : W) (words : CheckWords) (octets : List ℕ) (told : checking.Report) (legs : List LegLine) (name : List ℕ) (n : ℕ) → links_in octets ≡ None → IsBegunIn w world words.file octets told legs
+input_of_file : {W S D P : Type 0} (w : worlds.Ghosts W S D P) (world : W) (words : CheckWords) (octets : List ℕ) (told : checking.Report) (legs : List LegLine) (name : List ℕ) (n : ℕ) → links_in octets ≡ None → IsBegunIn w world words.file octets told legs
     → IsInputFrom w.tells (w.contents world) (steps_of (looks_at (most_of_input legs) octets legs told)) 1 name n → IsInput w.tells (w.contents world) (work (Check words)).steps n name
 input_of_file w world words octets told legs name n unlinked b i = elim (cases_lt MOST_CHECKED_OCTETS (length octets)) [
   | inl long ↦
@@ -268,7 +268,7 @@ look_handed : (octets conference : List ℕ) (told : checking.Report) (legs slic
 look_handed octets conference told legs slice limit are same most =
     ap (λ m. looks_at m conference slice told) most ∙ (ap (λ o. looks_at (most_of_input slice) o slice told) are ∙ ap (λ (l : List LegLine). looks_at (most_of_input l) octets l told) same)
 
-pub told_all : {W S D : Type 0} (w : worlds.Ghosts W S D) (old mid : W) (file octets conference : List ℕ) (told : checking.Report) (legs slice : List LegLine) (limit : ℕ) (found : Option Report) → links_in octets ≡ None → IsBegunIn w old file octets told legs
+pub told_all : {W S D P : Type 0} (w : worlds.Ghosts W S D P) (old mid : W) (file octets conference : List ℕ) (told : checking.Report) (legs slice : List LegLine) (limit : ℕ) (found : Option Report) → links_in octets ≡ None → IsBegunIn w old file octets told legs
     → conference ≡ octets → slice ≡ legs → limit ≡ most_of_input slice → SameIn w old mid → LooksAmongIn w limit conference slice mid found
     → w.tells → told_by (w.contents old) (look file) ≡ Some (told_of found told)
 told_all w old mid file octets conference told legs slice limit found none b are same most step l t =
@@ -281,7 +281,7 @@ none_failed c WorldTells old new n name is other k one less i later =
     other one (λ e. later n (omega arith) (subst (λ m. IsInputOf (Check c) WorldTells old n m) (sym e) is))
 
 -- it ends so where an IN is not read
-pub ends_unread : {W S D K : Type 0} (w : worlds.Ghosts W S D) (k : sinks.Ghosts K) (old new : W) (out : K) (words : CheckWords) (octets : List ℕ) (told : checking.Report) (legs : List LegLine) (name : List ℕ) (fault : Fault)
+pub ends_unread : {W S D P K : Type 0} (w : worlds.Ghosts W S D P) (k : sinks.Ghosts K) (old new : W) (out : K) (words : CheckWords) (octets : List ℕ) (told : checking.Report) (legs : List LegLine) (name : List ℕ) (fault : Fault)
     → links_in octets ≡ None → IsBegunIn w old words.file octets told legs
     → IsUnreadWhere w (IsInputFrom w.tells (w.contents old) (steps_of (looks_at (most_of_input legs) octets legs told)) 1 name) old new name fault
     → (w.tells → Same (w.contents old) (w.contents new)) → EndsAcross w k (Check words) old out new out name (Err fault)
@@ -297,7 +297,7 @@ ends_unread w k old new out words octets told legs name (CannotWrite n) none b u
 ends_unread w k old new out words octets told legs name (LinkFailed leg) none b u same = absurd u
 ends_unread w k old new out words octets told legs name NoMemory none b u same = ((λ shown. refl), same)
 
-pub ends_among : {W S D K : Type 0} (w : worlds.Ghosts W S D) (k : sinks.Ghosts K) (old mid new : W) (out : K) (words : CheckWords) (octets conference : List ℕ) (told : checking.Report) (legs slice : List LegLine) (limit : ℕ) (name : List ℕ) (fault : Fault)
+pub ends_among : {W S D P K : Type 0} (w : worlds.Ghosts W S D P) (k : sinks.Ghosts K) (old mid new : W) (out : K) (words : CheckWords) (octets conference : List ℕ) (told : checking.Report) (legs slice : List LegLine) (limit : ℕ) (name : List ℕ) (fault : Fault)
     → links_in octets ≡ None → IsBegunIn w old words.file octets told legs → conference ≡ octets → slice ≡ legs → limit ≡ most_of_input slice → SameIn w old mid → IsUnreadAmong w limit conference slice 1 mid new name fault
     → (w.tells → Same (w.contents old) (w.contents new)) → EndsAcross w k (Check words) old out new out name (Err fault)
 ends_among w k old mid new out words octets conference told legs slice limit name fault none b are same most step u kept =
@@ -306,7 +306,7 @@ ends_among w k old mid new out words octets conference told legs slice limit nam
     kept
 
 -- and where the file is not
-pub ends_stopped : {W S D K : Type 0} (w : worlds.Ghosts W S D) (k : sinks.Ghosts K) (old new : W) (out : K) (words : CheckWords) (fault : Fault) → StopsOver w old new words.file (Check words) fault
+pub ends_stopped : {W S D P K : Type 0} (w : worlds.Ghosts W S D P) (k : sinks.Ghosts K) (old new : W) (out : K) (words : CheckWords) (fault : Fault) → StopsOver w old new words.file (Check words) fault
     → (w.tells → Same (w.contents old) (w.contents new)) → EndsAcross w k (Check words) old out new out words.file (Err fault)
 ends_stopped w k old new out words fault stops kept =
     subst (λ name. EndsAcross w k (Check words) old out new out name (Err fault)) (same_name words.file (Err fault))

@@ -16,9 +16,9 @@ use Rattle.command_spec.proofs.Outputs.{attended_output, is_output}
 use Rattle.command_spec.proofs.SameFiles.{HaveFilesOf, back, same_inputs, same_many, there}
 use Rattle.rtt_mix.specs.Mixes.{steps_of}
 use Rattle.rtt_top.specs.Conferences.{ComesToMixing, steps_counted}
-use Rattle.rtt_top.proofs.Bridging.{leg_within}
 use Rattle.rtt_top.proofs.Chain.{chain, leg_input}
 use Rattle.rtt_top.proofs.Working.{lies}
+use Rattle.command_spec.proofs.SentBack.{below_legs as leg_within}
 
 -- something lies under the input of each leg
 each_lies : (held : Contents) (legs : List LegLine) → AllLie held legs → (k : ℕ) (leg : LegLine) → leg_at legs k ≡ Some leg → IsSome (held leg.input)

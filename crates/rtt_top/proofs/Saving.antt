@@ -16,6 +16,7 @@ use Rattle.rtt_mix.specs.Mixes.{outputs_of}
 use Rattle.rtt_top.specs.Outputs.{IsUnwritten}
 use Rattle.rtt_top.specs.Outside.{RoseAt}
 use Rattle.rtt_top.proofs.Counts.{rose_since}
+use Rattle.wire_spec.proofs.Plain.{either}
 
 -- what is stored is what was taken, which is all of this
 pub stores_all : {A B : Type 0} (r : Result A B) (stored took all : List ℕ) → OnOk r (stored ≡ took) → OnOk r (took ≡ all) → OnOk r (stored ≡ all)
@@ -83,10 +84,6 @@ take_whole (leg ∷ legs) (o ∷ more) zero l = absurd (omega arith)
 take_whole (leg ∷ legs) (o ∷ more) (suc n) l = ap (λ xs. file_of leg o ∷ xs) (take_whole legs more n (omega arith))
 
 -- ---- a file that could not be written
-either : (A B C D : Type 0) → (A → C) → (B → D) → A ⊎ B → C ⊎ D
-either A B C D f g (inl a) = inl (f a)
-either A B C D f g (inr b) = inr (g b)
-
 partly_since : (Call Object CallNow ObjectNow : Type 0) (file : Made) (old new : Contents) → (CallNow → Call) → (ObjectNow → Object)
     → IsPartlyStored CallNow ObjectNow file old new → IsPartlyStored Call Object file old new
 partly_since Call Object CallNow ObjectNow file old new f g (inl p) = inl (f p.0, p.1)

@@ -26,6 +26,8 @@ use Rattle.rtt_top.proofs.Counts.{rose_since}
 use Rattle.rtt_top.proofs.Working.{lies, refuses_of, done}
 use Rattle.rtt_top.proofs.Lying.{lying_octets}
 use Rattle.file_spec.specs.declared.limits.TheConstants.{MOST_SCRIPT_OCTETS}
+use Rattle.wire_spec.proofs.Plain.{either}
+use Rattle.command_spec.proofs.Plain.{stores_since as stores_after}
 
 -- ---- what was read is a script
 too_large : (octets : List ℕ) → MOST_SCRIPT_OCTETS < length octets → script octets ≡ Err (record { line = 0; kind = Large })
@@ -87,19 +89,12 @@ module _ (c : Command) (input out : List ℕ) (next : List ℕ → Steps) (is_wo
       → IsOutput WorldTells held (work c).steps 0 out × (WorldTells → outcome held (work c).steps ≡ Done [] (made_file out file ∷ []))
   only_makes WorldTells held octets file t e = (output_is WorldTells held octets file t e, λ told. made_of held octets file (t told) e)
 
-stores_after : (file : Made) (old between new : Contents) → Same old between → Stores file between new → Stores file old new
-stores_after file old between new same stores = record { stored = stores.stored; others = λ name other. stores.others name other ∙ same name }
-
 -- what was changed before the file is made is nothing
 partly_after : (Call Object CallBefore ObjectBefore : Type 0) (file : Made) (old between new : Contents) → (CallBefore → Call) → (ObjectBefore → Object) → Same old between
     → IsPartlyStored CallBefore ObjectBefore file between new → IsPartlyStored Call Object file old new
 partly_after Call Object CallBefore ObjectBefore file old between new f g same (inl p) = inl (f p.0, λ name. p.1 name ∙ same name)
 partly_after Call Object CallBefore ObjectBefore file old between new f g same (inr p) =
     inr (g p.0, (p.1.0, stores_after (record file { octets = take p.1.0 file.octets }) old between new same p.1.1))
-
-either : (A B C D : Type 0) → (A → C) → (B → D) → A ⊎ B → C ⊎ D
-either A B C D f g (inl a) = inl (f a)
-either A B C D f g (inr b) = inr (g b)
 
 append_none : (xs : List ℕ) → xs ≡ xs ++ []
 append_none [] = refl

@@ -1,6 +1,6 @@
 -- A command whose first part changed nothing outside ends as its second part does.
-use Rattle.std.proofs.Common.{◌≡◌, ℕ, zero, suc, ◌+◌, true, Option, Some, None, List, [], ◌++◌, length, take, Ok, Err, refl, ap, sym, subst, ◌∙◌, inl, inr}
-use Rattle.std.specs.Prelude.{◌⊎◌, IsSome}
+use Rattle.std.proofs.Common.{◌≡◌, ℕ, zero, suc, ◌+◌, true, Option, Some, None, List, ◌++◌, length, take, Ok, Err, refl, ap, sym, subst, ◌∙◌}
+use Rattle.std.specs.Prelude.{IsSome}
 use Rattle.file_spec.specs.Conference.{Conference}
 use Rattle.command_spec.specs.declared.faults.Refusal.{Refusal}
 use Rattle.command_spec.specs.declared.faults.Refusal.TheVariants.{AtByte, AtFrame, AtLine, AtTrunk, AfterTurns}
@@ -8,7 +8,7 @@ use Rattle.command_spec.specs.declared.faults.Fault.TheVariants.{WrongWords, Can
 use Rattle.rtt_words.specs.Words.{Command}
 use Rattle.rtt_words.specs.Tasks.{work}
 use Rattle.command_spec.specs.Work.{Contents, Made, Steps, Reads, Refuses, Makes, Serves, IsInput, IsOutput, ServesSome}
-use Rattle.command_spec.specs.Outcomes.{Outcome, Missing, Done, Served, outcome, outcome_from, IsDone, Same, AllStored}
+use Rattle.command_spec.specs.Outcomes.{Outcome, Missing, outcome, outcome_from, IsDone, Same, AllStored}
 use Rattle.command_spec.specs.Outcomes as outcomes
 use Rattle.command_spec.specs.Messages.{Ending}
 use Rattle.file_spec.specs.declared.conference_lines.LegLine.{LegLine}
@@ -21,6 +21,8 @@ use Rattle.rtt_top.specs.Ports.{LegFailed}
 use Rattle.rtt_top.specs.Runs.{Prints, PrintsFront, Unchanged, PartlyStored, Ends, IsInputOf, NoneFailed, NoneFailedBefore, outcome_of}
 use Rattle.rtt_top.proofs.Counts.{rose_since}
 use Rattle.rtt_top.proofs.Bridging.{IsBetween, all_stored_since, partly_since}
+use Rattle.wire_spec.proofs.Plain.{either}
+use Rattle.command_spec.proofs.Plain.{done_map}
 
 -- ---- files
 input_since : (WorldTells : Type 0) (old mid : Contents) → (WorldTells → Same old mid) → (steps : Steps) (n : ℕ) (file : List ℕ) → IsInput WorldTells mid steps n file → IsInput WorldTells old steps n file
@@ -59,12 +61,6 @@ outcome_since old mid same n (Reads name next) =
 outcome_since old mid same n (Refuses input refusal) = refl
 outcome_since old mid same n (Makes printed files) = refl
 outcome_since old mid same n (Serves c) = refl
-
-done_map : (o : Outcome) (P Q : List ℕ → List Made → Type 0) → ((printed : List ℕ) (files : List Made) → P printed files → Q printed files) → IsDone o P → IsDone o Q
-done_map (Missing n) P Q f d = absurd d
-done_map (outcomes.Refused n refusal) P Q f d = absurd d
-done_map (Done printed files) P Q f d = f printed files d
-done_map (Served c) P Q f d = (d.0, f d.0 [] d.1)
 
 outcome_where : (WorldTells : Type 0) (old mid : Contents) → (WorldTells → Same old mid) → (steps : Steps) → WhereRead steps WorldTells → outcome mid steps ≡ outcome old steps
 outcome_where WorldTells old mid same (Reads name next) t = outcome_since old mid (same t) 0 (Reads name next)
@@ -105,10 +101,6 @@ comes_since WorldTells old mid same command c m = record {
     lies_back told n lie k leg less at = subst (λ o. IsSome o) (same told leg.input) (lie k leg less at)
 
 -- ---- ends
-either : (A B C D : Type 0) → (A → C) → (B → D) → A ⊎ B → C ⊎ D
-either A B C D f g (inl a) = inl (f a)
-either A B C D f g (inr b) = inr (g b)
-
 call_since : (WorldTells : Type 0) (old mid new : Outside) → IsBetween WorldTells old mid mid.contents mid.calls mid.objects → (name : List ℕ) → CallFailed mid new name → CallFailed old new name
 call_since WorldTells old mid new b name r = rose_since (old.calls name) (mid.calls name) (new.calls name) (b.calls_rise name) r
 

@@ -13,7 +13,8 @@ use Rattle.view_spec.specs.TextViews.{is_direction}
 use Rattle.report_spec.specs.Told.{told_character, told_name}
 use Rattle.rtt_top.specs.Sinks.{is_plain_octet}
 use Rattle.rtt_io.specs.Fronts.{TakesFront}
-use Rattle.rtt_top.proofs.Fronts.{both, concat_push, front_at}
+use Rattle.rtt_top.proofs.Fronts.{concat_push, front_at}
+use Rattle.rtt_check.proofs.Pieces.{pieces_more as both}
 
 -- what is told of each character
 abbrev pub told_pieces : List ℕ → List (List ℕ)

@@ -24,7 +24,7 @@ use Rattle.rtt_top.specs.Trials.{IsTold, RunsLook}
 use Rattle.rtt_top.proofs.Looking.{front_is, same_told}
 
 -- ---- a conference of links
-module _ {W S D : Type 0} (w : worlds.Ghosts W S D) (world : W) (file octets : List ℕ) (told : checking.Report) (legs : List LegLine) (c : Conference) where
+module _ {W S D P : Type 0} (w : worlds.Ghosts W S D P) (world : W) (file octets : List ℕ) (told : checking.Report) (legs : List LegLine) (c : Conference) where
   pub tried_told : (answers : Answers) → IsBegunIn w world file octets told legs → links_in octets ≡ Some c → w.tells
       → told_over answers (w.contents world) (look file) ≡ Some (ports_told answers octets c told)
   tried_told answers b is t =
@@ -164,7 +164,7 @@ stops_unprinted WorldTells held c Call Object (CannotWrite n) s e = s
 stops_unprinted WorldTells held c Call Object (LinkFailed leg) s e = omega (arith, e)
 stops_unprinted WorldTells held c Call Object NoMemory s e = omega (arith, e)
 
-unread_unprinted : {W S D : Type 0} (w : worlds.Ghosts W S D) (Is : ℕ → Type 0) (old new : W) (name : List ℕ) (f : Fault) → IsUnreadWhere w Is old new name f → fault_status f ≡ 7 → ⊥
+unread_unprinted : {W S D P : Type 0} (w : worlds.Ghosts W S D P) (Is : ℕ → Type 0) (old new : W) (name : List ℕ) (f : Fault) → IsUnreadWhere w Is old new name f → fault_status f ≡ 7 → ⊥
 unread_unprinted w Is old new name WrongWords u e = u
 unread_unprinted w Is old new name (CannotOpen n) u e = omega (arith, e)
 unread_unprinted w Is old new name (CannotRead n) u e = omega (arith, e)
@@ -179,7 +179,7 @@ pub stopped_untold : (w : CheckWords) (WorldTells OutTells PortsTell Call Object
 stopped_untold w WorldTells OutTells PortsTell Call Object answers held before after f status s is =
     λ t p r here. untold r OutTells before after f status is (stops_unprinted WorldTells held (Check w) Call Object f s)
 
-pub unread_untold : {W S D : Type 0} (g : worlds.Ghosts W S D) (Is : ℕ → Type 0) (old new : W) (name : List ℕ) (w : CheckWords) (OutTells PortsTell : Type 0) (answers : Answers) (before after : Output) (f : Fault) (status : ℕ)
+pub unread_untold : {W S D P : Type 0} (g : worlds.Ghosts W S D P) (Is : ℕ → Type 0) (old new : W) (name : List ℕ) (w : CheckWords) (OutTells PortsTell : Type 0) (answers : Answers) (before after : Output) (f : Fault) (status : ℕ)
     → IsUnreadWhere g Is old new name f → status ≡ fault_status f → RunsLook (Some (Check w)) g.tells OutTells PortsTell answers (g.contents old) before after status
 unread_untold g Is old new name w OutTells PortsTell answers before after f status u is =
     λ t p r here. untold r OutTells before after f status is (unread_unprinted g Is old new name f u)

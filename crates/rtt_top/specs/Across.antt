@@ -8,12 +8,12 @@ use Rattle.rtt_top.specs.Outside.{outside_at, output_at}
 use Rattle.rtt_top.specs.Runs.{Ends, Runs}
 
 -- this command ends so, where the file or the leg that is told of has this name
-abbrev pub EndsAcross : {W S D K : Type 0} → worlds.Ghosts W S D → sinks.Ghosts K → Command → W → K → W → K
+abbrev pub EndsAcross : {W S D P K : Type 0} → worlds.Ghosts W S D P → sinks.Ghosts K → Command → W → K → W → K
     → List ℕ → Ending → Type 0
 EndsAcross w k c old out new out_then name ending = Ends c w.tells k.tells (outside_at w k old out) (outside_at w k new out_then) name ending
 
 -- a run of this command ends with this status, where errors are told to the last output
-abbrev pub RunsAcross : {W S D K E : Type 0} → worlds.Ghosts W S D → sinks.Ghosts K → sinks.Ghosts E → Command
+abbrev pub RunsAcross : {W S D P K E : Type 0} → worlds.Ghosts W S D P → sinks.Ghosts K → sinks.Ghosts E → Command
     → W → K → E → W → K → E → ℕ → Type 0
 RunsAcross w k e c old out err new out_then err_then status =
     Runs (Some c) w.tells k.tells e.tells (outside_at w k old out) (outside_at w k new out_then) (output_at e err) (output_at e err_then) status

@@ -142,7 +142,7 @@ serving_of file = Live (record { conference = file })
 abbrev pub NamesOutputs : List LegLine → (Ending → List ℕ) → Type 0
 NamesOutputs legs name = (n : ℕ) (leg : LegLine) → leg_at legs n ≡ Some leg → name (Err (CannotWrite n)) ≡ leg.output
 
-module _ {W S D K : Type 0} (w : worlds.Ghosts W S D) (k : sinks.Ghosts K) where
+module _ {W S D P K : Type 0} (w : worlds.Ghosts W S D P) (k : sinks.Ghosts K) where
   -- Any command that makes these outputs ends so, however its files are named.
   abbrev pub OutputsEnd : W → K → W → K → List LegLine → Mixed → Ending → Type 0
   OutputsEnd old out new out_then legs mixed ending =

@@ -6,6 +6,7 @@ pub mod Runs
 pub mod Lives
 pub mod Trials
 pub mod Outputs
+pub mod Parts
 pub mod Across
 pub mod Conferences
 pub mod Makings

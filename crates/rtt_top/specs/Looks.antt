@@ -44,7 +44,7 @@ abbrev pub LooksAt : (WorldTells : Type 0) → Contents → ℕ → List ℕ →
 LooksAt WorldTells held limit conference leg found = (octets : List ℕ) × (WorldTells → held leg.input ≡ Some octets)
     × (option_map as_told found ≡ leg_told limit conference leg octets)
 
-module _ {W S D : Type 0} (w : worlds.Ghosts W S D) where
+module _ {W S D P : Type 0} (w : worlds.Ghosts W S D P) where
   -- nothing was changed, and no count rose
   abbrev pub SameIn : W → W → Type 0
   SameIn old new = (w.tells → Same (w.contents old) (w.contents new)) × names.Same w.own_faults old new × names.Same w.object_faults old new

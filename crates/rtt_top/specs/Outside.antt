@@ -49,7 +49,7 @@ abbrev pub output_at : {K : Type 0} → sinks.Ghosts K → K → Output
 output_at k out = output (k.took out) (k.faults out)
 
 -- what lies outside, where this is the world and this the output
-abbrev pub outside_at : {W S D K : Type 0} → worlds.Ghosts W S D → sinks.Ghosts K → W → K → Outside
+abbrev pub outside_at : {W S D P K : Type 0} → worlds.Ghosts W S D P → sinks.Ghosts K → W → K → Outside
 outside_at w k world out = outside (w.contents world) (w.own_faults world) (w.object_faults world) (output_at k out)
 
 -- what these links left
@@ -69,7 +69,7 @@ abbrev pub with_links : Outside → LinksLeft → Outside
 with_links o left = record o { links = left }
 
 -- what lies outside, where this is the world, this the output and these the links
-abbrev pub outside_over : {W S D K L I O C : Type 0} → worlds.Ghosts W S D → sinks.Ghosts K
+abbrev pub outside_over : {W S D P K L I O C : Type 0} → worlds.Ghosts W S D P → sinks.Ghosts K
     → links.Ghosts L I O C → W → K → L → Outside
 outside_over w k l world out left = with_links (outside_at w k world out) (left_by l left)
 

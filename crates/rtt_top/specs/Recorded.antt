@@ -17,7 +17,7 @@ asked_as Plain m = Mix m
 asked_as Attending m = Attend m
 
 -- It ends so where the file of any name has this conference; its legs are these then.
-abbrev pub MixingEndsAs : {W S D K : Type 0} → MixMode → worlds.Ghosts W S D → sinks.Ghosts K → W → K → W → K
+abbrev pub MixingEndsAs : {W S D P K : Type 0} → MixMode → worlds.Ghosts W S D P → sinks.Ghosts K → W → K → W → K
     → Conference → Conference → Ending → Type 0
 MixingEndsAs mixing w k old out new out_then c now ending =
     (file octets : List ℕ) → (w.tells → w.contents old file ≡ Some octets) → conference_from Files octets ≡ Ok c

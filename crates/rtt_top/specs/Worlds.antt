@@ -24,7 +24,7 @@ use Rattle.rtt_top.specs.Outputs.{IsUnwritten}
 abbrev pub SendMakes : SendWords → List ℕ → List ℕ → Type 0
 SendMakes s octets file = sends s (script octets) ≡ Makes [] (made_file s.out file ∷ [])
 
-module _ {W S D : Type 0} (w : worlds.Ghosts W S D) where
+module _ {W S D P : Type 0} (w : worlds.Ghosts W S D P) where
   -- ---- what failed
   -- a call that opens or creates this name failed
   abbrev pub CallFailedIn : W → W → List ℕ → Type 0

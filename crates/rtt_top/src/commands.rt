@@ -28,7 +28,8 @@ pub fn carry_out_plain<W: World, K: Sink, E: Sink>(
     err: &mut E,
 ) -> Option<u8>
     ensures plain { is_some result ≡ is_plain (Some (meaning command.now)) }
-    ensures runs { IfSome result (RunsAcross W.World K.Sink E.Sink (meaning command.now) world.old out.old err.old world.new out.new err.new) }
+    ensures runs { IfSome result (RunsAcross W.World K.Sink E.Sink
+        (meaning command.now) world.old out.old err.old world.new out.new err.new) }
     ensures same { result ≡ None → (world.new ≡ world.old) × (out.new ≡ out.old) × (err.new ≡ err.old) }
 {
     match command {
@@ -88,7 +89,8 @@ pub fn carry_out<R: Threads + Wait + Sync, W: World, K: Sink, E: Sink, G: Gate +
 ) -> u8
     requires live { is_live (meaning command.now) ≡ false }
     requires check { is_check (meaning command.now) ≡ false }
-    ensures { RunsAcross W.World K.Sink E.Sink (meaning command.now) world.old out.old err.old world.new out.new err.new result }
+    ensures { RunsAcross W.World K.Sink E.Sink
+        (meaning command.now) world.old out.old err.old world.new out.new err.new result }
 {
     if let Some(status) = carry_out_plain(alloc, command, world, out, err) {
         return status;

@@ -1,5 +1,5 @@
 //! Whole files: read, refused, and written.
-ghost use Rattle.std.specs.Prelude.{◌≡◌, ◌<◌, ◌≤◌, ◌++◌, length, OnOk, OnErr, IfOk, IfErr};
+ghost use Rattle.std.specs.Prelude.{◌≡◌, ◌<◌, ◌≤◌, ◌++◌, length, OnOk, OnErr, IfOk, IfErr, IfSome};
 ghost use Rattle.rtt_io.specs.Counts.{Rose};
 ghost use Rattle.rtt_io.specs.Fronts.{TakesFront};
 ghost use Rattle.rtt_io.specs.Names.{NoneFalls, Same as KeepsCounts, SameBut};
@@ -156,7 +156,7 @@ pub fn save_output<W: World>(
 }
 
 /// Creates the output of this number anew, with the recording of what was sent to the terminal of that number, and stores it.
-pub(crate) fn save_recording<W: World>(
+fn save_recording<W: World>(
     output: u32,
     name: &str,
     files: &mut SentFiles,
@@ -179,5 +179,49 @@ pub(crate) fn save_recording<W: World>(
     match written {
         Ok(()) => Ok(()),
         Err(Failed) => Err(Fault::CannotWrite { output }),
+    }
+}
+
+/// Creates the output of this number anew, with all that this part took, and stores it.
+fn save_part<W: World>(output: u32, name: &str, part: W::Part, world: &mut W) -> Result<(), Fault>
+    ensures fault { IfErr result (λ fault. fault ≡ Fault.CannotWrite output) }
+    ensures saved { W.tells → OnOk result (Saves W.World world.old world.new name.now (W.Part.took part)) }
+    ensures cause { OnErr result (FailedIn W.World world.old world.new name.now) }
+    ensures partly { W.tells → OnErr result (SavesPartly W.World world.old world.new name.now (W.Part.took part)) }
+    ensures calls_never_fall { NoneFalls W.own_faults world.old world.new }
+    ensures objects_never_fall { NoneFalls W.object_faults world.old world.new }
+{
+    let Ok(mut sink) = world.create_sink(name) else {
+        return Err(Fault::CannotWrite { output });
+    };
+    let given = world.give(part, &mut sink);
+    world.done_dst(sink);
+    match given {
+        Ok(()) => Ok(()),
+        Err(Failed) => Err(Fault::CannotWrite { output }),
+    }
+}
+
+/// The same of the recording of what was sent to the terminal of that number, which this part took, where there is one.
+pub(crate) fn save_leg<W: World>(
+    output: u32,
+    name: &str,
+    part: Option<W::Part>,
+    files: &mut SentFiles,
+    world: &mut W,
+) -> Result<(), Fault>
+    requires output { output < length files.old }
+    requires part { W.tells → IfSome part (λ part. W.Part.took part ≡ recording_at files.old output) }
+    ensures same { files.new ≡ files.old }
+    ensures fault { IfErr result (λ fault. fault ≡ Fault.CannotWrite output) }
+    ensures saved { W.tells → OnOk result (Saves W.World world.old world.new name.now (recording_at files.old output)) }
+    ensures cause { OnErr result (FailedIn W.World world.old world.new name.now) }
+    ensures partly { W.tells → OnErr result (SavesPartly W.World world.old world.new name.now (recording_at files.old output)) }
+    ensures calls_never_fall { NoneFalls W.own_faults world.old world.new }
+    ensures objects_never_fall { NoneFalls W.object_faults world.old world.new }
+{
+    match part {
+        Some(part) => save_part(output, name, part, world),
+        None => save_recording(output, name, files, world),
     }
 }

@@ -26,12 +26,3 @@ mod views;
 
 pub use messages::finish_with;
 pub use runs::{run, run_plain};
-
-#[cfg(test)]
-mod failures;
-#[cfg(test)]
-mod hostile;
-#[cfg(test)]
-mod plays;
-#[cfg(test)]
-mod tests;

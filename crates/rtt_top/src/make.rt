@@ -91,7 +91,8 @@ pub fn run_make<R: Threads + Wait + Sync, W: World, K: Sink, E: Sink, G: Gate + 
     err: &mut E,
     gate: &G,
 ) -> u8
-    ensures { RunsAcross W.World K.Sink E.Sink (Make (record { number = number })) world.now out.old err.old world.now out.new err.new result }
+    ensures { RunsAcross W.World K.Sink E.Sink
+        (Make (record { number = number })) world.now out.old err.old world.now out.new err.new result }
 {
     let ending = make(rt, alloc, number, world, out, gate);
     finish_with(ending, "", err)

@@ -69,10 +69,12 @@ pub fn run<
     gate: &G,
 ) -> u8
     ensures runs { Runs (asked_by words.now) W.tells K.tells E.tells
-        (outside_over W.World K.Sink L.Links world.old out.old links.old) (outside_over W.World K.Sink L.Links world.new out.new links.new)
+        (outside_over W.World K.Sink L.Links world.old out.old links.old)
+        (outside_over W.World K.Sink L.Links world.new out.new links.new)
         (output_at E.Sink err.old) (output_at E.Sink err.new) result }
     ensures call { RunsCall (asked_by words.now) W.tells K.tells L.tells
-        (outside_over W.World K.Sink L.Links world.old out.old links.old) (outside_over W.World K.Sink L.Links world.new out.new links.new) result }
+        (outside_over W.World K.Sink L.Links world.old out.old links.old)
+        (outside_over W.World K.Sink L.Links world.new out.new links.new) result }
     ensures offline { uses_no_link (asked_by words.now) result ≡ true → links.new ≡ links.old }
     ensures looks { RunsLook (asked_by words.now) W.tells K.tells P.tells (P.answers ports.old) (W.contents world.old)
         (output_at K.Sink out.old) (output_at K.Sink out.new) result }

@@ -86,7 +86,7 @@ fn cascade_conference<R: Threads + Wait + Sync, W: World, K: Sink, G: Gate + Syn
         Ok(mixed) => mixed,
         Err(fault) => return Err(fault_of_cascade(conference.turns, fault)),
     };
-    make_outputs(conference.legs.as_slice(), mixed, world, out)
+    make_outputs(rt, alloc, conference.legs.as_slice(), mixed, world, out)
 }
 
 /// `cascade`: mixes the conference of a file behind another mixer, and answers the status.
@@ -99,7 +99,8 @@ pub fn run_cascade<R: Threads + Wait + Sync, W: World, K: Sink, E: Sink, G: Gate
     err: &mut E,
     gate: &G,
 ) -> u8
-    ensures { RunsAcross W.World K.Sink E.Sink (Cascade (cascaded words.now)) world.old out.old err.old world.new out.new err.new result }
+    ensures { RunsAcross W.World K.Sink E.Sink
+        (Cascade (cascaded words.now)) world.old out.old err.old world.new out.new err.new result }
 {
     let conference = match conference_under(alloc, words.conference, Form::Files, world) {
         Ok(conference) => conference,

@@ -15,7 +15,8 @@ use Rattle.clap.specs.Words.{is_simple_and_free}
 use Rattle.clap.specs.Faults.{built_fault, defaults_fault, fault_of}
 use Rattle.rtt_words.specs.Apps.{IsForm, Texts, channel_app, channel_given, help_app, help_given, list_app, list_given, make_app, make_given, mix_app, mix_given, read_app, read_given, send_app, send_given, version_app, version_given}
 use Rattle.rtt_words.proofs.Plain.{no_types}
-use Rattle.rtt_words.proofs.Places.{both, fault_given, fault_is, is_single, leaf, place_fault, placed, rows_are, rows_given}
+use Rattle.rtt_words.proofs.Places.{fault_given, fault_is, is_single, leaf, place_fault, placed, rows_are, rows_given}
+use Rattle.std.proofs.lemmas.Bool.{and_parts as both}
 
 -- the texts of the arguments
 abbrev texts_given : Shape → List Text → Texts

@@ -10,12 +10,9 @@ use Rattle.clap.specs.Walk.{Held, Rule, Row, Text, Walk, idle, value, arg_by_ind
 use Rattle.clap.specs.Simple.{App, Shape, entered}
 use Rattle.clap.specs.Kinds.{Kinds, or_else}
 use Rattle.clap.specs.Faults.{built_fault, check_fault, defaults_fault, entered_fault, settle_fault, step_fault, turn_fault, walk_fault}
+use Rattle.std.proofs.lemmas.Bool.{not-true as is_off, and_parts as both}
 
 -- ---- a word
-
-is_off : (b : Bool) → not b ≡ true → b ≡ false
-is_off true e = sym e
-is_off false e = refl
 
 is_no_flag : (word : Text) → is_word word ≡ true → (bytes_eq word (45 ∷ 45 ∷ []) ≡ false) × (long_of word ≡ None) × (short_of word ≡ None)
 is_no_flag [] e = absurd (true≢false (sym e))
@@ -48,10 +45,6 @@ after_word (Some a) c word h p = (positional_held c a word h, next_position a p)
 abbrev pub IsSingle : Option Rule → Type 0
 IsSingle None = Unit {0}
 IsSingle (Some a) = is_single a ≡ true
-
-pub both : (a b : Bool) → (a && b) ≡ true → (a ≡ true) × (b ≡ true)
-both true b e = (refl, e)
-both false b e = absurd (true≢false (sym e))
 
 placed_is : (c : List Rule) (found : Option Rule) → IsSingle found → (h : Held) (p : ℕ) (word : Text)
     → to_positional c found word (standing h p) h ≡ standing (after_word found c word h p).0 (after_word found c word h p).1

@@ -12,6 +12,7 @@ use Rattle.file_spec.specs.Numbers.{is_number, number, most_ssrc, payload_type}
 use Rattle.command_spec.specs.Usual.{usual_payload_types}
 use Rattle.rtt_words.specs.Help.{topic}
 use Rattle.rtt_words.specs.Words.{Read, ListRecords, Send, Cascade, Live, Watch, Relay, Channel, ChannelWords, Show, Times, Script, Check, Help, Command, before_conference, to_check, cascade_words, channel_words, command, help_words, if_different, is_word, list_of, list_words, make_words, Make, mix_words, Mix, Attend, different_types, read_of, read_words, send_of, send_words, version_words}
+use Rattle.std.proofs.Math.Bool.{and-false as and_false}
 
 abbrev Text : Type 0
 Text = List ℕ
@@ -21,10 +22,6 @@ list_all-map f p [] = refl
 list_all-map f p (x ∷ xs) = ap (λ b. p (f x) && b) (list_all-map f p xs)
 
 -- ---- such a word is no number
-
-and_false : (a : Bool) → (a && false) ≡ false
-and_false true = refl
-and_false false = refl
 
 hidden : (a b : Bool) → (a && (b && false)) ≡ false
 hidden true true = refl

@@ -13,6 +13,3 @@ pub use commands::{
 };
 pub use topics::{Topic, help_text};
 pub use words::{WordFault, command_of};
-
-#[cfg(test)]
-mod tests;

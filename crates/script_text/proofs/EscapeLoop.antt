@@ -48,7 +48,7 @@ found : (b : Bool) (p i : ℕ) → cond b (Some p) None ≡ Some i → p ≡ i
 found true p i e = cc e
 found false p i e = absurd (cc e)
 
-missing : (b : Bool) (p : ℕ) → cond b (Some p) None ≡ None → b ≡ false
+pub missing : (b : Bool) (p : ℕ) → cond b (Some p) None ≡ None → b ≡ false
 missing true p e = absurd (cc e)
 missing false p e = refl
 

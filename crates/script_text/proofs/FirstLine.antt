@@ -6,11 +6,9 @@ use Rattle.std.specs.List.{slice_split, onto_first, position_or_len, position}
 use Rattle.std.specs.Str.Lines.{lines, lines_of_parts, strip_carriage_return}
 use Rattle.std.proofs.lemmas.List.Splits.{slice_split_first, length-slice_split}
 use Rattle.std.proofs.lemmas.List.Sums.{position_or_len_is, prefix_len-le-length}
-use Rattle.std.proofs.lemmas.Bool.{le-ltb, lt-ltb, ltb-false, ne_eqb}
-
-not_so : (b : Bool) → (b ≡ true → ⊥) → b ≡ false
-not_so true n = absurd (n refl)
-not_so false n = refl
+use Rattle.std.proofs.lemmas.Bool.{le-ltb, lt-ltb, ltb-false, ne_eqb, false_from_ne_true as not_so}
+use Rattle.file_spec.proofs.Plain.{lines_of_parts-cons}
+use Rattle.script_text.proofs.EscapeLoop.{missing}
 
 -- the first octet of this value, as a search by many octets at a time finds it
 pub first_is : (octet : ℕ) (octets : List ℕ) (r : Option ℕ) → IsFirstByte (is_byte octet) octets r → r ≡ position (λ c. eqb c octet) octets
@@ -23,10 +21,6 @@ first_is octet octets (Some k) h =
     let high : k < length octets = h.0.high in
     let at : position_or_len p octets ≡ k = position_or_len_is p octets k 0 (omega arith) (λ j l. not_so (p (get_or octets j 0)) (h.0.before j (omega arith) l)) (λ l. h.1) in
     sym (ap (λ (n : ℕ). cond (ltb n (length octets)) (Some n) None) at ∙ ap (λ (b : Bool). cond b (Some k) None) (lt-ltb k (length octets) high))
-
-lines_of_parts-cons : (x : List ℕ) (parts : List (List ℕ)) → 0 < length parts → lines_of_parts (x ∷ parts) ≡ strip_carriage_return x ∷ lines_of_parts parts
-lines_of_parts-cons x [] l = absurd (omega arith)
-lines_of_parts-cons x (y ∷ more) l = refl
 
 found : (b : Bool) (p i : ℕ) → cond b (Some p) None ≡ Some i → (b ≡ true) × (p ≡ i)
 found true p i e = (refl, cc)
@@ -52,10 +46,6 @@ part_step false c more e ih = ap (λ parts. onto_first c parts) (ih (omega arith
 one_part : (octets : List ℕ) → position_or_len (λ c. eqb c 10) octets ≡ length octets → slice_split (λ c. eqb c 10) octets ≡ octets ∷ []
 one_part [] e = refl
 one_part (c ∷ more) e = part_step (eqb c 10) c more (e ∙ omega arith) (one_part more)
-
-missing : (b : Bool) (p : ℕ) → cond b (Some p) None ≡ None → b ≡ false
-missing true p e = absurd (cc)
-missing false p e = refl
 
 pub no_line_ends : (octets : List ℕ) → position (λ c. eqb c 10) octets ≡ None → 0 < length octets → lines octets ≡ octets ∷ []
 no_line_ends octets e some =

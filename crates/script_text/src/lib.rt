@@ -19,6 +19,3 @@ pub use numerals::{number_before_space, number_from, number_of, payload_types_of
 pub use script_lines::ScriptLine;
 pub use script_reader::read_script;
 pub use scripts::Script;
-
-#[cfg(test)]
-mod tests;

@@ -60,6 +60,7 @@ impl Script {
     }
 
     /// Appends a line. After `NoMemory` the list is as before.
+    #[inline(always)]
     pub fn push(&mut self, line: ScriptLine<'_>) -> Result<(), NoMemory>
         ensures ok { OnOk result (self.new ≡ self.old ++ line_of line.entry ∷ []) }
         ensures err { OnErr result (self.new ≡ self.old) }

@@ -3,7 +3,7 @@ use Rattle.std.proofs.Common.{◌≡◌, ℕ, zero, suc, ◌+◌, ◌<◌, ◌�
 use Rattle.std.specs.Prelude.{All, OnErr, OnOk, map, reverse, slice_get, slice_index, slice_index_or, slice_set}
 use Rattle.std.proofs.lemmas.List.{length-set, map-set, map_push, reverse-append}
 use Rattle.std.proofs.lemmas.List.Elements.{All-nil, All-push, All-same, All-set}
-use Rattle.std.proofs.lemmas.Option.{get_or_from_slice_get, slice_get-map, slice_get_within}
+use Rattle.std.proofs.lemmas.Option.{get_or_from_slice_get, slice_get_within}
 use Rattle.std.proofs.Math.Seq.{map-set_same}
 use Rattle.rtt_base.specs.declared.errors.NoMemory.{NoMemory}
 use Rattle.stream_spec.specs.Own.{Sent}
@@ -21,6 +21,7 @@ use Rattle.sent_log.specs.Runs.{IsRun, empty_run}
 use Rattle.sent_log.specs.States.{HasSource, Sending, State, said, sent_to, sents, with_sent}
 use Rattle.sent_log.proofs.Growing.{all_same, all_still}
 use Rattle.sent_log.proofs.Running.{run_empty, runs_more}
+use Rattle.wire_spec.proofs.Plain.{get_map}
 
 -- ---- a terminal
 
@@ -91,10 +92,7 @@ noted_still turns texts t t' now media turn source text k is_turn l m short s n 
 
 -- ---- all of them
 
-pub get_map : {X Y : Type 0} (f : X → Y) (xs : List X) (i : ℕ) (x : X) → slice_get xs i ≡ Some x → slice_get (map f xs) i ≡ Some (f x)
-get_map f xs i x e = slice_get-map f xs i ∙ rw e refl
-
-sent_to_is : (log : State) (terminal at : ℕ) (e_of : List ℕ → Sent) (x : Sending) → slice_get log terminal ≡ Some x → sent_to terminal at e_of log ≡ slice_set log terminal (with_sent at (e_of x.sources) x)
+pub sent_to_is : (log : State) (terminal at : ℕ) (e_of : List ℕ → Sent) (x : Sending) → slice_get log terminal ≡ Some x → sent_to terminal at e_of log ≡ slice_set log terminal (with_sent at (e_of x.sources) x)
 sent_to_is log terminal at e_of x e = rw e refl
 
 -- what holds of a terminal that notes a text, or is out of memory

@@ -1,9 +1,10 @@
 -- Octets on their way to a sink, through a page.
-use Rattle.std.proofs.Common.{Result, Ok, Err, false, ◌≡◌, ℕ, zero, suc, List, [], ◌∷◌, ◌++◌, take, append_assoc, refl, ap, sym, ◌∙◌}
+use Rattle.std.proofs.Common.{Result, Ok, Err, false, ◌≡◌, ℕ, List, [], ◌++◌, take, append_assoc, refl, ap, sym, ◌∙◌}
 use Rattle.std.specs.Prelude.{OnOk, OnErr, is_err}
 use Rattle.std.proofs.lemmas.List.{append-nil}
 use Rattle.rtt_io.specs.Fronts.{TakesFront}
 use Rattle.sent_log.specs.FileWriting.{HoldsRest}
+use Rattle.wire_spec.proofs.Plain.{front_of_more, front_behind}
 
 -- all is in the page
 pub nothing_taken : (took page : List ℕ) → HoldsRest took took page page
@@ -35,15 +36,6 @@ all_taken before middle took page octets h e =
     e ∙ (ap (λ (xs : List ℕ). xs ++ page) h.taken ∙ (append_assoc before h.front page ∙ ap (λ (xs : List ℕ). before ++ xs) (sym h.rest)))
 
 -- ---- fronts
-front_of_more : (n : ℕ) (xs ys : List ℕ) → (m : ℕ) × (take n xs ≡ take m (xs ++ ys))
-front_of_more zero xs ys = (0, refl)
-front_of_more (suc n) [] ys = (0, refl)
-front_of_more (suc n) (x ∷ xs) ys = let r = front_of_more n xs ys in (suc r.0, ap (λ (zs : List ℕ). x ∷ zs) r.1)
-
-front_behind : (n : ℕ) (xs ys : List ℕ) → (m : ℕ) × (xs ++ take n ys ≡ take m (xs ++ ys))
-front_behind n [] ys = (n, refl)
-front_behind n (x ∷ xs) ys = let r = front_behind n xs ys in (suc r.0, ap (λ (zs : List ℕ). x ∷ zs) r.1)
-
 -- a front of the page was taken
 pub front_taken : (before middle took page octets : List ℕ) → HoldsRest before middle page octets → TakesFront middle took page → TakesFront before took octets
 front_taken before middle took page octets h f =

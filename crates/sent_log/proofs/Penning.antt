@@ -33,7 +33,7 @@ use Rattle.sent_log.proofs.Running.{apart}
 
 -- ---- nothing was written
 
-none_first : (sent : List (ℕ × Sent)) → first_sent 0 sent ≡ []
+pub none_first : (sent : List (ℕ × Sent)) → first_sent 0 sent ≡ []
 none_first sent = drop_all (length sent - 0) sent (omega arith)
 
 fresh_last : (x : Sending) (source : ℕ) (r : List PacketKey) → r ≡ fresh → AreLast x 0 source r

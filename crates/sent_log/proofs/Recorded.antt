@@ -1,5 +1,5 @@
 -- The records of what was sent, packet by packet.
-use Rattle.std.proofs.Common.{Result, ◌≡◌, ℕ, zero, suc, ◌+◌, ◌-◌, ◌<◌, ◌≤◌, Some, List, [], ◌∷◌, ◌++◌, ◌⊎◌, inl, inr, drop, length, set, append_assoc, refl, ap, subst, sym, ◌∙◌, arith}
+use Rattle.std.proofs.Common.{Result, ◌≡◌, ℕ, zero, suc, ◌+◌, ◌-◌, ◌<◌, ◌≤◌, Some, List, [], ◌∷◌, ◌++◌, ◌⊎◌, inl, inr, drop, length, set, append_assoc, refl, ap, subst, sym, ◌∙◌, arith, length-set as set_length}
 use Rattle.std.specs.Prelude.{OnErr, OnOk, flat_map, slice_get}
 use Rattle.std.proofs.lemmas.List.{append-nil}
 use Rattle.std.proofs.lemmas.Grind.{flat_map-append}
@@ -20,15 +20,6 @@ abbrev pub written_of : PacketizerSettings → List (ℕ × Sent) → List ℕ
 written_of settings sent = flat_map record_written (records_of settings sent)
 
 -- ---- the first that were sent
-drop_more : (n : ℕ) (sent : List (ℕ × Sent)) → length sent ≤ n → drop n sent ≡ []
-drop_more zero [] l = refl
-drop_more zero (x ∷ sent) l = absurd (omega arith)
-drop_more (suc n) [] l = refl
-drop_more (suc n) (x ∷ sent) l = drop_more n sent (omega arith)
-
-pub none_first : (sent : List (ℕ × Sent)) → first_sent 0 sent ≡ []
-none_first sent = drop_more (length sent - 0) sent (omega arith)
-
 pub all_first : (n : ℕ) (sent : List (ℕ × Sent)) → length sent ≤ n → first_sent n sent ≡ sent
 all_first n sent l = let none : length sent - n ≡ 0 = omega (arith, l) in ap (λ k. drop k sent) none
 
@@ -113,11 +104,6 @@ get_push [] x y zero e = inr (refl, cc e)
 get_push [] x y (suc j) e = absurd (cc e)
 get_push (z ∷ xs) x y zero e = inl e
 get_push (z ∷ xs) x y (suc j) e = elim (get_push xs x y j e) [ inl g ↦ inl g | inr p ↦ inr (ap suc p.0, p.1) ]
-
-set_length : {X : Type 0} (xs : List X) (i : ℕ) (x : X) → length (set xs i x) ≡ length xs
-set_length [] i x = refl
-set_length (y ∷ xs) zero x = refl
-set_length (y ∷ xs) (suc i) x = ap suc (set_length xs i x)
 
 set_cases : {X : Type 0} (xs : List X) (i : ℕ) (x : X) (j : ℕ) (y : X) → slice_get (set xs i x) j ≡ Some y → (slice_get xs j ≡ Some y) ⊎ ((j ≡ i) × (x ≡ y))
 set_cases [] i x j y e = inl e

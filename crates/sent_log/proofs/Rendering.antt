@@ -20,7 +20,7 @@ use Rattle.stream_spec.specs.Lists.{In}
 use Rattle.stream_spec.proofs.Lists.{in_append}
 use Rattle.rtt_base.specs.declared.text_packets.PayloadTypes.{PayloadTypes}
 use Rattle.sent_log.specs.States.{IsStreamOf, NeverFalls, OfTerminal, Sending, State, TellsText, first_sent, records_of, sents}
-use Rattle.sent_log.proofs.Noting.{get_map}
+use Rattle.wire_spec.proofs.Plain.{get_map}
 
 -- ---- what holds of a terminal
 

@@ -1,8 +1,8 @@
 -- What is written of packets that are kept.
-use Rattle.std.proofs.Common.{◌≡◌, ℕ, zero, suc, ◌+◌, ◌<◌, ◌≤◌, Bool, true, false, cond, Result, Ok, Err, Some, drop, List, [], ◌∷◌, ◌++◌, length, take, append_assoc, refl, ap, sym, ◌∙◌, arith}
+use Rattle.std.proofs.Common.{◌≡◌, ℕ, ◌+◌, ◌<◌, ◌≤◌, Bool, true, false, cond, Result, Ok, Err, Some, drop, List, [], ◌∷◌, ◌++◌, length, take, append_assoc, refl, ap, sym, ◌∙◌, arith}
 use Rattle.std.specs.Prelude.{OnOk, is_err, slice_get}
 use Rattle.std.specs.List.{flat_map}
-use Rattle.std.proofs.lemmas.List.{append-nil, length-drop, length-take, take_all}
+use Rattle.std.proofs.lemmas.List.{length-drop, length-take, take_all}
 use Rattle.std.proofs.lemmas.List.Elements.{All-head, All-tail}
 use Rattle.rtt_base.specs.declared.blocks.TextBlock.{TextBlock}
 use Rattle.wire_spec.specs.Red.{red_header, red_spelling}
@@ -16,6 +16,7 @@ use Rattle.sent_log.specs.declared.terminals.LoggedPacket.{LoggedPacket}
 use Rattle.sent_log.specs.declared.repeats.PacketKey.{PacketKey}
 use Rattle.sent_log.specs.declared.terminals.TerminalLog.{TerminalLog}
 use Rattle.sent_log.specs.Writing.{HasText, HasTexts, blocks_in, entry_at, kept_header, kept_text, kept_texts, packet_in, text_in}
+use Rattle.rtp_text.proofs.Pieces.{piece_more}
 
 -- what holds where all went well
 pub if_ok : {A E : Type 0} (P : Type 0) (r : Result A E) → OnOk r P → is_err r ≡ false → P
@@ -23,14 +24,6 @@ if_ok P (Ok v) p e = p
 if_ok P (Err v) p e = cc e
 
 -- ---- one after the other
-
--- the pieces of those before this one, and its own
-piece_more : {X : Type 0} (f : X → List ℕ) (xs : List X) (i : ℕ) (x : X) → slice_get xs i ≡ Some x → flat_map f (take i xs) ++ f x ≡ flat_map f (take (i + 1) xs)
-piece_more f [] i x e = cc e
-piece_more f (y ∷ xs) zero x e = let q : y ≡ x = cc e in let one : 0 + 1 ≡ 1 = refl in ap f (sym q) ∙ sym (append-nil (f y))
-piece_more f (y ∷ xs) (suc i) x e =
-    let k : suc i + 1 ≡ suc (i + 1) = omega arith in
-    append_assoc (f y) (flat_map f (take i xs)) (f x) ∙ (ap (λ (zs : List ℕ). f y ++ zs) (piece_more f xs i x e) ∙ ap (λ n. flat_map f (take n (y ∷ xs))) (sym k))
 
 pub texts_more : (texts : List (List ℕ)) (t : TerminalLog) (older : List PacketKey) (i : ℕ) (k : PacketKey) → slice_get older i ≡ Some k → kept_texts texts t (take i older) ++ kept_text texts t k ≡ kept_texts texts t (take (i + 1) older)
 texts_more texts t older i k e = piece_more (kept_text texts t) older i k e

@@ -92,3 +92,24 @@ impl SentFiles {
         write_recording(&self.log, terminal, pen, &mut self.page, sink)
     }
 }
+
+/// Writes the recording of what was sent to the terminal, as `write_to` does, by a pen and a page of its own.
+pub fn write_alone<K: Sink>(
+    alloc: Global,
+    log: &SentLog,
+    terminal: usize,
+    sink: &mut K,
+) -> Result<(), Failed>
+    requires terminal { terminal < length log.now }
+    requires lawful { AreLawful log.now }
+    ensures appended { K.tells →
+        OnOk result (K.took sink.new ≡ K.took sink.old ++ recording_at log.now terminal) }
+{
+    let Ok(mut pen) = log.pen(alloc, terminal) else {
+        return Err(Failed);
+    };
+    let Ok(mut page) = Page::new(alloc) else {
+        return Err(Failed);
+    };
+    write_recording(log, terminal, &mut pen, &mut page, sink)
+}

@@ -15,7 +15,7 @@ mod text_lists;
 mod turns;
 mod writers;
 
-pub use files::SentFiles;
+pub use files::{SentFiles, write_alone};
 pub use logs::SentLog;
 pub use memory::in_memory;
 pub use pages::Page;

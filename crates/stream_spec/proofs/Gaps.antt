@@ -44,7 +44,7 @@ index_below_after before (e ∷ es) y j (inr i) l u = go (cases_Bool (e.source =
     go (inl t) (inr ge) f = let s = eqb-true e.source y.source t in let e2 : entry_count e.source before ≡ entry_count y.source before = ap (λ n. entry_count n before) s in (placed_at before e, inl refl, s, omega (arith, e2))
     go (inr t) q f = let c : entry_count y.source (e ∷ before) ≤ j = rw t (omega arith) in let r = f c u in (r.0, inr r.1, r.2, r.3)
 
-nothing_sent : (s : ℕ) → entry_count s [] ≡ 0
+pub nothing_sent : (s : ℕ) → entry_count s [] ≡ 0
 nothing_sent s = refl
 
 pub index_below : (h : History) (y : Placed) (j : ℕ) → In y (placed h) → j < y.index → (z : Placed) × In z (placed h) × (z.source ≡ y.source) × (z.index ≡ j)

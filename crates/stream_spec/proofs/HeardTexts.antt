@@ -14,7 +14,7 @@ use Rattle.stream_spec.specs.ChunksBy.{texts_added}
 use Rattle.stream_spec.proofs.Matched.{used_in}
 use Rattle.stream_spec.proofs.Lists.{in_filter}
 
-all_append : (xs ys : List (List ℕ)) → AreHeardTexts xs → AreHeardTexts ys → AreHeardTexts (xs ++ ys)
+pub all_append : (xs ys : List (List ℕ)) → AreHeardTexts xs → AreHeardTexts ys → AreHeardTexts (xs ++ ys)
 all_append [] ys p q = q
 all_append (x ∷ xs) ys p q = (p.0, p.1, all_append xs ys p.2 q)
 

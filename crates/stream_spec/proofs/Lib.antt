@@ -31,3 +31,4 @@ pub mod Still
 pub mod StillChunks
 pub mod StillExamples
 pub mod Fitting
+pub mod Plain

@@ -10,6 +10,8 @@ use Rattle.stream_spec.specs.History.{History, Entry, Placed, entry_count, place
 use Rattle.stream_spec.specs.Own.{Own, block_of, own_packet, come_from, NearEach}
 use Rattle.stream_spec.proofs.Places.{place_rises, same_place_after}
 use Rattle.stream_spec.proofs.Blocks.{in_window}
+use Rattle.stream_spec.proofs.Gaps.{nothing_sent as nothing_before}
+use Rattle.stream_spec.proofs.Grows.{index_under as index_in}
 
 abbrev is_within : ℕ → ℕ → ℕ → Placed → Bool
 is_within s lo hi y = (y.source == s) && (nat_le lo y.index && nat_lt y.index hi)
@@ -83,23 +85,9 @@ count_below_lo s lo hi before (e ∷ es) a b c = elim (cases_lt (entry_count s b
   ]
 ]
 
-index_in : (before es : List Entry) (x : Placed) → In x (placed_after before es) → x.index < entry_count x.source before + entry_count x.source es
-index_in before [] x i = absurd i
-index_in before (e ∷ es) x (inl p) =
-    let s : e.source ≡ x.source = sym (ap (λ (z : Placed). z.source) p) in
-    let m : entry_count e.source before ≡ entry_count x.source before = ap (λ (n : ℕ). entry_count n before) s in
-    omega (arith, own_more x.source e es s, ap (λ (z : Placed). z.index) p, m)
-index_in before (e ∷ es) x (inr i) = elim (cases_eq e.source x.source) [
-  | inl q ↦ omega (arith, index_in (e ∷ before) es x i, own_more x.source e es q, own_more x.source e before q)
-  | inr q ↦ omega (arith, index_in (e ∷ before) es x i, other_more x.source e es q, other_more x.source e before q)
-]
-
 length_nones : (n : ℕ) → length (nones n) ≡ n
 length_nones zero = refl
 length_nones (suc n) = ap suc (length_nones n)
-
-nothing_before : (s : ℕ) → entry_count s [] ≡ 0
-nothing_before s = refl
 
 window_length : (h : History) (x : Placed) → In x (placed h) → length (window h x) + low x ≡ x.index
 window_length h x i = let l = index_in [] h.entries x i in count_below_lo x.source (low x) x.index [] h.entries (omega (arith, nothing_before x.source)) (omega arith) (omega (arith, l, nothing_before x.source))

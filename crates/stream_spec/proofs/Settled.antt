@@ -23,7 +23,7 @@ pub record Settled (wait t : ℕ) (past : List Numbered) (first front : ℕ) (ou
   pub ended : (n : ℕ) → first ≤ n → n < front → (m : ℕ) × In m (moments wait past n) × (m ≤ t)
 
 -- ---- one more arrival
-by_number_behind : (e : Numbered) (out held : List Numbered) → ((u : Numbered) → In u out → u.number ≤ e.number) → by_number e (out ++ held) ≡ out ++ by_number e held
+pub by_number_behind : (e : Numbered) (out held : List Numbered) → ((u : Numbered) → In u out → u.number ≤ e.number) → by_number e (out ++ held) ≡ out ++ by_number e held
 by_number_behind e [] held f = refl
 by_number_behind e (x ∷ out) held f = let l = f x (inl refl) in rw (le-ltb e.number x.number l) (ap (λ us. x ∷ us) (by_number_behind e out held (λ u i. f u (inr i))))
 

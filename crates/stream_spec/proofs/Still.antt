@@ -21,7 +21,7 @@ map_in f x [] i = absurd i
 map_in f x (y ∷ xs) (inl e) = inl (ap f e)
 map_in f x (y ∷ xs) (inr i) = inr (map_in f x xs i)
 
-in_map : {X Y : Type 0} (f : X → Y) (y : Y) (xs : List X) → In y (map f xs) → (x : X) × In x xs × (y ≡ f x)
+pub in_map : {X Y : Type 0} (f : X → Y) (y : Y) (xs : List X) → In y (map f xs) → (x : X) × In x xs × (y ≡ f x)
 in_map f y [] i = absurd i
 in_map f y (x ∷ xs) (inl e) = (x, inl refl, e)
 in_map f y (x ∷ xs) (inr i) = let r = in_map f y xs i in (r.0, inr r.1, r.2)
@@ -36,7 +36,7 @@ filter_map f p (x ∷ xs) = go (p (f x)) (filter_map f p xs)
     go false e = e
 
 -- ---- texts
-still_short : (text : List ℕ) → length (still_text text) ≤ length text
+pub still_short : (text : List ℕ) → length (still_text text) ≤ length text
 still_short text = go (is_blank text)
   where
     go : (b : Bool) → length (cond b [] text) ≤ length text

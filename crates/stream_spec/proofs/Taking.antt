@@ -183,7 +183,7 @@ none_left : (s : ℕ) (us : List Numbered) → ((u : Numbered) → In u us → u
 none_left s [] f = refl
 none_left s (u ∷ us) f = rw (ne_eqb u.packet.source s (f u (inl refl))) (none_left s us (λ v i. f v (inr i)))
 
-last_end_of : (prev : Option Numbered) (xs : List Numbered) (a : Numbered) → last_of prev (xs ++ a ∷ []) ≡ Some a
+pub last_end_of : (prev : Option Numbered) (xs : List Numbered) (a : Numbered) → last_of prev (xs ++ a ∷ []) ≡ Some a
 last_end_of prev [] a = refl
 last_end_of prev (x ∷ xs) a = last_end_of (Some x) xs a
 

@@ -9,7 +9,7 @@ use Rattle.stream_spec.specs.Lists.{In}
 use Rattle.stream_spec.specs.Own.{Sent, Stream, sent_of, has_text_in, Sendable}
 use Rattle.stream_spec.specs.Typed.{Event, Text, Ask, Turned, sents, carried, typed, is_end, last_end, whole_front, has_passed, media_at, entry_at, longest_step, left, entries, waiting, due_at, last_ask, IsScript}
 use Rattle.rtt_base.specs.declared.limits.TheConstants.{MOST_TEXT_OCTETS}
-use Rattle.std.proofs.Math.Bool.{or-true}
+use Rattle.stream_spec.proofs.Sent.{text_in}
 
 -- ---- fronts
 dropped : (xs ys : List ℕ) → drop (length xs) (xs ++ ys) ≡ ys
@@ -153,12 +153,6 @@ take_more (suc k) g [] z l i = absurd i
 take_more (suc k) zero (y ∷ zs) z l i = absurd (omega arith)
 take_more (suc k) (suc g) (y ∷ zs) z l (inl q) = inl q
 take_more (suc k) (suc g) (y ∷ zs) z l (inr i) = inr (take_more k g zs z (omega arith) i)
-
-pub text_in : (g : ℕ) (zs : List Sent) (z : Sent) → In z (take g zs) → has_text z.text ≡ true → has_text_in g zs ≡ true
-text_in zero zs z i h = absurd i
-text_in (suc g) [] z i h = absurd i
-text_in (suc g) (y ∷ zs) z (inl q) h = let t : has_text y.text ≡ true = ap (λ (x : Sent). has_text x.text) (sym q) ∙ h in rw t refl
-text_in (suc g) (y ∷ zs) z (inr i) h = rw (text_in g zs z i h) (or-true (has_text y.text))
 
 -- how far so many steps go
 abbrev pub steps : ℕ → ℕ → ℕ

@@ -238,7 +238,7 @@ headed_least : (p : ℕ) (xs : List Placed) → Headed p xs → least_place xs �
 headed_least p [] q = absurd q
 headed_least p (x ∷ xs) q = q
 
-first_in_time : (wait : ℕ) (e : Numbered) → in_time wait e [] ≡ true
+pub first_in_time : (wait : ℕ) (e : Numbered) → in_time wait e [] ≡ true
 first_in_time wait e = rw (le-leb e.number e.number (omega arith))
 
 pub places_headed : (wait : ℕ) (h : History) (p d : ℕ) (a : Arrival) (before : List Arrival) → IsFirst h p d (a ∷ before) → Come h (a ∷ before) → Headed p (places wait h (a ∷ before))

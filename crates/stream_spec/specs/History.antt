@@ -101,9 +101,12 @@ octets h x = (if x.source == h.ssrc then 12 else 16) + (4 * x.generations + 1) +
 pub record Lawful (h : History) : Type 0 where
   pub orders : (x y : Placed) → In x (placed h) → In y (placed h) → x.place ≤ y.place → x.media ≤ y.media
   pub spans : (x y : Placed) → In x (placed h) → In y (placed h) → x.media < y.media + 2 ^ 31
-  pub rises : (x y : Placed) → In x (placed h) → In y (placed h) → x.source ≡ y.source → x.place < y.place → x.media < y.media
-  pub low_rises : (x y : Placed) → In x (placed h) → In y (placed h) → x.source ≡ y.source → x.place < y.place → low x ≤ low y
-  pub near : (x y : Placed) → In x (placed h) → In y (placed h) → x.source ≡ y.source → x.index < y.index → low y ≤ x.index
+  pub rises : (x y : Placed) → In x (placed h) → In y (placed h) → x.source ≡ y.source → x.place < y.place
+      → x.media < y.media
+  pub low_rises : (x y : Placed) → In x (placed h) → In y (placed h) → x.source ≡ y.source → x.place < y.place
+      → low x ≤ low y
+  pub near : (x y : Placed) → In x (placed h) → In y (placed h) → x.source ≡ y.source → x.index < y.index
+      → low y ≤ x.index
       → has_text x.text ≡ true → y.media ≤ x.media + MOST_OFFSET
   pub generations : (x : Placed) → In x (placed h) → x.generations ≤ 8
   pub reach : (x : Placed) → In x (placed h) → x.reach < 2 ^ 14

@@ -143,7 +143,8 @@ packet_after c past e = record {
 -- e may be sent after these: it is later than each, and near to each text that it repeats
 pub record MaySend (c : Stream) (past : List Sent) (e : Sent) : Type 0 where
   pub later : (x : Sent) → In x past → (x.media < e.media) × (e.media < x.media + 2 ^ 31)
-  pub near : (x : Sent) → In x (take c.generations (sent_of e.source past)) → has_text x.text ≡ true → e.media ≤ x.media + MOST_OFFSET
+  pub near : (x : Sent) → In x (take c.generations (sent_of e.source past)) → has_text x.text ≡ true
+      → e.media ≤ x.media + MOST_OFFSET
   pub text : (length e.text ≤ MOST_TEXT_OCTETS) × IsUtf8 e.text
 
 -- each of these could be sent after those before it

@@ -28,11 +28,13 @@ StillIsNumbered = (past : List Arrival) → numbered (still past) ≡ map still_
 
 -- the same packets are used,
 abbrev pub StillIsUsed : Type 0
-StillIsUsed = (wait : ℕ) (past : List Arrival) → used wait (numbered (still past)) ≡ map still_numbered (used wait (numbered past))
+StillIsUsed = (wait : ℕ) (past : List Arrival)
+    → used wait (numbered (still past)) ≡ map still_numbered (used wait (numbered past))
 
 -- and the same places came.
 abbrev pub StillPlacesCame : Type 0
-StillPlacesCame = (wait : ℕ) (h : History) (past : List Arrival) → places wait (still_history h) (still past) ≡ map still_placed (places wait h past)
+StillPlacesCame = (wait : ℕ) (h : History) (past : List Arrival)
+    → places wait (still_history h) (still past) ≡ map still_placed (places wait h past)
 
 -- Times that never fall do not fall so, and texts stay texts.
 abbrev pub StillNeverFalls : Type 0
@@ -43,4 +45,5 @@ StillIsText = (past : List Arrival) → AreTextArrivals past → AreTextArrivals
 
 -- What is heard so are the chunks that are heard and are no keep-alives, each at its moment.
 abbrev pub StillIsFiltered : Type 0
-StillIsFiltered = (wait place : ℕ) (past : List Arrival) (s : ℕ) → chunks wait place (still past) s ≡ filter is_lively_chunk (chunks wait place past s)
+StillIsFiltered = (wait place : ℕ) (past : List Arrival) (s : ℕ)
+    → chunks wait place (still past) s ≡ filter is_lively_chunk (chunks wait place past s)

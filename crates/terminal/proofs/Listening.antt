@@ -4,12 +4,11 @@ use Rattle.std.specs.Prelude.{OnOk, All, filter, slice_index, slice_index_or}
 use Rattle.std.specs.List.{concat}
 use Rattle.std.proofs.lemmas.List.{length-map, length-append}
 use Rattle.std.proofs.lemmas.List.Elements.{filter-append}
-use Rattle.rtt_base.specs.declared.text_packets.PayloadTypes.{PayloadTypes}
 use Rattle.wire_spec.specs.declared.faults.TextFault.{TextFault}
 use Rattle.wire_spec.specs.declared.faults.TextFault.TheVariants as faults
 use Rattle.wire_spec.specs.Packets.{Packet, Arrival, AreTextArrivals}
 use Rattle.wire_spec.specs.Text.{text_of}
-use Rattle.wire_spec.specs.Dump.{Item, Rtcp, arrivals_with, arrivals_after, sent_item}
+use Rattle.wire_spec.specs.Dump.{Item, Rtcp, arrivals_with, sent_item}
 use Rattle.stream_spec.specs.Numbering.{Numbered, numbered, used}
 use Rattle.stream_spec.specs.Hearing.{heard, heard_by}
 use Rattle.stream_spec.specs.ChunksBy.{used_ready}
@@ -31,11 +30,8 @@ use Rattle.terminal.proofs.Markers.{markers_are}
 use Rattle.terminal.specs.declared.settings.TerminalSettings.{TerminalSettings}
 use Rattle.terminal.specs.declared.terminals.Terminal.{Terminal}
 use Rattle.terminal.specs.Terminals.{reception, ear_settings, one_if, is_spent, IsEmpty, IsUnread, HearsTexts, SameCounts, CountsAs, Counted, Listens, IsTextOf, Heard}
-
--- facts of a success give another
-pub on_ok : {X E P Q : Type 0} (r : Result X E) → OnOk r P → (P → Q) → OnOk r Q
-on_ok (Ok x) p f = f p
-on_ok (Err e) p f = tt
+use Rattle.view_spec.proofs.Plain.{same_counts}
+use Rattle.wire_spec.proofs.Plain.{arrivals_more}
 
 pub on_ok2 : {X E P Q R : Type 0} (r : Result X E) → OnOk r P → OnOk r Q → (P → Q → R) → OnOk r R
 on_ok2 (Ok x) p q f = f p q
@@ -74,10 +70,6 @@ pub ended_text : (l k : Terminal) (c : TerminalSettings) (sources : List ℕ) (s
 ended_text l k c sources story b = becomes_text l k (λ settings s. ended s) c sources story b refl
 
 -- ---- one more item behind those that came
-pub arrivals_more : (ssrc : ℕ) (payload_types : PayloadTypes) (past : List Arrival) (came : List Item) (item : Item) → arrivals_after ssrc payload_types past (came ++ item ∷ []) ≡ arrivals_with ssrc payload_types item (arrivals_after ssrc payload_types past came)
-arrivals_more ssrc payload_types past [] item = refl
-arrivals_more ssrc payload_types past (i ∷ came) item = arrivals_more ssrc payload_types (arrivals_with ssrc payload_types i past) came item
-
 pub many_more : (p : Fate → Bool) (r : Reception) (came : List Item) (item : Item) → many p (fate_at r) (came ++ item ∷ []) ≡ many p (fate_at r) came + one_if (p (fate_at r item))
 many_more p r came item =
     ap length (filter-append (λ i. p (fate_at r i)) came (item ∷ []))
@@ -287,10 +279,6 @@ rtcp_passed t c sources came item e li =
       open_still = li.open_still;
       whole = li.whole;
     }
-
--- nothing comes any more
-same_counts : (a b : Counts) → a.packets ≡ b.packets → a.used ≡ b.used → a.refused ≡ b.refused → a.foreign ≡ b.foreign → a ≡ b
-same_counts a b p u r f = λ i. record { packets = p i; used = u i; refused = r i; foreign = f i }
 
 pub finished : (l k m : Terminal) → Becomes l.ear k.ear (λ settings s. ended s) → AllReady l.ear → k.heard ≡ l.heard → k.counts ≡ l.counts → is_spent k ≡ is_spent l
     → ((c : TerminalSettings) (sources : List ℕ) (story : Story) → HearsTexts k c sources story → HearsTexts m c sources (all_given story)) → SameCounts k.counts m.counts → is_spent m ≡ is_spent k

@@ -3,6 +3,7 @@ use Rattle.std.specs.Prelude.{◌≡◌, ℕ, ◌+◌, ◌<◌, ◌≤◌, ◌�
 use Rattle.wire_spec.specs.Dump.{Item, What, Cut, Large}
 use Rattle.reorder_buffer.specs.Stories.{Story}
 use Rattle.receiver.specs.declared.source_texts.SourceText.{SourceText}
+use Rattle.receiver.specs.declared.cuts.TextCut.TheVariants.{Never}
 use Rattle.receiver.specs.declared.settings.EarSettings.{EarSettings}
 use Rattle.receiver.specs.Hears.{IsToldOf, arrival_count, is_quiet, is_finished}
 use Rattle.receiver.specs.EarEach.{HearsEach}
@@ -42,7 +43,7 @@ reception c = record { ssrc = c.ssrc; payload_types = c.payload_types; wait = c.
 
 -- what is asked of the ear
 abbrev pub ear_settings : TerminalSettings → EarSettings
-ear_settings c = record { ssrc = c.ssrc; payload_types = c.payload_types; wait = c.wait }
+ear_settings c = record { ssrc = c.ssrc; payload_types = c.payload_types; wait = c.wait; cut = Never }
 
 -- nothing was heard of the source
 pub record IsEmpty (t : SourceText) : Type 0 where
@@ -99,7 +100,8 @@ pub record IsTextOf (r : Reception) (came : List Item) (s : ℕ) (t : SourceText
 pub record Heard (t : Terminal) (c : TerminalSettings) (sources : List ℕ) (came : List Item) : Type 0 where
   pub some : 0 < length sources
   pub each : length (texts_of t) ≡ length sources
-  pub texts : (k : ℕ) (d : SourceText) → k < length sources → IsTextOf (reception c) came (slice_index sources k) (slice_index_or (texts_of t) k d)
+  pub texts : (k : ℕ) (d : SourceText) → k < length sources
+      → IsTextOf (reception c) came (slice_index sources k) (slice_index_or (texts_of t) k d)
   pub utf8 : AreUtf8 (texts_of t)
   pub counts : counts_of t ≡ counts_at (reception c) came
   pub whole : IsWhole t

@@ -22,7 +22,8 @@ pub record MayTake (t : Terminal) (moment : ℕ) : Type 0 where
 
 -- behind whatever came, these came
 abbrev pub Takes : Terminal → List Item → Terminal → Type 0
-Takes old items new = (c : TerminalSettings) (sources : List ℕ) (came : List Item) → Listens old c sources came → Listens new c sources (came ++ items)
+Takes old items new = (c : TerminalSettings) (sources : List ℕ) (came : List Item) → Listens old c sources came
+    → Listens new c sources (came ++ items)
 
 -- behind whatever came, these octets came at this moment
 abbrev pub TakesPacket : Terminal → ℕ → List ℕ → Terminal → Type 0
@@ -30,15 +31,18 @@ TakesPacket old at octets new = Takes old (sent_item (at, octets) ∷ []) new
 
 -- behind whatever came, a packet came whose octets are not all there, or too many
 abbrev pub TakesUnread : Terminal → Terminal → Type 0
-TakesUnread old new = (c : TerminalSettings) (sources : List ℕ) (came : List Item) (item : Item) → IsUnread item.what → Listens old c sources came → Listens new c sources (came ++ item ∷ [])
+TakesUnread old new = (c : TerminalSettings) (sources : List ℕ) (came : List Item) (item : Item)
+    → IsUnread item.what → Listens old c sources came → Listens new c sources (came ++ item ∷ [])
 
 -- whatever came, nothing else came
 abbrev pub ListensAlike : Terminal → Terminal → Type 0
-ListensAlike old new = (c : TerminalSettings) (sources : List ℕ) (came : List Item) → Listens old c sources came → Listens new c sources came
+ListensAlike old new = (c : TerminalSettings) (sources : List ℕ) (came : List Item)
+    → Listens old c sources came → Listens new c sources came
 
 -- it listens to the same sources still
 abbrev pub ListensStill : Terminal → Terminal → Type 0
-ListensStill old new = (c : TerminalSettings) (sources : List ℕ) (came : List Item) → Listens old c sources came → (more : List Item) × Listens new c sources more
+ListensStill old new = (c : TerminalSettings) (sources : List ℕ) (came : List Item)
+    → Listens old c sources came → (more : List Item) × Listens new c sources more
 
 -- whether a packet with this fault is one of those that count as refused
 abbrev pub one_if_refused : TextFault → ℕ
@@ -52,21 +56,25 @@ one_if_foreign fault = one_if (is_foreign (fate_of (Err fault)))
 
 -- all that is ready was given, and is in the texts
 abbrev pub GathersTexts : Terminal → Terminal → Type 0
-GathersTexts old new = (c : TerminalSettings) (sources : List ℕ) (story : Story) → HearsTexts old c sources story → HearsTexts new c sources (all_given story)
+GathersTexts old new = (c : TerminalSettings) (sources : List ℕ) (story : Story)
+    → HearsTexts old c sources story → HearsTexts new c sources (all_given story)
 
 -- whatever came was heard to its end
 abbrev pub HearsToEnd : Terminal → Terminal → Type 0
-HearsToEnd old new = (c : TerminalSettings) (sources : List ℕ) (came : List Item) → Listens old c sources came → Heard new c sources came
+HearsToEnd old new = (c : TerminalSettings) (sources : List ℕ) (came : List Item) → Listens old c sources came
+    → Heard new c sources came
 
 -- ---- it is seen
 
 -- what is seen of the one source was appended
 abbrev pub AppendsTextSeen : Terminal → List ℕ → List ℕ → Type 0
-AppendsTextSeen t old new = (c : TerminalSettings) (source : ℕ) (came : List Item) → Heard t c (source ∷ []) came → new ≡ old ++ text_seen (reception c) source came
+AppendsTextSeen t old new = (c : TerminalSettings) (source : ℕ) (came : List Item)
+    → Heard t c (source ∷ []) came → new ≡ old ++ text_seen (reception c) source came
 
 -- what is seen at an unaware terminal of this name was appended
 abbrev pub AppendsUnawareSeen : Terminal → List ℕ → List ℕ → List ℕ → Type 0
-AppendsUnawareSeen t name old new = (c : TerminalSettings) (source : ℕ) (came : List Item) → Heard t c (source ∷ []) came → new ≡ old ++ unaware_seen (reception c) name source came
+AppendsUnawareSeen t name old new = (c : TerminalSettings) (source : ℕ) (came : List Item)
+    → Heard t c (source ∷ []) came → new ≡ old ++ unaware_seen (reception c) name source came
 
 -- what is seen at an aware terminal of this name, of the speakers with these names, was appended
 abbrev pub AppendsAwareSeen : Terminal → List ℕ → List (List ℕ) → List ℕ → List ℕ → Type 0

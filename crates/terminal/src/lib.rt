@@ -3,8 +3,6 @@
 
 mod settings;
 mod terminals;
-#[cfg(test)]
-mod tests;
 mod views;
 
 pub use receiver::SourceText;

@@ -6,7 +6,7 @@ ghost use Rattle.terminal.specs.Told.{MayTake, TakesPacket, TakesUnread, Listens
 ghost use Rattle.rtt_base.specs.declared.limits.TheConstants.{END_OF_MOMENTS, LONGEST_WAIT, MOST_ARRIVALS, MOST_SOURCES};
 
 use crate::TerminalSettings;
-use receiver::{Ear, EarSettings, SourceText};
+use receiver::{Ear, EarSettings, SourceText, TextCut};
 use rtt_base::NoMemory;
 use std::alloc::Global;
 use t140_text::Counts;
@@ -57,6 +57,7 @@ impl Terminal {
             ssrc: settings.ssrc,
             payload_types: settings.payload_types,
             wait: settings.wait,
+            cut: TextCut::Never,
         };
         let heard = nothing_heard(alloc, sources.len())?;
         Ok(Terminal {

@@ -9,10 +9,10 @@ use Rattle.mixer_spec.specs.Setups.{Setup}
 use Rattle.mixer_spec.specs.Table.{Terminal, Seats, has_work, is_due, is_due_leg, is_due_at, is_spaced, last_media, sent_from, leg_in, round_start, served, is_quiet}
 use Rattle.mixer_spec.proofs.Rounds.{round_some}
 use Rattle.mixer_spec.proofs.Seats.{leg_in_some}
-use Rattle.terminal_scheduler.proofs.Below.{no_text}
 use Rattle.terminal_scheduler.specs.AwareStates.{AwareState}
 use Rattle.terminal_scheduler.specs.AwareStanding.{NoneDue, AwareStandsFor}
 use Rattle.terminal_scheduler.specs.Turns.{free_after}
+use Rattle.stream_spec.proofs.Plain.{no_text}
 
 -- no text of the leg i waits, or is still to be repeated; the terminal's own has none there
 abbrev pub is_done_with : Setup → ℕ → Terminal → ℕ → Bool
@@ -60,6 +60,7 @@ stands_calm s j o d calm waits h r = record {
   places = h.places;
   own = h.own;
   leg = h.leg;
+  room = h.room;
   spacing = h.spacing;
   generations = h.generations;
   sent = h.sent;

@@ -19,7 +19,6 @@ use Rattle.terminal_scheduler.proofs.Putting.{puts_one}
 use Rattle.terminal_scheduler.specs.AwareStates.{AwareState}
 use Rattle.terminal_scheduler.specs.AwareStanding.{AwareStandsFor}
 use Rattle.terminal_scheduler.specs.AwareTurns.{IsIn, IsTurned, kept_served, left_behind, sent_of_leg, text_of_leg}
-use Rattle.rtt_base.specs.declared.limits.TheConstants.{MOST_TEXT_OCTETS}
 
 -- ---- the entry
 same_waits : (b : Bool) (x y z : Terminal) (i : ℕ) → x.waits i ≡ y.waits i → (cond b x z).waits i ≡ (cond b y z).waits i
@@ -41,11 +40,11 @@ written xs leg x P legs l p f i b = elim (cases_eq i leg) [
 ]
 
 stands_then : (s : Setup) (o : AwareState) (d : Terminal) (place leg media now : ℕ) → AwareStandsFor s o.own o d → length o.left ≡ length o.free_at → leg < s.legs
-    → IsNext (stream s o.own) (sents d.past) (sent_of_leg s media d leg)
-    → AwareStandsFor s o.own (kept_served place leg media (text_of_leg d leg) o) (serve_leg s now media d place (Some leg))
+    → IsNext (stream s o.own) (sents d.past) (sent_of_leg s o.own media d leg)
+    → AwareStandsFor s o.own (kept_served place leg media (text_of_leg (s.room o.own) d leg) o) (serve_leg s o.own now media d place (Some leg))
 stands_then s o d place leg media now h c l n =
-    let text = text_of_leg d leg in
-    let e = sent_of_leg s media d leg in
+    let text = text_of_leg (s.room o.own) d leg in
+    let e = sent_of_leg s o.own media d leg in
     let generations = s.generations o.own in
     let own : sent_of (s.ssrc leg) (e ∷ sents d.past) ≡ e ∷ sent_of (s.ssrc leg) (sents d.past) = sent_same (s.ssrc leg) e (sents d.past) refl in
     let other : (i : ℕ) → i < s.legs → (i ≡ leg → ⊥) → sent_of (s.ssrc i) (e ∷ sents d.past) ≡ sent_of (s.ssrc i) (sents d.past) =
@@ -55,6 +54,7 @@ stands_then s o d place leg media now h c l n =
       places = h.places;
       own = refl;
       leg = h.leg;
+      room = h.room;
       spacing = h.spacing;
       generations = h.generations;
       sent = (n, h.sent);
@@ -70,20 +70,21 @@ stands_then s o d place leg media now h c l n =
       calm = λ t l. absurd (omega (arith, l));
     }
 
-slots_then : (s : Setup) (table : Table) (j leg place media now : ℕ) (after : List Waiting) → slots.SlotsStandFor s after (fetched j leg MOST_TEXT_OCTETS table)
-    → slots.SlotsStandFor s after (with_terminal j (serve_leg s now media (table.terminals j) place (Some leg)) table)
+slots_then : (s : Setup) (table : Table) (j leg place media now : ℕ) (after : List Waiting) → slots.SlotsStandFor s after (fetched j leg (s.room j) table)
+    → slots.SlotsStandFor s after (with_terminal j (serve_leg s j now media (table.terminals j) place (Some leg)) table)
 slots_then s table j leg place media now after h =
-    stands_same s after (fetched j leg MOST_TEXT_OCTETS table) (with_terminal j (serve_leg s now media (table.terminals j) place (Some leg)) table) h (λ i. refl) (λ k. refl)
-    (λ k i. same_waits (k == j) (serve_leg s now media (table.terminals j) place (Some leg)) (take_front leg MOST_TEXT_OCTETS (table.terminals j)) (table.terminals k) i refl)
+    stands_same s after (fetched j leg (s.room j) table) (with_terminal j (serve_leg s j now media (table.terminals j) place (Some leg)) table) h (λ i. refl) (λ k. refl)
+    (λ k i. same_waits (k == j) (serve_leg s j now media (table.terminals j) place (Some leg)) (take_front leg (s.room j) (table.terminals j)) (table.terminals k) i refl)
 
 pub leg_served : (s : Setup) (table : Table) (o : AwareState) (before after : List Waiting) (place leg media now : ℕ) (text : List ℕ) → IsIn s o before table → length o.left ≡ length o.free_at
-    → leg < s.legs → IsNext (stream s o.own) (sents (table.terminals o.own).past) (sent_of_leg s media (table.terminals o.own) leg)
-    → text ≡ text_of_leg (table.terminals o.own) leg → slots.SlotsStandFor s after (fetched o.own leg MOST_TEXT_OCTETS table)
-    → IsTurned s table o.own (serve_leg s now media (table.terminals o.own) place (Some leg)) media (kept_served place leg media text o) after (Some leg) text
+    → leg < s.legs → IsNext (stream s o.own) (sents (table.terminals o.own).past) (sent_of_leg s o.own media (table.terminals o.own) leg)
+    → text ≡ text_of_leg o.room (table.terminals o.own) leg → slots.SlotsStandFor s after (fetched o.own leg o.room table)
+    → IsTurned s table o.own (serve_leg s o.own now media (table.terminals o.own) place (Some leg)) media (kept_served place leg media text o) after (Some leg) text
 leg_served s table o before after place leg media now text h c l n t f =
     let d = table.terminals o.own in
+    let is : text ≡ text_of_leg (s.room o.own) d leg = t ∙ ap (λ n. text_of_leg n d leg) h.scheduler.room in
     record {
-      scheduler = subst (λ (xs : List ℕ). AwareStandsFor s o.own (kept_served place leg media xs o) (serve_leg s now media d place (Some leg))) (sym t) (stands_then s o d place leg media now h.scheduler c l n);
-      slots_stand = slots_then s table o.own leg place media now after f;
-      puts = puts_one true media (record { at = now; place = place; leg = leg; chunks = front MOST_TEXT_OCTETS (d.waits leg); sent = sent_of_leg s media d leg }) d.past text t refl;
+      scheduler = subst (λ (xs : List ℕ). AwareStandsFor s o.own (kept_served place leg media xs o) (serve_leg s o.own now media d place (Some leg))) (sym is) (stands_then s o d place leg media now h.scheduler c l n);
+      slots_stand = slots_then s table o.own leg place media now after (subst (λ (n : ℕ). slots.SlotsStandFor s after (fetched o.own leg n table)) h.scheduler.room f);
+      puts = puts_one true media (record { at = now; place = place; leg = leg; chunks = front (s.room o.own) (d.waits leg); sent = sent_of_leg s o.own media d leg }) d.past text is refl;
     }

@@ -1,7 +1,6 @@
 -- Tests of all numbers below one, and of nothing that was sent.
-use Rattle.std.proofs.Common.{◌≡◌, ℕ, zero, suc, ◌+◌, ◌<◌, inl, inr, Bool, true, false, [], refl, ap, sym, ◌∙◌, add-one, arith}
+use Rattle.std.proofs.Common.{◌≡◌, ℕ, zero, suc, ◌+◌, ◌<◌, inl, inr, Bool, true, false, refl, ap, sym, ◌∙◌, add-one, arith}
 use Rattle.std.proofs.lemmas.Bool.{cases_eq, and_left, and_right}
-use Rattle.stream_spec.specs.Own.{has_text_in}
 use Rattle.mixer_spec.specs.Rounds.{all_below}
 
 pub fails_at : (p : ℕ → Bool) (n i : ℕ) → i < n → p i ≡ false → all_below p n ≡ false
@@ -13,7 +12,3 @@ fails_at p (suc n) i l e = elim (cases_eq i n) [
 
 pub all_more : (p : ℕ → Bool) (n : ℕ) → all_below p n ≡ true → p n ≡ true → all_below p (n + 1) ≡ true
 all_more p n a e = rw (add-one, a, e) refl
-
-pub no_text : (n : ℕ) → has_text_in n [] ≡ false
-no_text zero = refl
-no_text (suc n) = refl

@@ -51,7 +51,7 @@ aware_calm s j d o calm is h r seats now t l = go (is_seated seats j)
     none = sym (subst (λ (k : ℕ). None ≡ served s seats k t d) h.own (r s d (subst (λ (k : ℕ). aware.AwareStandsFor s k o d) (sym h.own) h) seats t l))
 
     go : (b : Bool) → cond b (cond (s.aware j) (turn_aware s seats j now t d) (turn_unaware s j now t d)) d ≡ d
-    go true = ap (λ b. cond b (turn_aware s seats j now t d) (turn_unaware s j now t d)) is ∙ ap (serve s seats now t d) none
+    go true = ap (λ b. cond b (turn_aware s seats j now t d) (turn_unaware s j now t d)) is ∙ ap (serve s seats j now t d) none
     go false = refl
 
 -- ---- another one

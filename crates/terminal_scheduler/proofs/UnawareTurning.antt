@@ -120,8 +120,8 @@ rests_so s j table o h e = λ i l. subst (λ (x : ℕ). waits_here x (table.term
 given_is : (s : Setup) (j : ℕ) (table : Table) (t : ℕ) (o : UnawareState) (asked : Bool) → UnawareStandsFor s j o (table.terminals j) → asked ≡ is_asked s t (table.terminals j)
     → given_now s table o.composer t asked (table.terminals j).asks ≡ answer_at s j t (table.terminals j)
 given_is s j table t o asked h e =
-    ap (λ (k : ℕ). answer s.legs s.name s.relabel k t asked (table.terminals k).waits (table.terminals j).asks) h.own
-    ∙ ap (λ (b : Bool). answer s.legs s.name s.relabel j t b (table.terminals j).waits (table.terminals j).asks) e
+    ap (λ (k : ℕ). answer (s.room k) s.legs s.name s.relabel k t asked (table.terminals k).waits (table.terminals j).asks) h.own
+    ∙ ap (λ (b : Bool). answer (s.room j) s.legs s.name s.relabel j t b (table.terminals j).waits (table.terminals j).asks) e
 
 told : (s : Setup) (j t : ℕ) (table : Table) (o mid : UnawareState) (asked gave due sends : Bool) (text : List ℕ) (after : List Waiting) → UnawareStandsFor s j o (table.terminals j)
     → Steps s j t table o mid asked gave due sends text after → Told s j t table asked gave due sends text mid after

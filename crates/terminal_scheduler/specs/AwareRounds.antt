@@ -17,7 +17,8 @@ pub record IsSeatedIn (s : Setup) (o : AwareState) (places : State) (now : List 
 
 -- of each such table, with the terminal
 abbrev pub AtSeats : AwareState → State → List Waiting → (Setup → Table → Terminal → Type 0) → Type 0
-AtSeats o places now P = (s : Setup) (table : Table) → IsSeatedIn s o places now table → P s table (table.terminals o.own)
+AtSeats o places now P = (s : Setup) (table : Table) → IsSeatedIn s o places now table
+    → P s table (table.terminals o.own)
 
 -- what a turn at the moment `now`, with this media time, leaves at the terminal
 abbrev pub turned : Setup → Table → ℕ → ℕ → ℕ → Terminal
@@ -28,10 +29,11 @@ abbrev pub SendsNextAt : Setup → Table → ℕ → ℕ → ℕ → Type 0
 SendsNextAt s table j now media = SendsNext (stream s j) (table.terminals j).past (turned s table j now media).past
 
 -- text of the leg at the place is sent at this media time, or none
-abbrev pub Serves : AwareState → State → List Waiting → (place media : ℕ) → AwareState → List Waiting → Option ℕ → List ℕ → Type 0
+abbrev pub Serves : AwareState → State → List Waiting → (place media : ℕ) → AwareState → List Waiting
+    → Option ℕ → List ℕ → Type 0
 Serves o places waiting place media o' waiting' source text = AtSeats o places waiting (λ s table d. (now : ℕ)
-    → SendsNext (stream s o.own) d.past (serve s table.seats now media d (Some place)).past
-    → IsTurned s table o.own (serve s table.seats now media d (Some place)) media o' waiting' source text)
+    → SendsNext (stream s o.own) d.past (serve s table.seats o.own now media d (Some place)).past
+    → IsTurned s table o.own (serve s table.seats o.own now media d (Some place)) media o' waiting' source text)
 
 -- a turn at this media time came to these: the terminal_scheduler, the slots, and of which source what text is sent
 abbrev pub Turns : AwareState → State → List Waiting → ℕ → AwareState → List Waiting → Option ℕ → List ℕ → Type 0

@@ -17,6 +17,7 @@ pub record AwareStandsFor (s : Setup) (j : ℕ) (o : AwareState) (d : Terminal) 
   pub places : s.places ≡ PLACES
   pub own : o.own ≡ j
   pub leg : j < s.legs
+  pub room : o.room ≡ s.room j
   pub spacing : o.spacing ≡ s.spacing
   pub generations : o.generations ≡ s.generations j
   pub sent : EachIsNext (stream s j) (sents d.past)
@@ -27,11 +28,12 @@ pub record AwareStandsFor (s : Setup) (j : ℕ) (o : AwareState) (d : Terminal) 
   pub none_mixed : sent_from s.mixer d ≡ []
   pub calm : (t : ℕ) → t < o.calm → NoneDue s j t d
 
--- A terminal_scheduler of the terminal j of so many legs, which repeats so often and waits so long, is one of this
--- setup.
-pub record IsMadeFor (s : Setup) (generations legs j spacing : ℕ) : Type 0 where
+-- A terminal_scheduler of the terminal j of so many legs, which repeats so often, whose texts have so much room, and which waits so
+-- long, is one of this setup.
+pub record IsMadeFor (s : Setup) (generations legs j room spacing : ℕ) : Type 0 where
   pub setup : IsSetup s
   pub places : s.places ≡ PLACES
   pub generations_is : generations ≡ s.generations j
   pub legs_is : legs ≡ s.legs
+  pub room_is : room ≡ s.room j
   pub spacing_is : spacing ≡ s.spacing

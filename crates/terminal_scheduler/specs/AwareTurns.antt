@@ -12,7 +12,6 @@ use Rattle.mixer_places.specs.SlotStanding as slots
 use Rattle.terminal_scheduler.specs.Turns.{Puts, new_entry, with_terminal}
 use Rattle.terminal_scheduler.specs.AwareStates.{AwareState}
 use Rattle.terminal_scheduler.specs.AwareStanding.{AwareStandsFor}
-use Rattle.rtt_base.specs.declared.limits.TheConstants.{MOST_TEXT_OCTETS}
 
 -- of each terminal for which the terminal_scheduler stands
 abbrev pub AtTerminal : AwareState → (Setup → Terminal → Type 0) → Type 0
@@ -31,13 +30,13 @@ AtTable o now P = (s : Setup) (table : Table) → IsIn s o now table → P s tab
 abbrev pub is_free : Setup → ℕ → Terminal → ℕ → Bool
 is_free s media d leg = is_spaced s.spacing media (last_media (sent_from (s.ssrc leg) d))
 
--- what fits into one packet of the text of the leg that waits
-abbrev pub text_of_leg : Terminal → ℕ → List ℕ
-text_of_leg d leg = joined (front MOST_TEXT_OCTETS (d.waits leg))
+-- what goes into this room of the text of the leg that waits
+abbrev pub text_of_leg : ℕ → Terminal → ℕ → List ℕ
+text_of_leg room d leg = joined (front room (d.waits leg))
 
--- what a turn at this media time sends of the leg
-abbrev pub sent_of_leg : Setup → ℕ → Terminal → ℕ → Sent
-sent_of_leg s media d leg = record { source = s.ssrc leg; media = media; text = text_of_leg d leg }
+-- what a turn at this media time sends of the leg to the terminal j
+abbrev pub sent_of_leg : Setup → ℕ → ℕ → Terminal → ℕ → Sent
+sent_of_leg s j media d leg = record { source = s.ssrc leg; media = media; text = text_of_leg (s.room j) d leg }
 
 -- A turn of the terminal j with the media time t is over, which came to d: these are its terminal_scheduler and the slots then, and of
 -- which source what text is sent, if anything is.
@@ -49,8 +48,8 @@ pub record IsTurned (s : Setup) (table : Table) (j : ℕ) (d : Terminal) (t : �
 -- text of the leg that holds the place is sent at this media time
 abbrev pub ServesLeg : AwareState → List Waiting → (place leg media : ℕ) → AwareState → List Waiting → List ℕ → Type 0
 ServesLeg o waiting place leg media o' waiting' text = AtTable o waiting (λ s table d. (now : ℕ) → leg < s.legs
-    → IsNext (stream s o.own) (sents d.past) (sent_of_leg s media d leg)
-    → IsTurned s table o.own (serve_leg s now media d place (Some leg)) media o' waiting' (Some leg) text)
+    → IsNext (stream s o.own) (sents d.past) (sent_of_leg s o.own media d leg)
+    → IsTurned s table o.own (serve_leg s o.own now media d place (Some leg)) media o' waiting' (Some leg) text)
 
 -- it stands for the same terminal, whatever waits there
 abbrev pub StandsWoken : AwareState → AwareState → Type 0

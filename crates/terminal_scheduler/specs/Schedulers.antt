@@ -47,9 +47,9 @@ SchedulerStandsFor s j (Aware o) d = (s.aware j ≡ true) × aware.AwareStandsFo
 SchedulerStandsFor s j (Unaware o) d = (s.aware j ≡ false) × unaware.UnawareStandsFor s j o d
 
 -- Made so, aware or not, it stands for a terminal of this leg to which nothing was sent.
-abbrev pub StandsNew : Bool → (generations legs own spacing : ℕ) → Option ℕ → TerminalScheduler → Type 0
-StandsNew aware generations legs own spacing relabel o =
-    (s : Setup) → IsMadeFor s generations legs own spacing → s.relabel ≡ relabel → aware ≡ s.aware own
+abbrev pub StandsNew : Bool → (generations legs own room spacing : ℕ) → Option ℕ → TerminalScheduler → Type 0
+StandsNew aware generations legs own room spacing relabel o =
+    (s : Setup) → IsMadeFor s generations legs own room spacing → s.relabel ≡ relabel → aware ≡ s.aware own
     → SchedulerStandsFor s own o (empty.terminals own)
 
 -- it stands for the same terminal, whatever waits there
@@ -60,7 +60,8 @@ StandsWoken old new =
 
 -- of each terminal for which it stands, where the slots have what waits
 abbrev pub OfTerminals : TerminalScheduler → List Waiting → (Setup → ℕ → Terminal → Type 0) → Type 0
-OfTerminals o waiting P = (s : Setup) (j : ℕ) (table : Table) → SchedulerStandsFor s j o (table.terminals j) → slots.SlotsStandFor s waiting table → P s j (table.terminals j)
+OfTerminals o waiting P = (s : Setup) (j : ℕ) (table : Table) → SchedulerStandsFor s j o (table.terminals j)
+    → slots.SlotsStandFor s waiting table → P s j (table.terminals j)
 
 -- ---- a turn
 -- the terminal j after a turn at the moment `now`, with the media time t
@@ -69,7 +70,8 @@ turned_here s j now t table = turn_at s table.seats j now t (table.terminals j)
 
 -- whoever holds which place, no turn before this media time changes anything at the terminal for which it stands
 abbrev pub IsCalmBefore : ℕ → TerminalScheduler → Type 0
-IsCalmBefore calm o = (s : Setup) (j : ℕ) (d : Terminal) → SchedulerStandsFor s j o d → (seats : Seats) (now t : ℕ) → t < calm → turn_at s seats j now t d ≡ d
+IsCalmBefore calm o = (s : Setup) (j : ℕ) (d : Terminal) → SchedulerStandsFor s j o d
+    → (seats : Seats) (now t : ℕ) → t < calm → turn_at s seats j now t d ≡ d
 
 -- Such a turn at the terminal j, which holds a place and for which the terminal_scheduler stands: the slots have what waits there, which
 -- are texts, these are the seats and the names, and what is sent may be sent.
@@ -90,5 +92,7 @@ pub record IsTurned (s : Setup) (j : ℕ) (table : Table) (now t : ℕ) (o : Ter
   pub puts : Puts (s.aware j) t (new_entry (table.terminals j).past (turned_here s j now t table).past) source text
 
 -- of all turns that it may be
-abbrev pub OfTurns : TerminalScheduler → State → List Waiting → List (List ℕ) → ℕ → (Setup → ℕ → Table → ℕ → Type 0) → Type 0
-OfTurns o places waiting called t P = (s : Setup) (j : ℕ) (table : Table) (now : ℕ) → IsTurn s j table o places waiting called now t → P s j table now
+abbrev pub OfTurns : TerminalScheduler → State → List Waiting → List (List ℕ) → ℕ
+    → (Setup → ℕ → Table → ℕ → Type 0) → Type 0
+OfTurns o places waiting called t P = (s : Setup) (j : ℕ) (table : Table) (now : ℕ)
+    → IsTurn s j table o places waiting called now t → P s j table now

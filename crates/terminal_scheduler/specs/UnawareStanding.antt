@@ -38,9 +38,10 @@ pub record UnawareStandsFor (s : Setup) (j : ℕ) (o : UnawareState) (d : Termin
   pub rests : o.none_waits ≡ true → (i : ℕ) → i < s.legs → waits_here j d.waits i ≡ false
 
 -- Made so, it stands for a terminal of this leg to which nothing was sent.
-abbrev pub StandsNew : (generations legs own spacing : ℕ) → Option ℕ → UnawareState → Type 0
-StandsNew generations legs own spacing relabel o =
-    (s : Setup) → IsSetup s → s.legs ≡ legs → s.spacing ≡ spacing → s.generations own ≡ generations → s.relabel ≡ relabel
+abbrev pub StandsNew : (generations legs own room spacing : ℕ) → Option ℕ → UnawareState → Type 0
+StandsNew generations legs own room spacing relabel o =
+    (s : Setup) → IsSetup s → s.legs ≡ legs → s.spacing ≡ spacing → s.generations own ≡ generations
+    → s.room own ≡ room → s.relabel ≡ relabel
     → UnawareStandsFor s own o (empty.terminals own)
 
 -- it stands for the same terminal, whatever waits there
@@ -69,11 +70,13 @@ pub record IsTurn (s : Setup) (j : ℕ) (table : Table) (o : UnawareState) (wait
 
 -- of all turns that it may be
 abbrev pub OfTurns : UnawareState → List Waiting → List (List ℕ) → ℕ → (Setup → ℕ → Table → ℕ → Type 0) → Type 0
-OfTurns o waiting called t P = (s : Setup) (j : ℕ) (table : Table) (now : ℕ) → IsTurn s j table o waiting called now t → P s j table now
+OfTurns o waiting called t P = (s : Setup) (j : ℕ) (table : Table) (now : ℕ)
+    → IsTurn s j table o waiting called now t → P s j table now
 
 -- of each terminal for which it stands, where the slots have what waits
 abbrev pub OfTerminals : UnawareState → List Waiting → (Setup → ℕ → Terminal → Type 0) → Type 0
-OfTerminals o waiting P = (s : Setup) (j : ℕ) (table : Table) → UnawareStandsFor s j o (table.terminals j) → slots.SlotsStandFor s waiting table → P s j (table.terminals j)
+OfTerminals o waiting P = (s : Setup) (j : ℕ) (table : Table) → UnawareStandsFor s j o (table.terminals j)
+    → slots.SlotsStandFor s waiting table → P s j (table.terminals j)
 
 -- ---- what waits
 -- nothing of the leg waits at the terminal, or it is its own
@@ -92,7 +95,8 @@ pub record Composes (s : Setup) (table : Table) (c : ComposerState) (t : ℕ) (d
 
 -- of all that it may have been asked, where nothing waits if that is known
 abbrev pub OfAsks : UnawareState → List Waiting → List (List ℕ) → (Setup → Table → List Asked → Type 0) → Type 0
-OfAsks o waiting called P = (s : Setup) (table : Table) (asks : List Asked) → composers.IsAsked s table o.composer waiting called asks
+OfAsks o waiting called P = (s : Setup) (table : Table) (asks : List Asked)
+    → composers.IsAsked s table o.composer waiting called asks
     → (o.none_waits ≡ true → NoneWaits s table o.composer) → P s table asks
 
 -- ---- a text that is sent

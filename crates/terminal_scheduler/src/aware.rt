@@ -1,7 +1,7 @@
 //! The terminal_scheduler of a terminal that tells sources apart.
 ghost use Rattle.std.specs.Prelude.{◌≡◌, ◌-◌, ◌<◌, ◌≤◌, ◌||◌, ◌==◌, not, ℕ, false, [], length, IfOk, IfSome};
 ghost use Rattle.mixer_spec.specs.Rounds.{first_from};
-ghost use Rattle.mixer_spec.specs.Setups.{Setup};
+ghost use Rattle.mixer_spec.specs.Setups.{IsRoom, Setup};
 ghost use Rattle.mixer_spec.specs.Table.{empty, has_work, is_due, is_due_at, is_quiet, last_media, sent_from, served};
 ghost use Rattle.mixer_places.specs.SlotStanding.{SlotsTell, LeadsSlots};
 ghost use Rattle.mixer_places.specs.Words.{fetched};
@@ -14,7 +14,6 @@ ghost use Rattle.rtt_base.specs.declared.limits.TheConstants.{END_OF_MOMENTS};
 
 use mixer_places::{SeatingPlan, Slots};
 use mixer_spec::limits::PLACES;
-use rtt_base::limits::MOST_TEXT_OCTETS;
 use rtt_base::{NoMemory, Text};
 use std::alloc::Global;
 use std::marker::Model;
@@ -24,6 +23,8 @@ use std::marker::Model;
 pub struct AwareScheduler {
     /// The number of the terminal's own leg.
     own: usize,
+    /// The most octets of a text.
+    room: usize,
     /// The least media time, in milliseconds, between two packets of a source.
     spacing: u32,
     /// In how many packets a text is repeated.
@@ -46,32 +47,35 @@ impl Model for AwareScheduler {
     ghost invariant = { AwareIsSound };
 }
 
-/// Takes what fits into one packet of the text of the leg that waits at the terminal, in place of what `text` had.
-fn fetch(terminal: usize, leg: usize, slots: &mut Slots, text: &mut Text)
-    requires { (terminal < length slots.old) × (leg < length slots.old) }
+/// Takes what goes into this room of the text of the leg that waits at the terminal, in place of what `text` had.
+fn fetch(terminal: usize, room: usize, leg: usize, slots: &mut Slots, text: &mut Text)
+    requires within { (terminal < length slots.old) × (leg < length slots.old) }
+    requires room { IsRoom room }
     ensures legs { length slots.new ≡ length slots.old }
-    ensures text { SlotsTell slots.old (λ s table. text.new ≡ text_of_leg (table.terminals terminal) leg) }
-    ensures stands { LeadsSlots slots.old slots.new (fetched terminal leg MOST_TEXT_OCTETS) }
+    ensures text { SlotsTell slots.old (λ s table. text.new ≡ text_of_leg room (table.terminals terminal) leg) }
+    ensures stands { LeadsSlots slots.old slots.new (fetched terminal leg room) }
 {
     text.clear();
-    slots.take(terminal, leg, MOST_TEXT_OCTETS, text);
+    slots.take(terminal, leg, room, text);
 }
 
 impl AwareScheduler {
     ghost use Rattle.terminal_scheduler.specs.AwareStanding.{AwareStandsFor, IsMadeFor};
     ghost use Rattle.terminal_scheduler.specs.AwareRounds.{AtSeats, Serves, Turns};
 
-    /// The terminal_scheduler of the terminal of this leg, to which nothing was sent, where there are so many legs. A text is repeated in
-    /// so many packets. It takes all memory that it ever needs.
+    /// The terminal_scheduler of the terminal of this leg, to which nothing was sent, where there are so many legs. A text has `room`
+    /// octets at most, and is repeated in so many packets. It takes all memory that it ever needs.
     pub fn new(
         alloc: Global,
         generations: u8,
         legs: usize,
         own: usize,
+        room: usize,
         spacing: u32,
     ) -> Result<AwareScheduler, NoMemory>
         requires own { own < legs }
-        ensures stands { IfOk result (λ o. (s : Setup) → IsMadeFor s generations legs own spacing
+        requires room { IsRoom room }
+        ensures stands { IfOk result (λ o. (s : Setup) → IsMadeFor s generations legs own room spacing
             → AwareStandsFor s own o (empty.terminals own)) }
         ensures own { IfOk result (λ o. o.own ≡ own) }
         ensures legs { IfOk result (λ o. length o.free_at ≡ legs) }
@@ -80,6 +84,7 @@ impl AwareScheduler {
         let free_at = vec![in alloc; 0; legs]?;
         Ok(AwareScheduler {
             own,
+            room,
             spacing,
             generations,
             left,
@@ -272,7 +277,7 @@ impl AwareScheduler {
         ensures same { SameLeg self.old self.new }
         ensures turned { ServesLeg self.old slots.old place leg media self.new slots.new text.new }
     {
-        fetch(self.own, leg, slots, text);
+        fetch(self.own, self.room, leg, slots, text);
         self.keep(place, leg, media, text);
     }
 

@@ -1,5 +1,6 @@
 //! The terminal_scheduler of a terminal, be it aware or not.
 ghost use Rattle.std.specs.Prelude.{◌≡◌, ◌+◌, ◌<◌, ◌≤◌, length, IfOk, IfSome, if◌then◌else◌};
+ghost use Rattle.mixer_spec.specs.Setups.{IsRoom};
 ghost use Rattle.mixer_spec.specs.Table.{has_work, is_quiet};
 ghost use Rattle.terminal_scheduler.specs.Schedulers.{IsCalmBefore, IsTurned, OfTerminals, OfTurns, SameLeg, StandsNew, StandsWoken, legs_of, next_turn, own_of, sources_of};
 ghost use Rattle.rtt_base.specs.declared.limits.TheConstants.{END_OF_MOMENTS};
@@ -18,30 +19,40 @@ pub enum TerminalScheduler {
 }
 
 impl TerminalScheduler {
-    /// The terminal_scheduler of the terminal of this leg, aware or not, to which nothing was sent, where there are so many legs. A text is
-    /// repeated in so many packets. Where it is not aware, a run that goes on is labelled again after `relabel` milliseconds
-    /// without text, if at all. It takes all memory that it ever needs.
+    /// The terminal_scheduler of the terminal of this leg, aware or not, to which nothing was sent, where there are so many legs. A text
+    /// has `room` octets at most, and is repeated in so many packets. Where it is not aware, a run that goes on is labelled again
+    /// after `relabel` milliseconds without text, if at all. It takes all memory that it ever needs.
     pub fn new(
         alloc: Global,
         aware: bool,
         generations: u8,
         legs: usize,
         own: usize,
+        room: usize,
         spacing: u32,
         relabel: Option<u32>,
     ) -> Result<TerminalScheduler, NoMemory>
         requires own { own < legs }
-        ensures stands { IfOk result (λ scheduler. StandsNew aware generations legs own spacing relabel scheduler) }
+        requires room { IsRoom room }
+        ensures stands { IfOk result (λ scheduler. StandsNew aware generations legs own room spacing relabel scheduler) }
         ensures own { IfOk result (λ scheduler. own_of scheduler ≡ own) }
         ensures legs { IfOk result (λ scheduler. legs_of scheduler ≡ legs) }
         ensures sources { IfOk result (λ scheduler. sources_of scheduler ≡ (if aware then legs else 1)) }
         ensures next { IfOk result (λ scheduler. next_turn scheduler ≡ 0) }
     {
         if aware {
-            let scheduler = AwareScheduler::new(alloc, generations, legs, own, spacing)?;
+            let scheduler = AwareScheduler::new(alloc, generations, legs, own, room, spacing)?;
             return Ok(TerminalScheduler::Aware(scheduler));
         }
-        let scheduler = UnawareScheduler::new(alloc, generations, legs, own, spacing, relabel)?;
+        let scheduler = UnawareScheduler::new(
+            alloc,
+            generations,
+            legs,
+            own,
+            room,
+            spacing,
+            relabel,
+        )?;
         Ok(TerminalScheduler::Unaware(scheduler))
     }
 
@@ -107,7 +118,7 @@ impl TerminalScheduler {
         }
     }
 
-    /// Is called where a chunk is given to the terminal, which then waits there.
+    /// Is told that text may wait here that did not before.
     pub fn wake(&mut self)
         ensures stands { StandsWoken self.old self.new }
         ensures same { SameLeg self.old self.new }

@@ -1,6 +1,7 @@
 //! A terminal that shows one text of many speakers.
 ghost use Rattle.std.specs.Prelude.{◌≡◌, ◌+◌, ◌<◌, ◌≤◌, ◌&&◌, ◌||◌, [], false, length, IfOk, IfSome, nat_le};
 ghost use Rattle.mixer_spec.specs.Rounds.{all_below};
+ghost use Rattle.mixer_spec.specs.Setups.{IsRoom};
 ghost use Rattle.mixer_spec.specs.Table.{has_work, is_quiet};
 ghost use Rattle.mixer_places.specs.SlotStanding.{SlotsStandFor, SlotsTell};
 ghost use Rattle.terminal_scheduler.specs.Turns.{Puts, with_terminal};
@@ -43,24 +44,26 @@ impl Model for UnawareScheduler {
 }
 
 impl UnawareScheduler {
-    /// The terminal_scheduler of the terminal of the leg `own`, where there are so many legs, to which nothing was sent yet. A text is
-    /// repeated in so many packets, and a run that goes on is labelled again after `relabel` milliseconds without text, if at
-    /// all. It takes all memory that it ever needs.
+    /// The terminal_scheduler of the terminal of the leg `own`, where there are so many legs, to which nothing was sent yet. A text has
+    /// `room` octets at most, and is repeated in so many packets; and a run that goes on is labelled again after `relabel`
+    /// milliseconds without text, if at all. It takes all memory that it ever needs.
     pub fn new(
         alloc: Global,
         generations: u8,
         legs: usize,
         own: usize,
+        room: usize,
         spacing: u32,
         relabel: Option<u32>,
     ) -> Result<UnawareScheduler, NoMemory>
         requires own { own < legs }
-        ensures stands { IfOk result (λ scheduler. StandsNew generations legs own spacing relabel scheduler) }
+        requires room { IsRoom room }
+        ensures stands { IfOk result (λ scheduler. StandsNew generations legs own room spacing relabel scheduler) }
         ensures own { IfOk result (λ scheduler. own_of scheduler ≡ own) }
         ensures legs { IfOk result (λ scheduler. legs_of scheduler ≡ legs) }
         ensures next { IfOk result (λ scheduler. next_turn scheduler ≡ 0) }
     {
-        let composer = Composer::new(alloc, legs, own, relabel)?;
+        let composer = Composer::new(alloc, legs, own, room, relabel)?;
         Ok(UnawareScheduler {
             own,
             legs,
@@ -160,7 +163,7 @@ impl UnawareScheduler {
         gave
     }
 
-    /// Is called where a chunk is given to the terminal, which then waits there.
+    /// Is told that text may wait here that did not before.
     pub fn wake(&mut self)
         ensures stands { StandsWoken self.old self.new }
         ensures same { SameLeg self.old self.new }

@@ -1,6 +1,6 @@
 -- The lines of a script that is accepted.
 use Rattle.std.proofs.Common.{◌≡◌, ℕ, suc, ◌+◌, ◌<◌, ◌≤◌, Bool, true, false, Option, Some, None, List, [], ◌∷◌, ◌++◌, append_assoc, length, length-append, get_or, drop, refl, ap, subst, sym, ◌∙◌, arith}
-use Rattle.std.specs.Prelude.{◌==◌, not, max, nat_lt, if◌then◌else◌, Result, Ok, Err, All, IsUtf8}
+use Rattle.std.specs.Prelude.{◌==◌, not, max, nat_lt, if◌then◌else◌, Ok, Err, All, IsUtf8}
 use Rattle.std.specs.List.{position_or_len, before_first, after_first}
 use Rattle.std.specs.Option.{ok_or}
 use Rattle.std.specs.Char.{encode_utf8}
@@ -9,10 +9,9 @@ use Rattle.std.specs.Str.Lines.{lines}
 use Rattle.std.proofs.Math.Seq.{take-append_seam}
 use Rattle.std.proofs.lemmas.List.Sums.{passes_at_first}
 use Rattle.std.proofs.lemmas.List.Elements.{All-nil, All-head, All-tail, All-push, All-weaker, All-cons}
-use Rattle.std.proofs.lemmas.Bool.{ltb-false}
+use Rattle.std.proofs.lemmas.Bool.{ltb-false, eqb-true as eq_true, not-false as not_false}
 use Rattle.std.proofs.lemmas.Bool.Decides.{nat_tests}
 use Rattle.std.proofs.lemmas.Str.{IsUtf8-append, IsUtf8-take, IsUtf8-drop, IsUtf8-from_is_utf8, IsCharBoundary-before_ascii, IsCharBoundary-after_ascii}
-use Rattle.file_spec.specs.declared.kinds.ConfKind.{ConfKind}
 use Rattle.file_spec.specs.declared.kinds.ConfKind.TheVariants.{NotText, Count, Number, Order, Escape, Long, Large}
 use Rattle.file_spec.specs.Script.{ScriptLine, escape, followed, unescaped, typed, around_space, script_line, latest, and_line, script}
 use Rattle.rtt_base.proofs.Steps.{bind_ok}
@@ -23,11 +22,7 @@ use Rattle.file_spec.specs.Numbers.{number}
 use Rattle.command_spec.specs.Scripts.{InOrder, AreLines}
 use Rattle.file_spec.specs.declared.limits.TheConstants.{LAST_MOMENT, MOST_SCRIPT_OCTETS}
 use Rattle.rtt_base.specs.declared.limits.TheConstants.{MOST_TEXT_OCTETS}
-
--- ---- one test after another
-not_false : (b : Bool) → not b ≡ false → b ≡ true
-not_false true e = refl
-not_false false e = cc e
+use Rattle.file_spec.proofs.EachLine.{at_ok as at_line_ok}
 
 -- ---- UTF-8 is cut at an ASCII octet
 pub record Cut (front rest : List ℕ) : Type 0 where
@@ -69,9 +64,6 @@ backslash : IsUtf8 (byte "\\" ∷ [])
 unfolding encode_utf8
 backslash = (92 ∷ [], (refl, refl))
 
-eq_true : (a b : ℕ) → (a == b) ≡ true → a ≡ b
-eq_true a b e = grind (arith, nat_tests)
-
 record Escaped (c : ℕ) (text : List ℕ) : Type 0 where
   ascii : c < 128
   text_is : IsUtf8 text
@@ -109,10 +101,6 @@ followed_is : (o more : Option (List ℕ)) (text : List ℕ) → followed o more
 followed_is None more text e = absurd (cc e)
 followed_is (Some one) None text e = absurd (cc e)
 followed_is (Some one) (Some rest) text e = record { one = one; rest = rest; one_is = refl; rest_is = refl; text_is = (let s : one ++ rest ≡ text = cc e in sym s) }
-
-nil : (xs : List ℕ) → xs ++ [] ≡ xs
-nil [] = refl
-nil (x ∷ xs) = ap (λ ys. x ∷ ys) (nil xs)
 
 -- behind a front with which it is UTF-8
 read_is : (front octets text : List ℕ) → IsUtf8 (front ++ octets) → unescaped octets ≡ Some text → IsUtf8 (front ++ text)
@@ -198,10 +186,6 @@ one_more above said a s = record {
   early = All-push (λ l. l.at ≤ LAST_MOMENT) above said a.early s.early;
   texts = All-push (λ l. IsUtf8 l.text) above said a.texts s.text_is;
 }
-
-at_line_ok : {A : Type 0} (n : ℕ) (r : Result A ConfKind) (x : A) → at_line n r ≡ Ok x → r ≡ Ok x
-at_line_ok n (Ok y) x e = cc e
-at_line_ok n (Err k) x e = absurd (cc e)
 
 all_read : (ls : List Line) (above read : List ScriptLine) → AreLines above → read_lines and_line above ls ≡ Ok read → AreLines read
 all_read [] above read a e = let s : above ≡ read = cc e in subst AreLines s a

@@ -9,7 +9,7 @@ use Rattle.wire_spec.specs.Dump.{Item, sent_item, latest, arrived, arrivals_with
 use Rattle.file_spec.specs.Script.{ScriptLine}
 use Rattle.stream_spec.specs.Lists.{In}
 use Rattle.stream_spec.specs.Numbering.{Numbered, nearest, greatest, number_after, number_it, numbered, first_number, has_number, distinct_from, in_time}
-use Rattle.stream_spec.specs.History.{History, Entry, Placed, Lawful, placed, placed_after, entry_of, top_place, IsNear, Come, by_place, places}
+use Rattle.stream_spec.specs.History.{History, Entry, Placed, Lawful, placed, entry_of, top_place, IsNear, Come, by_place, places}
 use Rattle.stream_spec.specs.Own.{Stream, own_packet, come_from, NearEach, packet_after, entry_after, sent_history}
 use Rattle.stream_spec.specs.Typed.{Event, Text, Ask, Turned, sents, entry_at, entries, waiting, due_at, IsScript}
 use Rattle.stream_spec.proofs.Lists.{in_left, in_right}
@@ -27,6 +27,7 @@ use Rattle.text_conversions.specs.Scripts.{records_of, records_sent, recording_s
 use Rattle.text_conversions.proofs.ReadBack.{Backs, all_back, items_back}
 use Rattle.text_conversions.proofs.Typed.{script_through, lawful_sent}
 use Rattle.wire_spec.specs.declared.limits.TheConstants.{LAST_RECORD_MOMENT}
+use Rattle.stream_spec.proofs.Plain.{place_to as place_under, put_last as by_place_last}
 
 -- the history of entries
 abbrev pub hist : SenderSettings → List Turned → History
@@ -206,17 +207,6 @@ greatest_in_time wait e past b =
     le_true m n l = grind (arith, nat_tests)
 
 -- ---- the places that came are all
-by_place_last : (x : Placed) (xs : List Placed) → ((y : Placed) → In y xs → y.place < x.place) → by_place x xs ≡ xs ++ x ∷ []
-by_place_last x [] b = refl
-by_place_last x (y ∷ xs) b =
-    let above : nat_lt x.place y.place ≡ false = (let k = b y (inl refl) in grind (arith, nat_tests)) in
-    ap (λ q. cond q (x ∷ y ∷ xs) (y ∷ by_place x xs)) above ∙ ap (λ zs. y ∷ zs) (by_place_last x xs (λ z i. b z (inr i)))
-
-pub place_under : (before es : List Entry) (x : Placed) → In x (placed_after before es) → x.place < length before + length es
-place_under before [] x i = absurd i
-place_under before (e ∷ es) x (inl q) = let n = ap (λ (z : Placed). z.place) q in omega arith
-place_under before (e ∷ es) x (inr i) = let r = place_under (e ∷ before) es x i in omega arith
-
 places_are : (wait : ℕ) (settings : SenderSettings) (h : History) (es : List Turned) → Front settings h es → places wait h (come_from h (pairs settings es)) ≡ placed (hist settings es)
 places_are wait settings h [] f = refl
 places_are wait settings h (e ∷ es) f =

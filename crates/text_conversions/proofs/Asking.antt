@@ -1,9 +1,9 @@
 -- What an ask changes.
-use Rattle.std.proofs.Common.{◌≡◌, ℕ, zero, suc, ◌+◌, ◌<◌, ◌≤◌, Bool, true, false, cond, inl, inr, Option, None, Some, List, [], ◌∷◌, ◌++◌, append_assoc, length, length-drop, refl, ap, subst, sym, ◌∙◌, arith}
+use Rattle.std.proofs.Common.{◌≡◌, ℕ, zero, suc, ◌+◌, ◌<◌, ◌≤◌, Bool, true, false, cond, inl, inr, Option, None, Some, List, [], ◌∷◌, ◌++◌, append_assoc, length, length-drop, refl, ap, subst, sym, ◌∙◌, arith, append-nil as nil}
 use Rattle.std.specs.Prelude.{◌&&◌, nat_le, All}
 use Rattle.std.specs.List.{flat_map}
 use Rattle.std.specs.Option.{option_map}
-use Rattle.std.proofs.lemmas.Bool.{cases_lt}
+use Rattle.std.proofs.lemmas.Bool.{cases_lt, lt-leb as too_early}
 use Rattle.std.proofs.lemmas.Bool.Decides.{nat_tests}
 use Rattle.std.proofs.lemmas.Grind.{flat_map-append}
 use Rattle.wire_spec.specs.Dump.{dump_opening, dump_written, record_written}
@@ -58,15 +58,8 @@ idle_on settings lines last (suc k) a l quiet = same_on settings (events_before 
 ])
 
 -- ---- when nothing is due
-and_false : (b : Bool) → (b && false) ≡ false
-and_false true = refl
-and_false false = refl
-
 pub no_more : (settings : SenderSettings) (past : List Event) (t : ℕ) → has_more settings past ≡ false → due_at (stream_of settings) settings.interval past t ≡ false
 no_more settings past t h = ap (λ b. b && has_passed settings.interval (sent_by settings past) t) h
-
-too_early : (m t : ℕ) → t < m → nat_le m t ≡ false
-too_early m t l = grind (arith, nat_tests)
 
 pub before_next : (settings : SenderSettings) (past : List Event) (m t : ℕ) → Some m ≡ next_due_of settings past → t < m → due_at (stream_of settings) settings.interval past t ≡ false
 before_next settings past m t e l = due_from settings past m t (sym e) ∙ too_early m t l
@@ -133,10 +126,6 @@ some_sent settings past t packet e = go (due_at (stream_of settings) settings.in
     go : (b : Bool) → Some packet ≡ option_map (packet_written settings.payload_types) (cond b (Some (packet_after (stream_of settings) (sents (sent_by settings past)) (entry_at (stream_of settings) (sent_by settings past) (waits_for settings past) t).sent)) None) → (b ≡ true) × (packet ≡ packet_of settings past t)
     go true q = (refl, cc q)
     go false q = cc q
-
-nil : (xs : List ℕ) → xs ++ [] ≡ xs
-nil [] = refl
-nil (x ∷ xs) = ap (λ ys. x ∷ ys) (nil xs)
 
 one_more : (rs : List (ℕ × List ℕ)) (r : ℕ × List ℕ) → dump_written rs ++ record_written r ≡ dump_written (rs ++ r ∷ [])
 one_more rs r =

@@ -18,6 +18,7 @@ use Rattle.text_conversions.proofs.Asking.{idle, no_more}
 use Rattle.text_conversions.proofs.SendFronts.{some_front}
 use Rattle.rtt_base.specs.declared.limits.TheConstants.{MOST_TEXT_OCTETS}
 use Rattle.stream_spec.specs.declared.limits.TheConstants.{MOST_WAITING_OCTETS}
+use Rattle.wire_spec.proofs.Plain.{and_left as and_first}
 
 -- ---- the packets that are left, at most
 -- so many repeats are left of what was sent
@@ -96,10 +97,6 @@ potential settings past t = 1000 * weight settings.generations (sent_by settings
 and_more : (a b : Bool) → a ≡ true → (a && b) ≡ false → b ≡ false
 and_more true b h d = d
 and_more false b h d = cc h
-
-and_first : (a b : Bool) → (a && b) ≡ true → a ≡ true
-and_first true b h = refl
-and_first false b h = h
 
 waits_on : (interval : ℕ) (es : List Turned) (t : ℕ) → has_passed interval es t ≡ false → remaining interval es (suc t) + 1 ≤ remaining interval es t
 waits_on interval [] t h = cc h

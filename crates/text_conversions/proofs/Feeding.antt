@@ -1,6 +1,6 @@
 -- Pieces, one behind the other.
-use Rattle.std.proofs.Common.{◌≡◌, ℕ, ◌+◌, ◌-◌, ◌≤◌, List, [], ◌∷◌, ◌++◌, append_assoc, append-nil, take-add, length, length-drop, take, drop, Option, None, Some, refl, sym, ap, subst, ◌∙◌, arith}
-use Rattle.std.proofs.lemmas.List.{take-append-drop, take_rest}
+use Rattle.std.proofs.Common.{◌≡◌, ℕ, ◌+◌, ◌-◌, ◌≤◌, List, [], ◌∷◌, ◌++◌, append_assoc, append-nil, take-add, length, length-drop, take, drop, Option, None, Some, refl, sym, ap, subst, ◌∙◌, arith, append-nil as nothing_more}
+use Rattle.std.proofs.lemmas.List.{take-append-drop}
 use Rattle.file_spec.specs.declared.frames.Frame.{Frame}
 use Rattle.file_spec.specs.declared.frames.FrameRefusal.{FrameRefusal}
 use Rattle.file_spec.specs.declared.frame_kinds.FrameKind.TheVariants.{EndsInside}
@@ -10,6 +10,7 @@ use Rattle.text_conversions.specs.Fronts.{place_of}
 use Rattle.text_conversions.specs.Readers.{after, LeadsFrames, given_by, Goes, Stands, IsFed, IsTaken, FrameIsRefused}
 use Rattle.text_conversions.specs.declared.readers.FrameReader.{FrameReader}
 use Rattle.text_conversions.specs.declared.batches.TheConstants.{MOST_BATCH_FRAMES}
+use Rattle.wire_spec.proofs.Plain.{rest_is as rest_of}
 
 -- ---- step behind step
 pub leads_both : (p q r : Place) (held left last one two : List ℕ) (fs gs : List Frame) → LeadsFrames p held one fs q left → LeadsFrames q left two gs r last → LeadsFrames p held (one ++ two) (fs ++ gs) r last
@@ -25,10 +26,6 @@ pub record Fills (old now : FrameReader) (piece : List ℕ) (out : List Frame) (
 
 pub fills_first : (r : FrameReader) (piece : List ℕ) → Fills r r piece [] 0
 fills_first r piece = record { leads = λ more. refl }
-
--- what lies behind so many octets of a piece, as code cuts it
-rest_of : (piece : List ℕ) (taken : ℕ) → take (length piece - taken) (drop taken piece) ≡ drop taken piece
-rest_of piece taken = take_rest piece taken
 
 fills_more : (old now new : FrameReader) (piece : List ℕ) (before out : List Frame) (taken more : ℕ) → Fills old now piece before taken → IsTaken now new (drop taken piece) before out more → Fills old new piece out (taken + more)
 fills_more old now new piece before out taken more f t = record {
@@ -63,9 +60,6 @@ begun_reading p (x ∷ xs) e = read_no_further p (x ∷ xs) EndsInside (omega ar
 no_last : (p : Place) (held : List ℕ) → lasting (is_last p held) ≡ None
 no_last p [] = refl
 no_last p (x ∷ xs) = refl
-
-nothing_more : (octets : List ℕ) → octets ++ [] ≡ octets
-nothing_more octets = append-nil octets
 
 -- what octets are read as, behind which a frame is begun
 reads_begun : (p : Place) (held octets : List ℕ) → Goes p held None octets → frame_fault p held ≡ Some EndsInside → (read_frames octets).fault ≡ is_last p held

@@ -1,8 +1,8 @@
 -- The first end of a script.
-use Rattle.std.proofs.Common.{◌≡◌, ℕ, zero, suc, ◌+◌, ◌<◌, ◌≤◌, ◌^◌, Bool, true, false, cond, inl, inr, Option, Some, None, List, [], ◌∷◌, ◌++◌, append_assoc, length, length-append, refl, ap, subst, sym, ◌∙◌, arith}
+use Rattle.std.proofs.Common.{◌≡◌, ℕ, zero, suc, ◌+◌, ◌<◌, ◌≤◌, ◌^◌, Bool, true, false, cond, inl, inr, Option, Some, None, List, [], ◌∷◌, ◌++◌, append_assoc, length, length-append, refl, ap, subst, sym, ◌∙◌, arith, append-nil as nil}
 use Rattle.std.specs.Prelude.{◌&&◌, not, nat_lt, nat_le, All}
 use Rattle.std.specs.List.{list_all}
-use Rattle.std.proofs.lemmas.Bool.{cases_lt}
+use Rattle.std.proofs.lemmas.Bool.{cases_lt, not-true as negated, and_parts as both}
 use Rattle.std.proofs.lemmas.Bool.Decides.{nat_tests}
 use Rattle.std.proofs.lemmas.List.Elements.{All-nil, All-cons, All-head, All-tail, All-push, All-weaker}
 use Rattle.file_spec.specs.Script.{ScriptLine}
@@ -27,10 +27,6 @@ typed_test (l ∷ more) t a =
     let this : nat_le l.at t ≡ true = (let h = All-head (λ l. l.at ≤ t) l more a in grind (arith, nat_tests)) in
     ap (λ b. b && list_all (λ l. nat_le l.at t) more) this ∙ typed_test more t (All-tail (λ l. l.at ≤ t) l more a)
 
-both : (a b : Bool) → (a && b) ≡ true → (a ≡ true) × (b ≡ true)
-both true b e = (refl, e)
-both false b e = cc e
-
 from_test : (lines : List ScriptLine) (t : ℕ) → list_all (λ l. nat_le l.at t) lines ≡ true → All (λ l. l.at ≤ t) lines
 from_test [] t e = All-nil (λ (l : ScriptLine). l.at ≤ t)
 from_test (l ∷ more) t e =
@@ -40,10 +36,6 @@ from_test (l ∷ more) t e =
 
 end_test : (settings : SenderSettings) (lines : List ScriptLine) (t : ℕ) → IsEnd settings lines t → scripts.is_end (sending_of settings) lines t ≡ true
 end_test settings lines t e = ap (λ b. b && not (has_more settings (events_through lines t))) (typed_test lines t e.all_typed) ∙ ap not e.all_sent
-
-negated : (b : Bool) → not b ≡ true → b ≡ false
-negated true e = cc e
-negated false e = refl
 
 from_end_test : (settings : SenderSettings) (lines : List ScriptLine) (t : ℕ) → scripts.is_end (sending_of settings) lines t ≡ true → IsEnd settings lines t
 from_end_test settings lines t e =
@@ -74,10 +66,6 @@ is_first settings lines t top e =
     (from_end_test settings lines (first_end settings lines) f.0, f.1)
 
 -- ---- there is one
-nil : (xs : List ScriptLine) → xs ++ [] ≡ xs
-nil [] = refl
-nil (x ∷ xs) = ap (λ ys. x ∷ ys) (nil xs)
-
 not_full : (b : Bool) (line : ℕ) (more : Option ℕ) → cond b (Some line) more ≡ None → (b ≡ false) × (more ≡ None)
 not_full true line more e = cc e
 not_full false line more e = (refl, e)

@@ -2,7 +2,7 @@
 use Rattle.std.proofs.Common.{◌≡◌, ℕ, ◌+◌, ◌<◌, ◌≤◌, ◌^◌, Bool, true, false, cond, inl, inr, List, [], ◌∷◌, ◌++◌, length, refl, ap, subst, sym, ◌∙◌, arith}
 use Rattle.std.specs.Prelude.{filter, ◌==◌, ◌&&◌, ◌||◌, All}
 use Rattle.std.specs.List.{concat, flat_map}
-use Rattle.std.proofs.lemmas.Bool.{cases_lt}
+use Rattle.std.proofs.lemmas.Bool.{cases_lt, or_right as or_more}
 use Rattle.std.proofs.lemmas.Bool.Decides.{nat_tests}
 use Rattle.wire_spec.specs.Packets.{has_text}
 use Rattle.wire_spec.specs.Dump.{arrivals, usual_limit}
@@ -25,15 +25,13 @@ use Rattle.stream_spec.specs.Own.{Sent}
 use Rattle.command_spec.specs.Scripts.{AreLines, text_of_lines, events_through}
 use Rattle.text_conversions.specs.Scripts.{IsEnd}
 use Rattle.text_conversions.specs.Scripts.{records_sent, recording_sent}
-use Rattle.text_conversions.proofs.Arriving.{place_under, recording_arrives}
+use Rattle.text_conversions.proofs.Arriving.{recording_arrives}
 use Rattle.text_conversions.proofs.Typed.{script_through, lawful_sent, texts_sent}
 use Rattle.wire_spec.specs.declared.limits.TheConstants.{LAST_RECORD_MOMENT}
+use Rattle.stream_spec.proofs.Plain.{place_to as place_under}
+use Rattle.packetizer.proofs.Scripts.{empty as no_text}
 
 -- ---- no place is missing
-or_more : (a b : Bool) → b ≡ true → (a || b) ≡ true
-or_more true b h = refl
-or_more false b h = h
-
 has_all : (before es : List Entry) (k : ℕ) → length before ≤ k → k < length before + length es → has_place (placed_after before es) k ≡ true
 has_all before [] k l m = absurd (omega arith)
 has_all before (e ∷ es) k l m = elim (cases_lt (length before) k) [
@@ -49,10 +47,6 @@ all_blocks : (items : List Item) → (In Marker items → ⊥) → concat (kept_
 all_blocks [] n = refl
 all_blocks (Marker ∷ items) n = absurd (n (inl refl))
 all_blocks (Block x ∷ items) n = ap (λ xs. x.text ++ xs) (all_blocks items (λ i. n (inr i)))
-
-no_text : (xs : List ℕ) → has_text xs ≡ false → xs ≡ []
-no_text [] e = refl
-no_text (x ∷ xs) e = cc e
 
 with_text : (s : ℕ) (xs : List Placed) → ((x : Placed) → In x xs → x.source ≡ s) → flat_map (λ x. x.text) (filter (is_text_of s) xs) ≡ flat_map (λ x. x.text) xs
 with_text s [] o = refl

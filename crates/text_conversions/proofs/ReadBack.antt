@@ -30,6 +30,7 @@ use Rattle.rtt_base.specs.declared.limits.TheConstants.{MOST_PACKET_OCTETS}
 use Rattle.wire_spec.specs.declared.limits.TheConstants.{LAST_RECORD_MOMENT}
 use Rattle.std.proofs.lemmas.List.{map-append}
 use Rattle.stream_spec.proofs.Lists.{map_same}
+use Rattle.command_spec.proofs.SentBack.{all_push as all_append}
 
 -- ---- a packet
 pub record IsBack (settings : SenderSettings) (p : Packet) : Type 0 where
@@ -84,10 +85,6 @@ read_are settings (e ∷ es) b =
     ∙ ap (map (own_of more)) (sym (placed_grown h (entry_after c.generations zs e.sent))))))
 
 -- ---- the recording
-all_append : {X : Type 0} (P : X → Type 0) (xs : List X) (x : X) → AllByRecursion P xs → P x → AllByRecursion P (xs ++ x ∷ [])
-all_append P [] x a p = (p, tt)
-all_append P (y ∷ xs) x a p = (a.0, all_append P xs x a.1 p)
-
 all_front : {X : Type 0} (P : X → Type 0) (xs : List X) (x : X) → AllByRecursion P (xs ++ x ∷ []) → AllByRecursion P xs × P x
 all_front P [] x a = (tt, a.0)
 all_front P (y ∷ xs) x a = let r = all_front P xs x a.1 in ((a.0, r.0), r.1)

@@ -1,21 +1,14 @@
 -- The front of a text that is not empty is not empty.
-use Rattle.std.proofs.Common.{◌≡◌, ℕ, ◌≤◌, true, false, List, [], ◌∷◌, ◌++◌, length, length-append, take, refl, ap, subst, sym, ◌∙◌, arith}
-use Rattle.std.specs.Prelude.{◌&&◌, IsUtf8, Bool}
+use Rattle.std.proofs.Common.{◌≡◌, ℕ, ◌≤◌, true, false, List, [], ◌∷◌, length, length-append, take, ap, subst, sym, ◌∙◌, arith, append-nil as nil}
+use Rattle.std.specs.Prelude.{IsUtf8}
 use Rattle.std.proofs.Math.Seq.{take-append_seam}
 use Rattle.std.proofs.Math.Utf8.{scalar, scalars, encode, encodes}
 use Rattle.std.proofs.lemmas.Str.{length-encode, len_utf8_bounds}
 use Rattle.wire_spec.specs.Packets.{has_text}
 use Rattle.stream_spec.specs.Typed.{whole_front}
-use Rattle.packetizer.proofs.Scripts.{longest_front}
 use Rattle.rtt_base.specs.declared.limits.TheConstants.{MOST_TEXT_OCTETS}
-
-nil : (xs : List ℕ) → xs ++ [] ≡ xs
-nil [] = refl
-nil (x ∷ xs) = ap (λ ys. x ∷ ys) (nil xs)
-
-first_true : (a b : Bool) → (a && b) ≡ true → (a && true) ≡ true
-first_true true b h = refl
-first_true false b h = h
+use Rattle.stream_spec.proofs.Plain.{longest_front}
+use Rattle.wire_spec.proofs.Plain.{first_true}
 
 first_character : (cs octets : List ℕ) → scalars cs ≡ true → encodes cs ≡ octets → has_text octets ≡ true → IsUtf8 octets → 1 ≤ length (whole_front MOST_TEXT_OCTETS octets)
 first_character [] octets s e h u = let none : has_text octets ≡ false = ap has_text (sym e) in cc (none, h)

@@ -1,5 +1,5 @@
 -- A script, line after line, and its ends.
-use Rattle.std.proofs.Common.{◌≡◌, ℕ, suc, ◌+◌, ◌<◌, ◌≤◌, ◌^◌, true, false, inl, inr, Some, None, List, [], ◌∷◌, ◌++◌, append_assoc, length, get_or, take, drop, cond, refl, ap, subst, sym, ◌∙◌, arith}
+use Rattle.std.proofs.Common.{◌≡◌, ℕ, suc, ◌+◌, ◌<◌, ◌≤◌, ◌^◌, true, false, inl, inr, Some, None, List, [], ◌∷◌, ◌++◌, append_assoc, length, get_or, take, drop, cond, refl, ap, subst, sym, ◌∙◌, arith, append-nil as nil}
 use Rattle.std.specs.Prelude.{All, nat_lt, IsUtf8}
 use Rattle.std.proofs.lemmas.List.Elements.{All-head, All-tail, All-weaker}
 use Rattle.std.proofs.lemmas.List.{at_drop_more, take_more, drop_all}
@@ -86,10 +86,6 @@ full_here settings lines above more line r passed s p over =
     test a l = grind (arith, nat_tests)
 
 -- ---- behind the last line
-nil : (xs : List ScriptLine) → xs ++ [] ≡ xs
-nil [] = refl
-nil (x ∷ xs) = ap (λ ys. x ∷ ys) (nil xs)
-
 pub record Sent (settings : SenderSettings) (lines : List ScriptLine) (octets : List ℕ) (n : ℕ) : Type 0 where
   pub is_end : IsEnd settings lines n
   pub recording : octets ≡ recording_sent settings lines n

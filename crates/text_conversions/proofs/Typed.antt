@@ -1,5 +1,5 @@
 -- What was typed of a script, and that it is a script of a sender.
-use Rattle.std.proofs.Common.{◌≡◌, ℕ, zero, suc, ◌<◌, ◌≤◌, ◌^◌, Bool, true, false, cond, inl, inr, List, [], ◌∷◌, ◌++◌, append_assoc, refl, ap, subst, sym, ◌∙◌, arith}
+use Rattle.std.proofs.Common.{◌≡◌, ℕ, zero, suc, ◌<◌, ◌≤◌, ◌^◌, Bool, true, false, cond, inl, inr, List, [], ◌∷◌, ◌++◌, append_assoc, refl, ap, subst, sym, ◌∙◌, arith, append-nil as nil}
 use Rattle.std.specs.Prelude.{◌==◌, All, IsUtf8}
 use Rattle.std.specs.List.{AllByRecursion}
 use Rattle.std.proofs.lemmas.Grind.{flat_map-append}
@@ -47,10 +47,6 @@ typed_until lines t k a l = elim (cases_lt t k) [
   | inl lt ↦ ap typed (until_later lines t k a lt) ∙ typed_on lines t k a lt
   | inr ge ↦ (let q : k ≡ t = omega arith in ap (λ n. typed (events_until lines n)) q)
 ]
-
-nil : {X : Type 0} (xs : List X) → xs ++ [] ≡ xs
-nil [] = refl
-nil (x ∷ xs) = ap (λ ys. x ∷ ys) (nil xs)
 
 texts_more : (above : List ScriptLine) (l : ScriptLine) → text_of_lines (above ++ l ∷ []) ≡ text_of_lines above ++ l.text
 texts_more above l = flat_map-append (λ (x : ScriptLine). x.text) above (l ∷ []) ∙ ap (λ xs. text_of_lines above ++ xs) (nil l.text)

@@ -3,6 +3,7 @@ use Rattle.std.specs.Prelude.{◌≡◌, ℕ, ◌≤◌, ◌++◌, List, None, R
 use Rattle.wire_spec.specs.Dump.{dump, usual_limit}
 use Rattle.rtpdump_io.specs.Reading.{IsFaultOf}
 use Rattle.rtt_io.specs.Counts.{Rose}
+use Rattle.receiver.specs.declared.cuts.TextCut.TheVariants.{Never}
 use Rattle.receiver.specs.declared.settings.EarSettings.{EarSettings}
 use Rattle.leg.specs.declared.legs.Leg.{Leg}
 use Rattle.leg.specs.Gives.{Stands, begins}
@@ -15,7 +16,7 @@ use Rattle.text_conversions.specs.declared.relay_faults.ChannelFault.TheVariants
 
 -- the stream of this SSRC, with the usual payload types and wait
 abbrev pub channel_settings : ℕ → EarSettings
-channel_settings ssrc = record { ssrc = ssrc; payload_types = usual_payload_types; wait = usual_wait }
+channel_settings ssrc = record { ssrc = ssrc; payload_types = usual_payload_types; wait = usual_wait; cut = Never }
 
 -- all frames of the recording were appended, and it was read to its end
 pub record IsWritten (ssrc : ℕ) (octets old new : List ℕ) : Type 0 where

@@ -11,7 +11,7 @@ use file_spec::frame_limits::MOST_FRAMES_OCTETS;
 use file_spec::limits::{USUAL_RED, USUAL_T140};
 use file_spec::{FrameKind, FrameRefusal};
 use leg::{Leg, LegLost, LegStep};
-use receiver::EarSettings;
+use receiver::{EarSettings, TextCut};
 use rtt_base::limits::USUAL_WAIT;
 use rtt_base::{Bytes, Chunk, NoMemory as OutOfMemory, PayloadTypes};
 use rtt_io::Source;
@@ -34,6 +34,7 @@ pub fn channel_leg<S: Source>(alloc: Global, source: S, ssrc: u32) -> Result<Leg
             red: USUAL_RED,
         },
         wait: u64::from(USUAL_WAIT),
+        cut: TextCut::Never,
     };
     Leg::new(alloc, source, settings)
 }

@@ -30,10 +30,3 @@ pub use send_laws::{
     sent_is_read_back,
 };
 pub use writers::write_frame;
-
-#[cfg(test)]
-mod channel_tests;
-#[cfg(test)]
-mod relay_tests;
-#[cfg(test)]
-mod send_tests;

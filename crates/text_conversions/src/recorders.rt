@@ -51,18 +51,22 @@ impl Recorder {
         requires text { IsUtf8 line.text.now }
         requires now { self.old.now ≡ line.at }
         ensures room { (settings : SenderSettings) (lines : List spec.ScriptLine) → IsAt settings lines self.old
-            → (IsOk result ↔ (length (waits_for settings (events_until lines self.old.now)) + length line.entry.text.now ≤ MOST_WAITING_OCTETS)) }
-        ensures ok { OnOk result ((settings : SenderSettings) (lines : List spec.ScriptLine) → IsAt settings lines self.old → IsAt settings (lines ++ line_of line.entry ∷ []) self.new) }
+            → (IsOk result ↔ (length (waits_for settings
+            (events_until lines self.old.now)) + length line.entry.text.now ≤ MOST_WAITING_OCTETS)) }
+        ensures ok { OnOk result ((settings : SenderSettings) (lines : List spec.ScriptLine)
+            → IsAt settings lines self.old → IsAt settings (lines ++ line_of line.entry ∷ []) self.new) }
         ensures now { self.new.now ≡ self.old.now }
     {
         self.sender.typed(line.text)
     }
 
     /// Asks at each millisecond before this one.
+    #[inline(always)]
     pub fn pass_to(&mut self, at: u64) -> Result<(), NoMemory>
         requires known { Known self.old }
         requires early { at < 2 ^ 31 }
-        ensures at { OnOk result ((settings : SenderSettings) (lines : List spec.ScriptLine) → IsAt settings lines self.old → IsAt settings lines self.new) }
+        ensures at { OnOk result ((settings : SenderSettings) (lines : List spec.ScriptLine)
+            → IsAt settings lines self.old → IsAt settings lines self.new) }
         ensures now { OnOk result (self.old.now ≤ at → self.new.now ≡ at) }
     {
         while self.now < at {

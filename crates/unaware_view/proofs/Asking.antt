@@ -5,7 +5,7 @@ use Rattle.std.proofs.lemmas.Bool.{cases_eq, eq-eqb, ne_eqb}
 use Rattle.t140_text.specs.Endings.{IsEnding}
 use Rattle.t140_text.proofs.Endings.{line_of, sentence_of}
 use Rattle.stream_spec.specs.Ready.{Chunk}
-use Rattle.mixer_spec.specs.Chunks.{joined, has_chunk}
+use Rattle.mixer_spec.specs.Chunks.{has_chunk}
 use Rattle.mixer_spec.specs.Rounds.{any_below, first_round}
 use Rattle.mixer_spec.specs.Setups.{Setup}
 use Rattle.mixer_spec.specs.Composed.{Answer, Asked, answer, answer_after, begin_with, chars_of, go_on, headed, is_after_cr, is_labelled_again, is_open, latest, run_of, since, speak_on, text_of, is_ago, is_switch, ends_turn, waits_here}
@@ -22,14 +22,14 @@ use Rattle.unaware_view.specs.Standing.{ComposerStandsFor, IsCurrent, IsSpeaker}
 use Rattle.unaware_view.proofs.Firsts.{any_same, round_same}
 
 -- what is given of a choice
-abbrev pub given_of : (ℕ → List ℕ) → (ℕ → List Chunk) → List Asked → Choice → Option Answer
-given_of name w asks Nobody = None
-given_of name w asks (Begins i) = Some (headed w (name i) (is_after_cr asks) (is_open asks) [] i)
-given_of name w asks (GoesOn i) = Some (go_on name w asks i)
+abbrev pub given_of : ℕ → (ℕ → List ℕ) → (ℕ → List Chunk) → List Asked → Choice → Option Answer
+given_of room name w asks Nobody = None
+given_of room name w asks (Begins i) = Some (headed room w (name i) (is_after_cr asks) (is_open asks) [] i)
+given_of room name w asks (GoesOn i) = Some (go_on room name w asks i)
 
-begins_given : (name : ℕ → List ℕ) (w : ℕ → List Chunk) (asks : List Asked) (o : Option ℕ) → given_of name w asks (begins o) ≡ begin_with name w asks o
-begins_given name w asks None = refl
-begins_given name w asks (Some i) = refl
+begins_given : (room : ℕ) (name : ℕ → List ℕ) (w : ℕ → List Chunk) (asks : List Asked) (o : Option ℕ) → given_of room name w asks (begins o) ≡ begin_with room name w asks o
+begins_given room name w asks None = refl
+begins_given room name w asks (Some i) = refl
 
 turn_is : (r : Run) (text : List ℕ) → IsEnding r.ending (chars text) → is_turn r.ending ≡ ends_turn text
 turn_is r text h = λ k. line_of r.ending text h k || sentence_of r.ending text h k
@@ -81,29 +81,29 @@ again_same s c asks w g x now h k = ap (λ (o : Option ℕ). again_by o c.run.ha
     go (Some ms) = λ r. h.stands.run.chunk r && is_ago ms now (sym k.given r)
 
 -- ---- the choice
-pub choice_is : (s : Setup) (c : State) (asks : List Asked) (w : ℕ → List Chunk) (due : Bool) (now : ℕ) → Looks s c asks w → given_of s.name w asks (choice c due now) ≡ answer s.legs s.name s.relabel c.own now due w asks
+pub choice_is : (s : Setup) (c : State) (asks : List Asked) (w : ℕ → List Chunk) (due : Bool) (now : ℕ) → Looks s c asks w → given_of (s.room c.own) s.name w asks (choice c due now) ≡ answer (s.room c.own) s.legs s.name s.relabel c.own now due w asks
 choice_is s c asks w false now h = refl
 choice_is s c asks w true now h = go (latest asks) c.current h.stands.current
   where
-    rounds : (start : ℕ) → start ≤ s.legs → given_of s.name w asks (begins (first_round (is_set c.waits) start (length c.waits))) ≡ begin_with s.name w asks (first_round (waits_here c.own w) start s.legs)
+    rounds : (start : ℕ) → start ≤ s.legs → given_of (s.room c.own) s.name w asks (begins (first_round (is_set c.waits) start (length c.waits))) ≡ begin_with (s.room c.own) s.name w asks (first_round (waits_here c.own w) start s.legs)
     rounds start l =
-        begins_given s.name w asks (first_round (is_set c.waits) start (length c.waits))
-        ∙ ap (begin_with s.name w asks) (round_same (is_set c.waits) (waits_here c.own w) start (length c.waits) (let k = h.legs in omega (arith, l, k)) h.flags ∙ ap (first_round (waits_here c.own w) start) h.legs)
+        begins_given (s.room c.own) s.name w asks (first_round (is_set c.waits) start (length c.waits))
+        ∙ ap (begin_with (s.room c.own) s.name w asks) (round_same (is_set c.waits) (waits_here c.own w) start (length c.waits) (let k = h.legs in omega (arith, l, k)) h.flags ∙ ap (first_round (waits_here c.own w) start) h.legs)
 
     on : (a : Bool) → ℕ → Answer
-    on a i = cond a (headed w (s.name i) (is_after_cr asks) (is_open asks) [] i) (go_on s.name w asks i)
+    on a i = cond a (headed (s.room c.own) w (s.name i) (is_after_cr asks) (is_open asks) [] i) (go_on (s.room c.own) s.name w asks i)
 
-    by : (b d a : Bool) (k : Choice) (i : ℕ) (o : Option Answer) → given_of s.name w asks k ≡ o → given_of s.name w asks (cond b k (cond d (onward a i) Nobody)) ≡ cond b o (cond d (Some (on a i)) None)
+    by : (b d a : Bool) (k : Choice) (i : ℕ) (o : Option Answer) → given_of (s.room c.own) s.name w asks k ≡ o → given_of (s.room c.own) s.name w asks (cond b k (cond d (onward a i) Nobody)) ≡ cond b o (cond d (Some (on a i)) None)
     by true d a k i o e = e
     by false true true k i o e = refl
     by false true false k i o e = refl
     by false false a k i o e = refl
 
-    go : (o : Option Answer) (k : Option Current) → IsCurrent s c.own asks o k → given_of s.name w asks (choice_after c now k) ≡ answer_after s.legs s.name s.relabel c.own now w asks o
+    go : (o : Option Answer) (k : Option Current) → IsCurrent s c.own asks o k → given_of (s.room c.own) s.name w asks (choice_after c now k) ≡ answer_after (s.room c.own) s.legs s.name s.relabel c.own now w asks o
     go None None u = rounds 0 (omega arith)
     go None (Some x) u = absurd u
     go (Some g) None u = absurd u
     go (Some g) (Some x) u =
-        by (is_left c x now) (is_set c.waits x.speaker) (is_again c x now) (begins (first_round (is_set c.waits) (suc x.speaker) (length c.waits))) x.speaker (begin_with s.name w asks (first_round (waits_here c.own w) (suc x.speaker) s.legs)) (rounds (suc x.speaker) (let l = u.leg in omega (arith, l)))
-        ∙ ((λ r. cond (switch_same s c asks w g x now h u r) (begin_with s.name w asks (first_round (waits_here c.own w) (suc x.speaker) s.legs)) (cond (speaker_flag s c asks w x.speaker h u.leg u.other r) (Some (on (again_same s c asks w g x now h u r) x.speaker)) None))
-        ∙ ap (λ (i : ℕ). cond (is_switch s.legs c.own now w asks i) (begin_with s.name w asks (first_round (waits_here c.own w) (suc i) s.legs)) (cond (has_chunk (w i)) (Some (speak_on s.name s.relabel now w asks i)) None)) (sym u.source))
+        by (is_left c x now) (is_set c.waits x.speaker) (is_again c x now) (begins (first_round (is_set c.waits) (suc x.speaker) (length c.waits))) x.speaker (begin_with (s.room c.own) s.name w asks (first_round (waits_here c.own w) (suc x.speaker) s.legs)) (rounds (suc x.speaker) (let l = u.leg in omega (arith, l)))
+        ∙ ((λ r. cond (switch_same s c asks w g x now h u r) (begin_with (s.room c.own) s.name w asks (first_round (waits_here c.own w) (suc x.speaker) s.legs)) (cond (speaker_flag s c asks w x.speaker h u.leg u.other r) (Some (on (again_same s c asks w g x now h u r) x.speaker)) None))
+        ∙ ap (λ (i : ℕ). cond (is_switch s.legs c.own now w asks i) (begin_with (s.room c.own) s.name w asks (first_round (waits_here c.own w) (suc i) s.legs)) (cond (has_chunk (w i)) (Some (speak_on (s.room c.own) s.name s.relabel now w asks i)) None)) (sym u.source))

@@ -1,6 +1,7 @@
 -- The first number that passes a test.
-use Rattle.std.proofs.Common.{◌≡◌, ℕ, zero, suc, ◌+◌, ◌-◌, ◌<◌, ◌≤◌, Bool, true, false, cond, ◌||◌, Some, None, refl, ap, ◌∙◌, arith}
+use Rattle.std.proofs.Common.{◌≡◌, ℕ, zero, suc, ◌+◌, ◌-◌, ◌<◌, ◌≤◌, Bool, true, false, cond, ◌||◌, inl, inr, Some, None, refl, sym, ap, ◌∙◌, arith}
 use Rattle.std.specs.Option.{option_or}
+use Rattle.std.proofs.lemmas.Bool.{cases_eq}
 use Rattle.mixer_spec.specs.Rounds.{any_below, first_from, first_round}
 
 pub first_here : (p : ℕ → Bool) (i high : ℕ) → i < high → p i ≡ true → first_from p i (high - i) ≡ Some i
@@ -16,6 +17,23 @@ first_later p i high l e =
 
 pub first_none : (p : ℕ → Bool) (high : ℕ) → first_from p high (high - high) ≡ None
 first_none p high = let n : high - high ≡ 0 = omega arith in ap (first_from p high) n
+
+-- ---- whether there is one
+-- one of the numbers below n passes
+pub any_here : (p : ℕ → Bool) (n i : ℕ) → i < n → p i ≡ true → any_below p n ≡ true
+any_here p zero i l e = absurd (omega (arith, l))
+any_here p (suc n) i l e = elim (cases_eq i n) [
+  | inl q ↦ ap (λ (b : Bool). b || any_below p n) (ap p (sym q) ∙ e)
+  | inr m ↦ later (p n) (any_here p n i (omega (arith, l, m)) e)
+]
+  where
+    later : (b : Bool) → any_below p n ≡ true → (b || any_below p n) ≡ true
+    later true h = refl
+    later false h = h
+
+-- none of one number more passes
+pub any_next : (p : ℕ → Bool) (i : ℕ) → any_below p i ≡ false → p i ≡ false → any_below p (i + 1) ≡ false
+any_next p i h e = let m : i + 1 ≡ suc i = omega arith in ap (any_below p) m ∙ (ap (λ (b : Bool). b || any_below p i) e ∙ h)
 
 -- ---- tests that agree on the numbers below a bound
 pub any_same : (p q : ℕ → Bool) (n : ℕ) → ((i : ℕ) → i < n → p i ≡ q i) → any_below p n ≡ any_below q n

@@ -1,5 +1,6 @@
 pub mod Sizes
 pub mod RunSteps
+pub mod PlainRuns
 pub mod Firsts
 pub mod Flags
 pub mod Written

@@ -5,13 +5,14 @@ use Rattle.std.specs.Option.{option_or}
 use Rattle.std.proofs.lemmas.Bool.{ne_eqb, and_left, and_right}
 use Rattle.stream_spec.specs.Ready.{Chunk}
 use Rattle.mixer_spec.specs.Chunks.{has_chunk}
-use Rattle.mixer_spec.specs.Rounds.{first_from, first_round, any_below}
+use Rattle.mixer_spec.specs.Rounds.{first_from, first_round}
 use Rattle.mixer_spec.specs.Setups.{Setup}
 use Rattle.mixer_spec.specs.Table.{Table}
 use Rattle.mixer_spec.specs.Composed.{Answer, Asked, latest, run_of, since, is_switch, begin_with, answer_after, waits_here}
 use Rattle.unaware_view.specs.declared.composers.Current.{Current}
 use Rattle.unaware_view.specs.States.{State}
 use Rattle.unaware_view.specs.Standing.{IsCurrent, NoneWaits, ComposerStandsFor, asked_now, given_now, waiting}
+use Rattle.mixer_spec.proofs.Finish.{none_below}
 
 -- ---- nobody is found
 none_from : (p : ℕ → Bool) (n low count : ℕ) → low + count ≤ n → ((i : ℕ) → i < n → p i ≡ false) → first_from p low count ≡ None
@@ -23,16 +24,12 @@ none_round p start n l f =
     ap (λ (o : Option ℕ). option_or o (first_from p 0 start)) (none_from p n start (n - start) (omega arith) f)
     ∙ none_from p n 0 start (omega arith) f
 
-none_below : (p : ℕ → Bool) (n : ℕ) → ((i : ℕ) → i < n → p i ≡ false) → any_below p n ≡ false
-none_below p zero f = refl
-none_below p (suc n) f = rw (f n (omega arith)) (none_below p n (λ i l. f i (omega arith)))
-
 -- ---- nothing is given
-none_after : (legs : ℕ) (name : ℕ → List ℕ) (relabel : Option ℕ) (own now : ℕ) (waits : ℕ → List Chunk) (asks : List Asked) (s : Setup) (o : Option Answer) (c : Option Current) → s.legs ≡ legs
-    → ((i : ℕ) → i < legs → waits_here own waits i ≡ false) → IsCurrent s own asks o c → answer_after legs name relabel own now waits asks o ≡ None
-none_after legs name relabel own now waits asks s None c e f u = ap (λ (o : Option ℕ). begin_with name waits asks o) (none_round (waits_here own waits) 0 legs (omega arith) f)
-none_after legs name relabel own now waits asks s (Some g) None e f u = absurd u
-none_after legs name relabel own now waits asks s (Some g) (Some x) e f u =
+none_after : (room legs : ℕ) (name : ℕ → List ℕ) (relabel : Option ℕ) (own now : ℕ) (waits : ℕ → List Chunk) (asks : List Asked) (s : Setup) (o : Option Answer) (c : Option Current) → s.legs ≡ legs
+    → ((i : ℕ) → i < legs → waits_here own waits i ≡ false) → IsCurrent s own asks o c → answer_after room legs name relabel own now waits asks o ≡ None
+none_after room legs name relabel own now waits asks s None c e f u = ap (λ (o : Option ℕ). begin_with room name waits asks o) (none_round (waits_here own waits) 0 legs (omega arith) f)
+none_after room legs name relabel own now waits asks s (Some g) None e f u = absurd u
+none_after room legs name relabel own now waits asks s (Some g) (Some x) e f u =
     let here : g.source < legs = let l = u.leg in let q = u.source in omega (arith, l, q, e) in
     let other : g.source ≡ own → ⊥ = λ q. u.other (sym u.source ∙ q) in
     let silent : has_chunk (waits g.source) ≡ false = sym (ap (λ (b : Bool). not b && has_chunk (waits g.source)) (ne_eqb g.source own other)) ∙ f g.source here in
@@ -42,7 +39,7 @@ none_after legs name relabel own now waits asks s (Some g) (Some x) e f u =
 
 pub none_given : (s : Setup) (table : Table) (c : State) (media : ℕ) (due : Bool) (asks : List Asked) → ComposerStandsFor s c asks → NoneWaits s table c → given_now s table c media due asks ≡ None
 none_given s table c media false asks h f = refl
-none_given s table c media true asks h f = none_after s.legs s.name s.relabel c.own media (waiting table c) asks s (latest asks) c.current refl f h.current
+none_given s table c media true asks h f = none_after (s.room c.own) s.legs s.name s.relabel c.own media (waiting table c) asks s (latest asks) c.current refl f h.current
 
 -- ---- the composer behind it
 or_none : (o : Option ℕ) → option_or o None ≡ o
@@ -69,4 +66,5 @@ passed s table c media due asks h f =
       run = h.run;
       asked = refl;
       relabel = h.relabel;
+      room = h.room;
     })

@@ -135,7 +135,7 @@ seen_same r alone behind_cr run c h = ap (λ n. is_print (class_of c) || (c == 0
 pub headed_parts : (r : Run) (c : ℕ) → is_headed r c ≡ true → (r.labelled ≡ false) × (is_seen_at r.erasable c ≡ true)
 headed_parts r c e = let p = and_parts (not r.labelled) (is_seen_at r.erasable c) e in (not-true r.labelled p.0, p.1)
 
-ahead_unseen : (r : Run) (c : ℕ) → r.labelled ≡ false → is_headed r c ≡ false → is_seen_at r.erasable c ≡ false
+pub ahead_unseen : (r : Run) (c : ℕ) → r.labelled ≡ false → is_headed r c ≡ false → is_seen_at r.erasable c ≡ false
 ahead_unseen r c l e = sym (ap (λ b. not b && is_seen_at r.erasable c) l) ∙ e
 
 -- ---- the run with one character more

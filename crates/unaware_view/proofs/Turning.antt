@@ -32,7 +32,7 @@ use Rattle.unaware_view.specs.Choices.{is_set, since_at, is_again, is_left, begi
 use Rattle.unaware_view.specs.Standing.{RunStands, ComposerStandsFor, IsAsked, IsCurrent, IsSpeaker, name_at, answered, asked_now, given_now}
 use Rattle.unaware_view.specs.Giving.{Gives, GivesLabel, GivesOn, remembered, waits_of}
 use Rattle.unaware_view.proofs.Asking.{Looks, choice_is, given_of, speaker_flag}
-use Rattle.rtt_base.specs.declared.limits.TheConstants.{MOST_TEXT_OCTETS}
+use Rattle.std.proofs.Math.Bool.{or-true as some_chunk}
 
 -- ---- the speaker is never the terminal's own leg
 abbrev pub IsOther : ℕ → Choice → Type 0
@@ -77,12 +77,12 @@ pub record Turns (s : Setup) (table : Table) (c : State) (asks : List Asked) (na
   pub below : IsBelow s.legs k
   pub other : IsOther c.own k
   pub texts : (i : ℕ) → AreTexts (waits_of table c.own i)
-  pub gives : Gives s table c.own names c.run next (began_alone asks) (began_behind_cr asks) (chars_of (run_of asks)) k text after
+  pub gives : Gives s table c.own (s.room c.own) names c.run next (began_alone asks) (began_behind_cr asks) (chars_of (run_of asks)) k text after
 
-pub some_is : (name : ℕ → List ℕ) (w : ℕ → List Chunk) (asks : List Asked) (k : Choice) → is_some (speaker_of k) ≡ is_some (given_of name w asks k)
-some_is name w asks Nobody = refl
-some_is name w asks (Begins i) = refl
-some_is name w asks (GoesOn i) = refl
+pub some_is : (room : ℕ) (name : ℕ → List ℕ) (w : ℕ → List Chunk) (asks : List Asked) (k : Choice) → is_some (speaker_of k) ≡ is_some (given_of room name w asks k)
+some_is room name w asks Nobody = refl
+some_is room name w asks (Begins i) = refl
+some_is room name w asks (GoesOn i) = refl
 
 -- the label of a run is to come as the definition says it
 unlabelled_is : (s : Setup) (c : State) (asks : List Asked) → ComposerStandsFor s c asks → is_unlabelled asks ≡ not c.run.labelled
@@ -122,10 +122,6 @@ chars_append : (cs ds : List Chunk) → IsUtf8 (joined cs) → chars_of (cs ++ d
 chars_append cs ds u =
     ap without_directions (ap chars (joined_append cs ds) ∙ chars-append (joined cs) (joined ds) u)
     ∙ filter-append (λ c. not (is_direction c)) (chars (joined cs)) (chars (joined ds))
-
-some_chunk : (b : Bool) → (b || true) ≡ true
-some_chunk true = refl
-some_chunk false = refl
 
 goes_then : (name : List ℕ) (r next : Run) (alone other behind_cr on : Bool) (run cs : List Chunk) (text : List ℕ) → IsUtf8 (joined run) → AreTexts cs → r.is_open ≡ on → r.has_chunk ≡ has_chunk run → (has_chunk run || alone) ≡ true
     → RunGoesOn name r next alone behind_cr (chars_of run) cs [] text → Then next false run cs alone other behind_cr on
@@ -184,58 +180,58 @@ new_heads : (name : List ℕ) (r next : Run) (other : Bool) (cs : List Chunk) (t
 new_heads name r next other cs text h = subst (λ (xs : List ℕ). Heads name r next other xs cs text) (sym no_chars) h
 
 begins_text : (s : Setup) (table : Table) (c : State) (asks : List Asked) (names : List (List ℕ)) (i : ℕ) (next : Run) (text : List ℕ) (after : List Waiting)
-    → Turns s table c asks names (Begins i) next text after → text ≡ (headed (waits_of table c.own) (s.name i) (is_after_cr asks) (is_open asks) [] i).text
+    → Turns s table c asks names (Begins i) next text after → text ≡ (headed (s.room c.own) (waits_of table c.own) (s.name i) (is_after_cr asks) (is_open asks) [] i).text
 begins_text s table c asks names i next text after h =
     let g = h.gives in
     let name : List ℕ = name_at names i in
-    let cs : List ℕ → List Chunk = λ n. front (room_beside n) (waits_of table c.own i) in
+    let cs : List ℕ → List Chunk = λ n. front (room_beside (s.room c.own) n) (waits_of table c.own i) in
     let b = g.begun in
     heads_text name g.start next (is_after_cr asks) (is_open asks) [] (cs name) text (b.is_open ∙ h.looks.stands.run.line) b.labelled
     (new_heads name g.start next (is_after_cr asks) (cs name) text g.headed.heads)
     ∙ ap (λ n. with_label n (is_after_cr asks) (is_open asks) [] (cs n)) (h.names_are i h.below)
 
 on_text : (s : Setup) (table : Table) (c : State) (asks : List Asked) (names : List (List ℕ)) (i : ℕ) (next : Run) (text : List ℕ) (after : List Waiting)
-    → Turns s table c asks names (GoesOn i) next text after → text ≡ (go_on s.name (waits_of table c.own) asks i).text
+    → Turns s table c asks names (GoesOn i) next text after → text ≡ (go_on (s.room c.own) s.name (waits_of table c.own) asks i).text
 on_text s table c asks names i next text after h = elim h.gives [ inl g ↦ on g | inr g ↦ label g ]
   where
     by : Bool → List ℕ
-    by b = (cond b (headed (waits_of table c.own) (s.name i) (began_behind_cr asks) (is_open asks) (run_of asks) i) (gone_on (waits_of table c.own) (behind_label asks) i)).text
+    by b = (cond b (headed (s.room c.own) (waits_of table c.own) (s.name i) (began_behind_cr asks) (is_open asks) (run_of asks) i) (gone_on (s.room c.own) (waits_of table c.own) (behind_label asks) i)).text
 
-    on : GivesOn s table c.own (name_at names i) c.run next (began_alone asks) (began_behind_cr asks) (chars_of (run_of asks)) i text after → text ≡ (go_on s.name (waits_of table c.own) asks i).text
+    on : GivesOn s table c.own (s.room c.own) (name_at names i) c.run next (began_alone asks) (began_behind_cr asks) (chars_of (run_of asks)) i text after → text ≡ (go_on (s.room c.own) s.name (waits_of table c.own) asks i).text
     on g =
         g.goes.sends.text_is
-        ∙ (ap (λ (l : Bool). cond l (encode_utf8_all (written (behind_label asks) (chars_of (front MOST_TEXT_OCTETS (waits_of table c.own i))))) (labelled (name_at names i) (began_behind_cr asks) c.run.is_open (chars_of (run_of asks)) (chars_of (front MOST_TEXT_OCTETS (waits_of table c.own i))))) g.labelled
+        ∙ (ap (λ (l : Bool). cond l (encode_utf8_all (written (behind_label asks) (chars_of (front (s.room c.own) (waits_of table c.own i))))) (labelled (name_at names i) (began_behind_cr asks) c.run.is_open (chars_of (run_of asks)) (chars_of (front (s.room c.own) (waits_of table c.own i))))) g.labelled
         ∙ ap by (sym (unlabelled_is s c asks h.looks.stands ∙ ap not g.labelled)))
 
-    label : GivesLabel s table c.own (name_at names i) c.run next (began_alone asks) (began_behind_cr asks) (chars_of (run_of asks)) i text after → text ≡ (go_on s.name (waits_of table c.own) asks i).text
+    label : GivesLabel s table c.own (s.room c.own) (name_at names i) c.run next (began_alone asks) (began_behind_cr asks) (chars_of (run_of asks)) i text after → text ≡ (go_on (s.room c.own) s.name (waits_of table c.own) asks i).text
     label g =
-        heads_text (name_at names i) c.run next (began_behind_cr asks) (is_open asks) (run_of asks) (front (room_beside (name_at names i)) (waits_of table c.own i)) text h.looks.stands.run.line g.labelled g.headed.heads
-        ∙ (ap (λ n. with_label n (began_behind_cr asks) (is_open asks) (run_of asks) (front (room_beside n) (waits_of table c.own i))) (h.names_are i h.below)
+        heads_text (name_at names i) c.run next (began_behind_cr asks) (is_open asks) (run_of asks) (front (room_beside (s.room c.own) (name_at names i)) (waits_of table c.own i)) text h.looks.stands.run.line g.labelled g.headed.heads
+        ∙ (ap (λ n. with_label n (began_behind_cr asks) (is_open asks) (run_of asks) (front (room_beside (s.room c.own) n) (waits_of table c.own i))) (h.names_are i h.below)
         ∙ ap by (sym (unlabelled_is s c asks h.looks.stands ∙ ap not g.labelled)))
 
 pub text_is : (s : Setup) (table : Table) (c : State) (asks : List Asked) (names : List (List ℕ)) (k : Choice) (next : Run) (text : List ℕ) (after : List Waiting)
-    → Turns s table c asks names k next text after → text ≡ text_given (given_of s.name (waits_of table c.own) asks k)
+    → Turns s table c asks names k next text after → text ≡ text_given (given_of (s.room c.own) s.name (waits_of table c.own) asks k)
 text_is s table c asks names Nobody next text after h = h.gives.text_is
 text_is s table c asks names (Begins i) next text after h = begins_text s table c asks names i next text after h
 text_is s table c asks names (GoesOn i) next text after h = on_text s table c asks names i next text after h
 
 pub slots_are : (s : Setup) (table : Table) (c : State) (asks : List Asked) (names : List (List ℕ)) (k : Choice) (next : Run) (text : List ℕ) (after : List Waiting)
-    → Turns s table c asks names k next text after → slots.SlotsStandFor s after (answered c.own (given_of s.name (waits_of table c.own) asks k) table)
+    → Turns s table c asks names k next text after → slots.SlotsStandFor s after (answered c.own (given_of (s.room c.own) s.name (waits_of table c.own) asks k) table)
 slots_are s table c asks names Nobody next text after h = h.gives.stands
 slots_are s table c asks names (Begins i) next text after h =
-    subst (λ (n : List ℕ). slots.SlotsStandFor s after (fetched c.own i (room_beside n) table)) (h.names_are i h.below) h.gives.headed.stands
+    subst (λ (n : List ℕ). slots.SlotsStandFor s after (fetched c.own i (room_beside (s.room c.own) n) table)) (h.names_are i h.below) h.gives.headed.stands
 slots_are s table c asks names (GoesOn i) next text after h = elim h.gives [ inl g ↦ on g | inr g ↦ label g ]
   where
     at : Bool → Type 0
-    at b = slots.SlotsStandFor s after (answered c.own (Some (cond b (headed (waits_of table c.own) (s.name i) (began_behind_cr asks) (is_open asks) (run_of asks) i) (gone_on (waits_of table c.own) (behind_label asks) i))) table)
+    at b = slots.SlotsStandFor s after (answered c.own (Some (cond b (headed (s.room c.own) (waits_of table c.own) (s.name i) (began_behind_cr asks) (is_open asks) (run_of asks) i) (gone_on (s.room c.own) (waits_of table c.own) (behind_label asks) i))) table)
 
-    on : GivesOn s table c.own (name_at names i) c.run next (began_alone asks) (began_behind_cr asks) (chars_of (run_of asks)) i text after → slots.SlotsStandFor s after (answered c.own (Some (go_on s.name (waits_of table c.own) asks i)) table)
+    on : GivesOn s table c.own (s.room c.own) (name_at names i) c.run next (began_alone asks) (began_behind_cr asks) (chars_of (run_of asks)) i text after → slots.SlotsStandFor s after (answered c.own (Some (go_on (s.room c.own) s.name (waits_of table c.own) asks i)) table)
     on g = subst at (sym (unlabelled_is s c asks h.looks.stands ∙ ap not g.labelled)) g.stands
 
-    label : GivesLabel s table c.own (name_at names i) c.run next (began_alone asks) (began_behind_cr asks) (chars_of (run_of asks)) i text after → slots.SlotsStandFor s after (answered c.own (Some (go_on s.name (waits_of table c.own) asks i)) table)
+    label : GivesLabel s table c.own (s.room c.own) (name_at names i) c.run next (began_alone asks) (began_behind_cr asks) (chars_of (run_of asks)) i text after → slots.SlotsStandFor s after (answered c.own (Some (go_on (s.room c.own) s.name (waits_of table c.own) asks i)) table)
     label g =
         subst at (sym (unlabelled_is s c asks h.looks.stands ∙ ap not g.labelled))
-        (subst (λ (n : List ℕ). slots.SlotsStandFor s after (fetched c.own i (room_beside n) table)) (h.names_are i h.below) g.headed.stands)
+        (subst (λ (n : List ℕ). slots.SlotsStandFor s after (fetched c.own i (room_beside (s.room c.own) n) table)) (h.names_are i h.below) g.headed.stands)
 
 -- ---- what the composer stands for then
 -- with an ask at which this was given
@@ -245,17 +241,17 @@ asked_more w media asks g = record { media = media; waiting = λ i. has_chunk (w
 abbrev pub state_then : State → Choice → Run → List (Option ℕ) → ℕ → State
 state_then c k next moments media = remembered (record c { run = next; since = moments; asked = media + 1 }) (speaker_of k) media
 
-source_is : (name : ℕ → List ℕ) (w : ℕ → List Chunk) (asks : List Asked) (i : ℕ) → (go_on name w asks i).source ≡ i
-source_is name w asks i = go (is_unlabelled asks)
+source_is : (room : ℕ) (name : ℕ → List ℕ) (w : ℕ → List Chunk) (asks : List Asked) (i : ℕ) → (go_on room name w asks i).source ≡ i
+source_is room name w asks i = go (is_unlabelled asks)
   where
-    go : (b : Bool) → (cond b (headed w (name i) (began_behind_cr asks) (is_open asks) (run_of asks) i) (gone_on w (behind_label asks) i)).source ≡ i
+    go : (b : Bool) → (cond b (headed room w (name i) (began_behind_cr asks) (is_open asks) (run_of asks) i) (gone_on room w (behind_label asks) i)).source ≡ i
     go true = refl
     go false = refl
 
-leg_is : (name : ℕ → List ℕ) (w : ℕ → List Chunk) (asks : List Asked) (k : Choice) (i : ℕ) → is_leg i (speaker_of k) ≡ is_of i (given_of name w asks k)
-leg_is name w asks Nobody i = refl
-leg_is name w asks (Begins s) i = refl
-leg_is name w asks (GoesOn s) i = ap (λ u. u == i) (sym (source_is name w asks s))
+leg_is : (room : ℕ) (name : ℕ → List ℕ) (w : ℕ → List Chunk) (asks : List Asked) (k : Choice) (i : ℕ) → is_leg i (speaker_of k) ≡ is_of i (given_of room name w asks k)
+leg_is room name w asks Nobody i = refl
+leg_is room name w asks (Begins s) i = refl
+leg_is room name w asks (GoesOn s) i = ap (λ u. u == i) (sym (source_is room name w asks s))
 
 -- since when each leg waits was noted
 pub record Notes (c : State) (k : Choice) (media : ℕ) (moments : List (Option ℕ)) : Type 0 where
@@ -263,10 +259,10 @@ pub record Notes (c : State) (k : Choice) (media : ℕ) (moments : List (Option 
   pub noted_at : (i : ℕ) → i < length c.since → since_at moments i ≡ noted media (is_leg i (speaker_of k)) (is_set c.waits i) (since_at c.since i)
 
 since_is : (s : Setup) (c : State) (asks : List Asked) (w : ℕ → List Chunk) (k : Choice) (media : ℕ) (moments : List (Option ℕ)) → Looks s c asks w → Notes c k media moments
-    → (i : ℕ) → i < s.legs → (i ≡ c.own → ⊥) → since_at moments i ≡ since i (asked_more w media asks (given_of s.name w asks k))
+    → (i : ℕ) → i < s.legs → (i ≡ c.own → ⊥) → since_at moments i ≡ since i (asked_more w media asks (given_of (s.room c.own) s.name w asks k))
 since_is s c asks w k media moments h n i l o =
     n.noted_at i (let e = h.stands.legs in omega (arith, l, e))
-    ∙ (λ r. cond (leg_is s.name w asks k i r) None (option_or (h.stands.waits_since i l o r) (cond (speaker_flag s c asks w i h l o r) (Some media) None)))
+    ∙ (λ r. cond (leg_is (s.room c.own) s.name w asks k i r) None (option_or (h.stands.waits_since i l o r) (cond (speaker_flag s c asks w i h l o r) (Some media) None)))
 
 still_current : (s : Setup) (own : ℕ) (asks : List Asked) (w : ℕ → List Chunk) (media : ℕ) (o : Option Answer) (x : Option Current) → IsCurrent s own asks o x → IsCurrent s own (asked_more w media asks None) o x
 still_current s own asks w media None None u = tt
@@ -285,63 +281,64 @@ now_current s own asks w media g i e l o = record {
 
 -- what stands of the run then, where something was given
 on_then : (s : Setup) (table : Table) (c : State) (asks : List Asked) (names : List (List ℕ)) (i : ℕ) (next : Run) (text : List ℕ) (after : List Waiting) → Turns s table c asks names (GoesOn i) next text after
-    → let g = go_on s.name (waits_of table c.own) asks i in Then next g.begins (run_of asks) g.chunks (began_alone asks) (is_after_cr asks) (began_behind_cr asks) (is_open asks)
+    → let g = go_on (s.room c.own) s.name (waits_of table c.own) asks i in Then next g.begins (run_of asks) g.chunks (began_alone asks) (is_after_cr asks) (began_behind_cr asks) (is_open asks)
 on_then s table c asks names i next text after h = elim h.gives [ inl g ↦ on g | inr g ↦ label g ]
   where
     after_by : Answer → Type 0
     after_by g = Then next g.begins (run_of asks) g.chunks (began_alone asks) (is_after_cr asks) (began_behind_cr asks) (is_open asks)
 
     at : Bool → Type 0
-    at b = after_by (cond b (headed (waits_of table c.own) (s.name i) (began_behind_cr asks) (is_open asks) (run_of asks) i) (gone_on (waits_of table c.own) (behind_label asks) i))
+    at b = after_by (cond b (headed (s.room c.own) (waits_of table c.own) (s.name i) (began_behind_cr asks) (is_open asks) (run_of asks) i) (gone_on (s.room c.own) (waits_of table c.own) (behind_label asks) i))
 
-    on : GivesOn s table c.own (name_at names i) c.run next (began_alone asks) (began_behind_cr asks) (chars_of (run_of asks)) i text after → after_by (go_on s.name (waits_of table c.own) asks i)
+    on : GivesOn s table c.own (s.room c.own) (name_at names i) c.run next (began_alone asks) (began_behind_cr asks) (chars_of (run_of asks)) i text after → after_by (go_on (s.room c.own) s.name (waits_of table c.own) asks i)
     on g =
         let st = h.looks.stands in
         subst at (sym (unlabelled_is s c asks st ∙ ap not g.labelled))
-        (goes_then (name_at names i) c.run next (began_alone asks) (is_after_cr asks) (began_behind_cr asks) (is_open asks) (run_of asks) (front MOST_TEXT_OCTETS (waits_of table c.own i)) text
-        st.run.utf8 (front_texts MOST_TEXT_OCTETS (waits_of table c.own i) (h.texts i)) st.run.line st.run.chunk st.run.begun g.goes)
+        (goes_then (name_at names i) c.run next (began_alone asks) (is_after_cr asks) (began_behind_cr asks) (is_open asks) (run_of asks) (front (s.room c.own) (waits_of table c.own i)) text
+        st.run.utf8 (front_texts (s.room c.own) (waits_of table c.own i) (h.texts i)) st.run.line st.run.chunk st.run.begun g.goes)
 
     parts : is_unlabelled asks ≡ true → (has_chunk (run_of asks) ≡ true) × (began_alone asks ≡ false)
     parts e =
         let p = and_parts (has_chunk (run_of asks)) (not (began_alone asks) && length (seen_part asks) == 0) e in
         (p.0, not-true (began_alone asks) (and_parts (not (began_alone asks)) (length (seen_part asks) == 0) p.1).0)
 
-    label : GivesLabel s table c.own (name_at names i) c.run next (began_alone asks) (began_behind_cr asks) (chars_of (run_of asks)) i text after → after_by (go_on s.name (waits_of table c.own) asks i)
+    label : GivesLabel s table c.own (s.room c.own) (name_at names i) c.run next (began_alone asks) (began_behind_cr asks) (chars_of (run_of asks)) i text after → after_by (go_on (s.room c.own) s.name (waits_of table c.own) asks i)
     label g =
         let st = h.looks.stands in
         let q : is_unlabelled asks ≡ true = unlabelled_is s c asks st ∙ ap not g.labelled in
         let p = parts q in
         subst at (sym q)
-        (subst (λ (n : List ℕ). after_by (headed (waits_of table c.own) n (began_behind_cr asks) (is_open asks) (run_of asks) i)) (h.names_are i h.below)
-        (more_then (name_at names i) c.run next (began_alone asks) (is_after_cr asks) (began_behind_cr asks) (is_open asks) (run_of asks) (front (room_beside (name_at names i)) (waits_of table c.own i)) text
-        st.run.utf8 (front_texts (room_beside (name_at names i)) (waits_of table c.own i) (h.texts i)) st.run.line st.run.chunk p.1 p.0 g.headed.heads))
+        (subst (λ (n : List ℕ). after_by (headed (s.room c.own) (waits_of table c.own) n (began_behind_cr asks) (is_open asks) (run_of asks) i)) (h.names_are i h.below)
+        (more_then (name_at names i) c.run next (began_alone asks) (is_after_cr asks) (began_behind_cr asks) (is_open asks) (run_of asks) (front (room_beside (s.room c.own) (name_at names i)) (waits_of table c.own i)) text
+        st.run.utf8 (front_texts (room_beside (s.room c.own) (name_at names i)) (waits_of table c.own i) (h.texts i)) st.run.line st.run.chunk p.1 p.0 g.headed.heads))
 
 begins_then : (s : Setup) (table : Table) (c : State) (asks : List Asked) (names : List (List ℕ)) (i : ℕ) (next : Run) (text : List ℕ) (after : List Waiting) → Turns s table c asks names (Begins i) next text after
-    → Then next true (run_of asks) (front (room_beside (s.name i)) (waits_of table c.own i)) (began_alone asks) (is_after_cr asks) (began_behind_cr asks) (is_open asks)
+    → Then next true (run_of asks) (front (room_beside (s.room c.own) (s.name i)) (waits_of table c.own i)) (began_alone asks) (is_after_cr asks) (began_behind_cr asks) (is_open asks)
 begins_then s table c asks names i next text after h =
     let g = h.gives in
     let b = g.begun in
-    subst (λ (n : List ℕ). Then next true (run_of asks) (front (room_beside n) (waits_of table c.own i)) (began_alone asks) (is_after_cr asks) (began_behind_cr asks) (is_open asks)) (h.names_are i h.below)
-    (new_then (name_at names i) g.start next (began_alone asks) (is_after_cr asks) (began_behind_cr asks) (is_open asks) (run_of asks) (front (room_beside (name_at names i)) (waits_of table c.own i)) text
-    (front_texts (room_beside (name_at names i)) (waits_of table c.own i) (h.texts i)) (b.is_open ∙ h.looks.stands.run.line) b.has_chunk g.headed.heads)
+    subst (λ (n : List ℕ). Then next true (run_of asks) (front (room_beside (s.room c.own) n) (waits_of table c.own i)) (began_alone asks) (is_after_cr asks) (began_behind_cr asks) (is_open asks)) (h.names_are i h.below)
+    (new_then (name_at names i) g.start next (began_alone asks) (is_after_cr asks) (began_behind_cr asks) (is_open asks) (run_of asks) (front (room_beside (s.room c.own) (name_at names i)) (waits_of table c.own i)) text
+    (front_texts (room_beside (s.room c.own) (name_at names i)) (waits_of table c.own i) (h.texts i)) (b.is_open ∙ h.looks.stands.run.line) b.has_chunk g.headed.heads)
 
 -- where this was given, of the leg i
-spoken : (s : Setup) (c : State) (asks : List Asked) (w : ℕ → List Chunk) (media : ℕ) (g : Answer) (i : ℕ) (next : Run) (moments : List (Option ℕ)) → c.relabel ≡ s.relabel → g.source ≡ i → i < s.legs → (i ≡ c.own → ⊥) → length moments ≡ s.legs
+spoken : (s : Setup) (c : State) (asks : List Asked) (w : ℕ → List Chunk) (media : ℕ) (g : Answer) (i : ℕ) (next : Run) (moments : List (Option ℕ)) → c.room ≡ s.room c.own → c.relabel ≡ s.relabel → g.source ≡ i → i < s.legs → (i ≡ c.own → ⊥) → length moments ≡ s.legs
     → ((j : ℕ) → j < s.legs → (j ≡ c.own → ⊥) → since_at moments j ≡ since j (asked_more w media asks (Some g)))
     → Then next g.begins (run_of asks) g.chunks (began_alone asks) (is_after_cr asks) (began_behind_cr asks) (is_open asks)
     → ComposerStandsFor s (remembered (record c { run = next; since = moments; asked = media + 1 }) (Some i) media) (asked_more w media asks (Some g))
-spoken s c asks w media g i next moments again source below other legs since_are t = record {
+spoken s c asks w media g i next moments room again source below other legs since_are t = record {
   legs = legs;
   current = now_current s c.own asks w media g i source below other;
   waits_since = since_are;
   run = t;
   asked = refl;
   relabel = again;
+  room = room;
 }
 
 pub stands_then : (s : Setup) (table : Table) (c : State) (asks : List Asked) (names : List (List ℕ)) (k : Choice) (next : Run) (text : List ℕ) (after : List Waiting) (media : ℕ) (moments : List (Option ℕ))
     → Turns s table c asks names k next text after → Notes c k media moments
-    → ComposerStandsFor s (state_then c k next moments media) (asked_more (waits_of table c.own) media asks (given_of s.name (waits_of table c.own) asks k))
+    → ComposerStandsFor s (state_then c k next moments media) (asked_more (waits_of table c.own) media asks (given_of (s.room c.own) s.name (waits_of table c.own) asks k))
 stands_then s table c asks names Nobody next text after media moments h n =
     let st = h.looks.stands in
     let w = waits_of table c.own in
@@ -352,13 +349,14 @@ stands_then s table c asks names Nobody next text after media moments h n =
       run = subst (λ (q : Run). RunStands q (began_alone asks) (began_behind_cr asks) (run_of asks) (is_open asks)) (sym h.gives.run) st.run;
       asked = refl;
       relabel = st.relabel;
+      room = st.room;
     }
 stands_then s table c asks names (Begins i) next text after media moments h n =
     let w = waits_of table c.own in
-    spoken s c asks w media _ i next moments h.looks.stands.relabel refl h.below h.other (n.legs ∙ h.looks.stands.legs) (since_is s c asks w (Begins i) media moments h.looks n) (begins_then s table c asks names i next text after h)
+    spoken s c asks w media _ i next moments h.looks.stands.room h.looks.stands.relabel refl h.below h.other (n.legs ∙ h.looks.stands.legs) (since_is s c asks w (Begins i) media moments h.looks n) (begins_then s table c asks names i next text after h)
 stands_then s table c asks names (GoesOn i) next text after media moments h n =
     let w = waits_of table c.own in
-    spoken s c asks w media _ i next moments h.looks.stands.relabel (source_is s.name w asks i) h.below h.other (n.legs ∙ h.looks.stands.legs) (since_is s c asks w (GoesOn i) media moments h.looks n) (on_then s table c asks names i next text after h)
+    spoken s c asks w media _ i next moments h.looks.stands.room h.looks.stands.relabel (source_is (s.room c.own) s.name w asks i) h.below h.other (n.legs ∙ h.looks.stands.legs) (since_is s c asks w (GoesOn i) media moments h.looks n) (on_then s table c asks names i next text after h)
 
 -- ---- what the calls of a turn tell
 pub notes_of : (c : State) (k : Choice) (media : ℕ) (speaker : Option ℕ) (flags : List Bool) (old moments : List (Option ℕ)) → speaker ≡ speaker_of k → flags ≡ c.waits → old ≡ c.since
@@ -382,30 +380,31 @@ looks_of : (s : Setup) (table : Table) (c : State) (now : List Waiting) (names :
 looks_of s table c now names asks flags h l f =
     let st = h.stands in
     record {
-      stands = record { legs = st.legs; current = st.current; waits_since = st.waits_since; run = st.run; asked = st.asked; relabel = st.relabel };
+      stands = record { legs = st.legs; current = st.current; waits_since = st.waits_since; run = st.run; asked = st.asked; relabel = st.relabel; room = st.room };
       legs = l ∙ st.legs;
       flags = λ i b. f i (omega (arith, b, l));
     }
 
 pub told : (s : Setup) (table : Table) (c : State) (asks : List Asked) (flags : List Bool) (due : Bool) (media : ℕ) (k : Choice) (next : Run) (text : List ℕ) (after : List Waiting) (moments : List (Option ℕ)) (now : List Waiting) (names : List (List ℕ))
     → IsAsked s table c now names asks → length flags ≡ length c.since → ((i : ℕ) → i < length c.since → is_set flags i ≡ waits_here c.own (waits_of table c.own) i)
-    → k ≡ choice (record c { waits = flags }) due media → IsBelow (length c.since) k → Gives s table c.own names c.run next (began_alone asks) (began_behind_cr asks) (chars_of (run_of asks)) k text after → Notes (record c { waits = flags }) k media moments
+    → k ≡ choice (record c { waits = flags }) due media → IsBelow (length c.since) k → Gives s table c.own c.room names c.run next (began_alone asks) (began_behind_cr asks) (chars_of (run_of asks)) k text after → Notes (record c { waits = flags }) k media moments
     → Told s table c asks flags due media k next text after moments
 told s table c asks flags due media k next text after moments now names h l f chosen below gives n =
     let d : State = record c { waits = flags } in
     let w = waits_of table c.own in
     let looks = looks_of s table c now names asks flags h l f in
-    let is : given_of s.name w asks k ≡ given_now s table c media due asks = ap (given_of s.name w asks) chosen ∙ choice_is s d asks w due media looks in
+    let is : given_of (s.room c.own) s.name w asks k ≡ given_now s table c media due asks = ap (given_of (s.room c.own) s.name w asks) chosen ∙ choice_is s d asks w due media looks in
     let turns : Turns s table d asks names k next text after = record {
       looks = looks;
       names_are = h.names;
       below = subst (λ (n : ℕ). IsBelow n k) h.stands.legs below;
       other = subst (IsOther c.own) (sym chosen) (choice_other s d asks w due media looks);
       texts = h.texts;
-      gives = gives;
+      gives =
+          subst (λ (n : ℕ). Gives s table c.own n names c.run next (began_alone asks) (began_behind_cr asks) (chars_of (run_of asks)) k text after) h.stands.room gives;
     } in
     record {
-      given = some_is s.name w asks k ∙ ap is_some is;
+      given = some_is (s.room c.own) s.name w asks k ∙ ap is_some is;
       text_is = text_is s table d asks names k next text after turns ∙ ap text_given is;
       stands = subst (λ (g : Option Answer). ComposerStandsFor s (state_then d k next moments media) (asked_more w media asks g)) is (stands_then s table d asks names k next text after media moments turns n);
       slots_stand = subst (λ (g : Option Answer). slots.SlotsStandFor s after (answered c.own g table)) is (slots_are s table d asks names k next text after turns);

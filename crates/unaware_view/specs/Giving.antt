@@ -15,7 +15,6 @@ use Rattle.unaware_view.specs.Runs.{Heads, IsBegun}
 use Rattle.unaware_view.specs.Runs.{GoesOn as RunGoesOn}
 use Rattle.unaware_view.specs.States.{State}
 use Rattle.unaware_view.specs.Standing.{name_at}
-use Rattle.rtt_base.specs.declared.limits.TheConstants.{MOST_TEXT_OCTETS}
 
 abbrev pub remembered : State → Option ℕ → ℕ → State
 remembered c None media = c
@@ -32,34 +31,34 @@ pub record GivesNone (s : Setup) (table : Table) (r next : Run) (text : List ℕ
   pub stands : slots.SlotsStandFor s after table
 
 -- what fits beside the label of the run, which is to come
-pub record GivesHeaded (s : Setup) (table : Table) (own : ℕ) (name : List ℕ) (r next : Run) (behind_cr : Bool) (run : List ℕ) (speaker : ℕ) (text : List ℕ) (after : List Waiting) : Type 0 where
-  pub heads : Heads name r next behind_cr run (front (room_beside name) (waits_of table own speaker)) text
-  pub stands : slots.SlotsStandFor s after (fetched own speaker (room_beside name) table)
+pub record GivesHeaded (s : Setup) (table : Table) (own room : ℕ) (name : List ℕ) (r next : Run) (behind_cr : Bool) (run : List ℕ) (speaker : ℕ) (text : List ℕ) (after : List Waiting) : Type 0 where
+  pub heads : Heads name r next behind_cr run (front (room_beside room name) (waits_of table own speaker)) text
+  pub stands : slots.SlotsStandFor s after (fetched own speaker (room_beside room name) table)
 
 -- a run of the speaker begins, behind CR or not
-pub record GivesRun (s : Setup) (table : Table) (own : ℕ) (name : List ℕ) (r next : Run) (behind_cr : Bool) (speaker : ℕ) (text : List ℕ) (after : List Waiting) : Type 0 where
+pub record GivesRun (s : Setup) (table : Table) (own room : ℕ) (name : List ℕ) (r next : Run) (behind_cr : Bool) (speaker : ℕ) (text : List ℕ) (after : List Waiting) : Type 0 where
   pub start : Run
   pub begun : IsBegun r start
-  pub headed : GivesHeaded s table own name start next behind_cr [] speaker text after
+  pub headed : GivesHeaded s table own room name start next behind_cr [] speaker text after
 
 -- the run of the speaker goes on behind its label
-pub record GivesOn (s : Setup) (table : Table) (own : ℕ) (name : List ℕ) (r next : Run) (alone behind_cr : Bool) (run : List ℕ) (speaker : ℕ) (text : List ℕ) (after : List Waiting) : Type 0 where
+pub record GivesOn (s : Setup) (table : Table) (own room : ℕ) (name : List ℕ) (r next : Run) (alone behind_cr : Bool) (run : List ℕ) (speaker : ℕ) (text : List ℕ) (after : List Waiting) : Type 0 where
   pub labelled : r.labelled ≡ true
-  pub goes : RunGoesOn name r next alone behind_cr run (front MOST_TEXT_OCTETS (waits_of table own speaker)) [] text
-  pub stands : slots.SlotsStandFor s after (fetched own speaker MOST_TEXT_OCTETS table)
+  pub goes : RunGoesOn name r next alone behind_cr run (front room (waits_of table own speaker)) [] text
+  pub stands : slots.SlotsStandFor s after (fetched own speaker room table)
 
 -- the label of the run is to come
-pub record GivesLabel (s : Setup) (table : Table) (own : ℕ) (name : List ℕ) (r next : Run) (alone behind_cr : Bool) (run : List ℕ) (speaker : ℕ) (text : List ℕ) (after : List Waiting) : Type 0 where
+pub record GivesLabel (s : Setup) (table : Table) (own room : ℕ) (name : List ℕ) (r next : Run) (alone behind_cr : Bool) (run : List ℕ) (speaker : ℕ) (text : List ℕ) (after : List Waiting) : Type 0 where
   pub labelled : r.labelled ≡ false
-  pub headed : GivesHeaded s table own name r next behind_cr run speaker text after
+  pub headed : GivesHeaded s table own room name r next behind_cr run speaker text after
 
 -- the run of the speaker, which has these characters, goes on
-abbrev pub GivesMore : Setup → Table → ℕ → List ℕ → Run → Run → Bool → Bool → List ℕ → ℕ → List ℕ → List Waiting → Type 0
-GivesMore s table own name r next alone behind_cr run speaker text after =
-    GivesOn s table own name r next alone behind_cr run speaker text after ⊎ GivesLabel s table own name r next alone behind_cr run speaker text after
+abbrev pub GivesMore : Setup → Table → ℕ → ℕ → List ℕ → Run → Run → Bool → Bool → List ℕ → ℕ → List ℕ → List Waiting → Type 0
+GivesMore s table own room name r next alone behind_cr run speaker text after =
+    GivesOn s table own room name r next alone behind_cr run speaker text after ⊎ GivesLabel s table own room name r next alone behind_cr run speaker text after
 
 -- The text of the choice was given: the run, which had these characters, is `next` then, and these are the slots.
-abbrev pub Gives : Setup → Table → ℕ → List (List ℕ) → Run → Run → Bool → Bool → List ℕ → Choice → List ℕ → List Waiting → Type 0
-Gives s table own names r next alone behind_cr run Nobody text after = GivesNone s table r next text after
-Gives s table own names r next alone behind_cr run (Begins i) text after = GivesRun s table own (name_at names i) r next (after_cr alone behind_cr run) i text after
-Gives s table own names r next alone behind_cr run (GoesOn i) text after = GivesMore s table own (name_at names i) r next alone behind_cr run i text after
+abbrev pub Gives : Setup → Table → ℕ → ℕ → List (List ℕ) → Run → Run → Bool → Bool → List ℕ → Choice → List ℕ → List Waiting → Type 0
+Gives s table own room names r next alone behind_cr run Nobody text after = GivesNone s table r next text after
+Gives s table own room names r next alone behind_cr run (Begins i) text after = GivesRun s table own room (name_at names i) r next (after_cr alone behind_cr run) i text after
+Gives s table own room names r next alone behind_cr run (GoesOn i) text after = GivesMore s table own room (name_at names i) r next alone behind_cr run i text after

@@ -1,5 +1,5 @@
 -- What is kept of a run: what an erasure can take back, what its text ends with, and whether its label was given.
-use Rattle.std.specs.Prelude.{◌≡◌, ℕ, ◌+◌, ◌-◌, ◌==◌, Bool, true, false, not, ◌&&◌, ◌||◌, ◌⊎◌, if◌then◌else◌, List, [], ◌∷◌, ◌++◌, length, chars, encode_utf8, encode_utf8_all, IsUtf8}
+use Rattle.std.specs.Prelude.{◌≡◌, ℕ, ◌+◌, ◌-◌, ◌≤◌, ◌<◌, ◌==◌, Bool, true, false, not, ◌&&◌, ◌||◌, ◌⊎◌, if◌then◌else◌, List, [], ◌∷◌, ◌++◌, length, chars, encode_utf8, encode_utf8_all, IsUtf8}
 use Rattle.view_spec.specs.declared.classes.CharClass.{CharClass}
 use Rattle.view_spec.specs.declared.classes.CharClass.TheVariants.{Erase, Bell, NewLine, Silent, Marker, Print}
 use Rattle.view_spec.specs.Characters.{class_of, is_open_after, is_print, opens}
@@ -53,6 +53,28 @@ with_one r c = record {
   has_chunk = r.has_chunk;
   labelled = r.labelled;
   is_open = opens (class_of c) r.is_open;
+}
+
+-- a printable character of ASCII that is sent as it is
+pub record IsPlain (c : ℕ) : Type 0 where
+  pub from : 0x20 ≤ c
+  pub to : c < 0x7F
+  pub no_bracket : without_bracket c ≡ c
+
+-- an ending with more characters, one behind the other
+abbrev pub pushed_all : TextEnd → List ℕ → TextEnd
+pushed_all e [] = e
+pushed_all e (c ∷ cs) = pushed_all (pushed e c) cs
+
+-- with some plain characters more
+abbrev pub with_plain : Run → List ℕ → Run
+with_plain r cs = record {
+  erasable = r.erasable + length cs;
+  after_cr = false;
+  ending = pushed_all r.ending cs;
+  has_chunk = r.has_chunk;
+  labelled = r.labelled;
+  is_open = true;
 }
 
 -- where the label goes before a character, or not

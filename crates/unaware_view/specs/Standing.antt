@@ -44,6 +44,7 @@ pub record RunStands (r : Run) (alone behind_cr : Bool) (chunks : List Chunk) (o
 -- The composer of a terminal of this setup was asked so.
 pub record ComposerStandsFor (s : Setup) (c : State) (asks : List Asked) : Type 0 where
   pub legs : length c.since ≡ s.legs
+  pub room : c.room ≡ s.room c.own
   pub current : IsCurrent s c.own asks (latest asks) c.current
   pub waits_since : (i : ℕ) → i < s.legs → (i ≡ c.own → ⊥) → since_at c.since i ≡ since i asks
   pub run : RunStands c.run (began_alone asks) (began_behind_cr asks) (run_of asks) (is_open asks)
@@ -81,7 +82,7 @@ waiting table c = (table.terminals c.own).waits
 
 -- what is given at this media time, where text may be given or not
 abbrev pub given_now : Setup → Table → State → ℕ → Bool → List Asked → Option Answer
-given_now s table c media due asks = answer s.legs s.name s.relabel c.own media due (waiting table c) asks
+given_now s table c media due asks = answer (s.room c.own) s.legs s.name s.relabel c.own media due (waiting table c) asks
 
 -- with this ask
 abbrev pub asked_now : Setup → Table → State → ℕ → Bool → List Asked → List Asked

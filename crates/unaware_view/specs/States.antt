@@ -5,6 +5,7 @@ use Rattle.unaware_view.specs.declared.composers.Current.{Current}
 
 pub record State : Type 0 where
   pub own : ℕ
+  pub room : ℕ
   pub current : Option Current
   pub run : Run
   pub waits : List Bool

@@ -36,15 +36,16 @@ pub(crate) fn first_round(flags: &[bool], start: usize) -> Option<usize>
 }
 
 /// Whether a flag is set besides the one at `own`.
+#[tactic(auto, using(crate::proofs::Firsts::any_next))]
 pub(crate) fn any_other(flags: &[bool], own: usize) -> bool
     ensures { result ≡ any_other flags.now own }
 {
-    let mut found = false;
     for i in 0..flags.len() {
-        let here = i != own && flags[i];
-        found = here || found;
+        if i != own && flags[i] {
+            return true;
+        }
     }
-    found
+    false
 }
 
 /// Whether this moment was so many milliseconds ago, or earlier.
@@ -58,39 +59,17 @@ pub(crate) fn is_ago(ms: u64, now: u64, moment: Option<u64>) -> bool
 }
 
 /// Whether a flag is set besides the one at `own` whose moment was so long ago.
+#[tactic(auto, using(crate::proofs::Firsts::any_next))]
 pub(crate) fn any_long(flags: &[bool], since: &[Option<u64>], ms: u64, now: u64, own: usize) -> bool
     requires { length flags.now ≡ length since.now }
     ensures { result ≡ any_long flags.now since.now ms now own }
 {
-    let mut found = false;
     for i in 0..flags.len() {
-        let here = i != own && (flags[i] && is_ago(ms, now, since[i]));
-        found = here || found;
+        if i != own && flags[i] && is_ago(ms, now, since[i]) {
+            return true;
+        }
     }
-    found
-}
-
-/// Whether it is this leg.
-fn is_leg(leg: usize, given: Option<usize>) -> bool
-    ensures { result ≡ is_leg leg given }
-{
-    match given {
-        Some(given) => given == leg,
-        None => false,
-    }
-}
-
-/// Since when a leg waits behind an ask at this media time.
-fn noted(media: u64, given: bool, waits: bool, since: Option<u64>) -> Option<u64>
-    ensures { result ≡ noted media given waits since }
-{
-    if given {
-        return None;
-    }
-    if since.is_none() && waits {
-        return Some(media);
-    }
-    since
+    false
 }
 
 /// Notes since when each leg waits behind an ask at this media time, where this one was given text.
@@ -101,8 +80,14 @@ pub(crate) fn note(since: &mut [Option<u64>], waits: &[bool], given: Option<usiz
         → since_at since.new i ≡ noted media (is_leg i given) (is_set waits.now i) (since_at since.old i) }
 {
     for i in 0..since.len() {
-        let moment = noted(media, is_leg(i, given), waits[i], since[i]);
-        since[i] = moment;
+        if waits[i] && since[i].is_none() {
+            since[i] = Some(media);
+        }
+    }
+    if let Some(given) = given {
+        if given < since.len() {
+            since[given] = None;
+        }
     }
 }
 

@@ -3,7 +3,7 @@ ghost use Rattle.std.specs.Prelude.{◌≡◌, ℕ, ◌+◌, ◌-◌, ◌*◌, �
 ghost use Rattle.stream_spec.specs.Ready.{Chunk};
 ghost use Rattle.mixer_spec.specs.Chunks.{front, joined};
 ghost use Rattle.mixer_spec.specs.Laws.{AreTexts};
-ghost use Rattle.mixer_spec.specs.Setups.{Setup};
+ghost use Rattle.mixer_spec.specs.Setups.{IsRoom, Setup};
 ghost use Rattle.mixer_spec.specs.Table.{Table};
 ghost use Rattle.mixer_places.specs.SlotStanding.{SlotsStandFor, LeadsSlots, SlotsTell};
 ghost use Rattle.mixer_places.specs.Words.{fetched};
@@ -15,12 +15,12 @@ ghost use Rattle.mixer_spec.specs.Composed.{Asked, text_given};
 ghost use Rattle.unaware_view.specs.Giving.{Gives, GivesHeaded, GivesMore, remembered, waits_of};
 ghost use Rattle.unaware_view.specs.States.{State};
 ghost use Rattle.unaware_view.specs.Insides.{state_of, ComposerIsSound};
+ghost use Rattle.rtt_base.specs.declared.limits.TheConstants.{MOST_TEXT_OCTETS};
 
 use crate::choices::{any_long, any_other, first_round, is_ago, is_paused, look, note};
 use crate::labels::room_beside;
 use crate::runs::Run;
 use mixer_places::Slots;
-use rtt_base::limits::MOST_TEXT_OCTETS;
 use rtt_base::{Name, NoMemory, Text};
 use std::alloc::Global;
 use std::marker::Model;
@@ -57,6 +57,8 @@ enum Choice {
 #[derive(Debug, Drop)]
 pub struct Composer {
     own: usize,
+    /// The most octets of a text.
+    room: usize,
     current: Option<Current>,
     run: Run,
     /// Which legs waited at the last ask, but for the terminal's own.
@@ -129,16 +131,18 @@ impl Composer {
         Choice::GoesOn(current.speaker)
     }
 
-    /// The composer of the terminal of this leg, where there are so many legs. A run that goes on is labelled again after
-    /// `relabel` milliseconds without text, if at all. It takes all memory that it ever needs.
+    /// The composer of the terminal of this leg, where there are so many legs, and a text has `room` octets at most. A run that
+    /// goes on is labelled again after `relabel` milliseconds without text, if at all. It takes all memory that it ever needs.
     pub fn new(
         alloc: Global,
         legs: usize,
         own: usize,
+        room: usize,
         relabel: Option<u32>,
     ) -> Result<Composer, NoMemory>
-        requires { own < legs }
-        ensures stands { IfOk result (λ c. (s : Setup) → s.legs ≡ legs → s.relabel ≡ relabel
+        requires own { own < legs }
+        requires room { IsRoom room }
+        ensures stands { IfOk result (λ c. (s : Setup) → s.legs ≡ legs → s.room own ≡ room → s.relabel ≡ relabel
             → ComposerStandsFor s c []) }
         ensures own { IfOk result (λ c. own_of c ≡ own) }
         ensures legs { IfOk result (λ c. legs_of c ≡ legs) }
@@ -146,6 +150,7 @@ impl Composer {
     {
         Ok(Composer {
             own,
+            room,
             current: None,
             run: Run::new(),
             waits: vec![in alloc; false; legs]?,
@@ -191,6 +196,7 @@ impl Composer {
         let given = give(
             choice,
             self.own,
+            self.room,
             names,
             &mut self.run,
             &mut self.taken,
@@ -258,6 +264,7 @@ fn write(octets: &[u8], name: &str, run: &mut Run, text: &mut Text)
 /// Gives what fits of the chunks of the leg that wait. The label of its run was given.
 fn go_on(
     own: usize,
+    room: usize,
     speaker: usize,
     name: &str,
     run: &mut Run,
@@ -266,18 +273,19 @@ fn go_on(
     text: &mut Text,
 )
     requires within { (own < length slots.old) × (speaker < length slots.old) }
+    requires room { IsRoom room }
     requires few { run.old.erasable + MOST_TEXT_OCTETS < 2 ^ 64 }
     requires text { text.old ≡ [] }
     requires labelled { run.old.labelled ≡ true }
     ensures few { run.new.erasable ≤ run.old.erasable + MOST_TEXT_OCTETS }
     ensures legs { length slots.new ≡ length slots.old }
-    ensures slots { LeadsSlots slots.old slots.new (fetched own speaker MOST_TEXT_OCTETS) }
+    ensures slots { LeadsSlots slots.old slots.new (fetched own speaker room) }
     ensures goes_on { SlotsTell slots.old (λ s table. (alone behind_cr : Bool) (before : List ℕ)
         → AreTexts (waits_of table own speaker) → IsRun run.old alone behind_cr before
-        → GoesOn name.now run.old run.new alone behind_cr before (front MOST_TEXT_OCTETS (waits_of table own speaker)) [] text.new) }
+        → GoesOn name.now run.old run.new alone behind_cr before (front room (waits_of table own speaker)) [] text.new) }
 {
     taken.clear();
-    slots.take(own, speaker, MOST_TEXT_OCTETS, taken);
+    slots.take(own, speaker, room, taken);
     write(taken.as_slice(), name, run, text);
 }
 
@@ -303,6 +311,7 @@ fn head(octets: &[u8], name: &str, run: &mut Run, text: &mut Text)
 /// Gives what fits beside the label of the run, which is to come, of the chunks of the leg that wait.
 fn give_headed(
     own: usize,
+    room: usize,
     speaker: usize,
     name: &Name,
     run: &mut Run,
@@ -311,6 +320,7 @@ fn give_headed(
     text: &mut Text,
 )
     requires within { (own < length slots.old) × (speaker < length slots.old) }
+    requires room { IsRoom room }
     requires few { run.old.erasable + MOST_TEXT_OCTETS < 2 ^ 64 }
     requires text { text.old ≡ [] }
     requires labelled { run.old.labelled ≡ false }
@@ -318,17 +328,18 @@ fn give_headed(
     ensures legs { length slots.new ≡ length slots.old }
     ensures gives { SlotsTell slots.old (λ s table. (behind_cr : Bool) (before : List ℕ)
         → AreTexts (waits_of table own speaker) → IsRun run.old false behind_cr before
-        → GivesHeaded s table own name.now run.old run.new behind_cr before speaker text.new slots.new) }
+        → GivesHeaded s table own room name.now run.old run.new behind_cr before speaker text.new slots.new) }
 {
-    let room = room_beside(name);
+    let beside = room_beside(room, name);
     taken.clear();
-    slots.take(own, speaker, room, taken);
+    slots.take(own, speaker, beside, taken);
     head(taken.as_slice(), name.as_str(), run, text);
 }
 
 /// Gives text of the run's speaker.
 fn give_more(
     own: usize,
+    room: usize,
     speaker: usize,
     name: &Name,
     run: &mut Run,
@@ -337,18 +348,19 @@ fn give_more(
     text: &mut Text,
 )
     requires within { (own < length slots.old) × (speaker < length slots.old) }
+    requires room { IsRoom room }
     requires few { run.old.erasable + MOST_TEXT_OCTETS < 2 ^ 64 }
     requires text { text.old ≡ [] }
     ensures few { run.new.erasable ≤ run.old.erasable + MOST_TEXT_OCTETS }
     ensures legs { length slots.new ≡ length slots.old }
     ensures gives { SlotsTell slots.old (λ s table. (alone behind_cr : Bool) (before : List ℕ)
         → AreTexts (waits_of table own speaker) → IsRun run.old alone behind_cr before
-        → GivesMore s table own name.now run.old run.new alone behind_cr before speaker text.new slots.new) }
+        → GivesMore s table own room name.now run.old run.new alone behind_cr before speaker text.new slots.new) }
 {
     if run.labelled {
-        go_on(own, speaker, name.as_str(), run, taken, slots, text);
+        go_on(own, room, speaker, name.as_str(), run, taken, slots, text);
     } else {
-        give_headed(own, speaker, name, run, taken, slots, text);
+        give_headed(own, room, speaker, name, run, taken, slots, text);
     }
 }
 
@@ -356,6 +368,7 @@ fn give_more(
 fn give(
     choice: Choice,
     own: usize,
+    room: usize,
     names: &[Name],
     run: &mut Run,
     taken: &mut Text,
@@ -363,6 +376,7 @@ fn give(
     text: &mut Text,
 ) -> Option<usize>
     requires own { own < length slots.old }
+    requires room { IsRoom room }
     requires names { length names.now ≡ length slots.old }
     requires leg { IsBelow (length slots.old) choice }
     requires few { run.old.erasable + MOST_TEXT_OCTETS < 2 ^ 64 }
@@ -372,17 +386,17 @@ fn give(
     ensures legs { length slots.new ≡ length slots.old }
     ensures gives { SlotsTell slots.old (λ s table. (alone behind_cr : Bool) (before : List ℕ)
         → ((i : ℕ) → AreTexts (waits_of table own i)) → IsRun run.old alone behind_cr before
-        → Gives s table own names.now run.old run.new alone behind_cr before choice text.new slots.new) }
+        → Gives s table own room names.now run.old run.new alone behind_cr before choice text.new slots.new) }
 {
     match choice {
         Choice::Nobody => None,
         Choice::Begins(speaker) => {
             run.begin();
-            give_headed(own, speaker, &names[speaker], run, taken, slots, text);
+            give_headed(own, room, speaker, &names[speaker], run, taken, slots, text);
             Some(speaker)
         }
         Choice::GoesOn(speaker) => {
-            give_more(own, speaker, &names[speaker], run, taken, slots, text);
+            give_more(own, room, speaker, &names[speaker], run, taken, slots, text);
             Some(speaker)
         }
     }

@@ -2,9 +2,10 @@
 ghost use Rattle.std.specs.Prelude.{◌≡◌, ◌+◌, ◌≤◌, ◌++◌, length, true};
 ghost use Rattle.view_spec.specs.TextViews.{label_after};
 ghost use Rattle.mixer_spec.specs.Composed.{room_beside};
+ghost use Rattle.mixer_spec.specs.Setups.{IsRoom};
 ghost use Rattle.unaware_view.specs.Labels.{line_start};
+ghost use Rattle.rtt_base.specs.declared.limits.TheConstants.{MOST_TEXT_OCTETS};
 
-use rtt_base::limits::MOST_TEXT_OCTETS;
 use rtt_base::{Name, Text};
 
 /// How many octets the label of a name has at most besides the name.
@@ -20,7 +21,7 @@ fn line_start(is_open: bool) -> &'static str
 }
 
 /// Appends octets, for which there must be room.
-fn append(octets: &[u8], out: &mut Text)
+pub(crate) fn append(octets: &[u8], out: &mut Text)
     requires { length out.old + length octets.now ≤ MOST_TEXT_OCTETS }
     ensures { out.new ≡ out.old ++ octets.now }
 {
@@ -41,11 +42,12 @@ pub(crate) fn label(name: &str, is_open: bool, out: &mut Text)
     append(b"] ", out);
 }
 
-/// How many octets fit beside the label of this name on a line of its own.
+/// How many octets of this room are left beside the label of this name on a line of its own.
 #[tactic(auto, using(crate::proofs::Sizes::most_is))]
-pub(crate) fn room_beside(name: &Name) -> usize
-    ensures value { result ≡ room_beside name.now }
+pub(crate) fn room_beside(room: usize, name: &Name) -> usize
+    requires { IsRoom room }
+    ensures value { result ≡ room_beside room name.now }
     ensures fits { length (label_after true name.now) + result ≤ MOST_TEXT_OCTETS }
 {
-    MOST_TEXT_OCTETS - (FRAME + name.len())
+    room - (FRAME + name.len())
 }

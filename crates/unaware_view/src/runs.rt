@@ -1,11 +1,12 @@
 //! A run: what one speaker was given since another one was, or since its label went alone.
-ghost use Rattle.std.specs.Prelude.{◌≡◌, ◌+◌, ◌-◌, ◌^◌, ◌<◌, ◌≤◌, ◌++◌, ℕ, Bool, List, [], length, chars, IsUtf8, encode_utf8, true, false};
+ghost use Rattle.std.specs.Prelude.{◌≡◌, ◌+◌, ◌-◌, ◌^◌, ◌<◌, ◌≤◌, ◌++◌, ℕ, Bool, List, [], length, take, All, chars, IsUtf8, encode_utf8, true, false};
+ghost use Rattle.std.specs.Bool.{OnTrue};
 ghost use Rattle.view_spec.specs.Characters.{opens};
 ghost use Rattle.view_spec.specs.TextViews.{is_direction, label_after, without_directions};
-ghost use Rattle.unaware_view.specs.Runs.{GoesAlone, IsBegun, IsRun, Sends, Writes, after_one, before_by, erasable_by, is_headed, is_seen_at, is_turn, label_by, label_room, sent_for, stepped, text_after_one, text_of_one, with_one};
+ghost use Rattle.unaware_view.specs.Runs.{GoesAlone, IsBegun, IsPlain, IsRun, Sends, Writes, after_one, before_by, erasable_by, is_headed, is_seen_at, is_turn, label_by, label_room, pushed_all, sent_for, stepped, text_after_one, text_of_one, with_one, with_plain};
 ghost use Rattle.rtt_base.specs.declared.limits.TheConstants.{MOST_TEXT_OCTETS};
 
-use crate::labels::label;
+use crate::labels::{append, label};
 use rtt_base::Text;
 use t140_text::{TextEnd, class};
 use view_spec::CharClass;
@@ -87,6 +88,35 @@ fn is_seen(n: u64, c: char) -> bool
         CharClass::Print | CharClass::Marker => true,
         _ => c == '\u{8}' && n == 0,
     }
+}
+
+/// More characters behind a text of which this is the end, each of one octet. Only the last three are read.
+fn push_octets(ending: &mut TextEnd, octets: &[u8])
+    ensures { ending.new ≡ pushed_all ending.old octets.now }
+{
+    let from = octets.len().saturating_sub(3);
+    for octet in &octets[from..] {
+        ending.push(char::from(*octet));
+    }
+}
+
+/// Whether this is a printable character of ASCII that is sent as it is: no bracket.
+fn is_plain(octet: u8) -> bool
+    ensures { OnTrue result (IsPlain octet) }
+{
+    b' ' <= octet && octet <= b'~' && octet != b'[' && octet != b']'
+}
+
+/// How many plain octets stand at the front.
+fn plain_len(octets: &[u8]) -> usize
+    ensures fits { result ≤ length octets.now }
+    ensures plain { All IsPlain (take result octets.now) }
+{
+    let mut len = 0;
+    while len < octets.len() && is_plain(octets[len]) {
+        len += 1;
+    }
+    len
 }
 
 impl Run {
@@ -213,7 +243,7 @@ impl Run {
 
     /// Writes the first character of a text, if there is one, and answers with the others.
     fn write_first<'a>(&mut self, name: &str, text: &'a str, out: &mut Text) -> &'a str
-        requires bound { self.old.erasable + 1 < 2 ^ 64 }
+        requires bound { self.old.erasable + length text.now < 2 ^ 64 }
         requires fits { length out.old + label_room self.old.labelled name.now + length text.now ≤ MOST_TEXT_OCTETS }
         ensures writes { (first : Run) (alone behind_cr : Bool) (run cs before : List ℕ)
             → Writes name.now first self.old alone behind_cr run cs before out.old text.now
@@ -231,6 +261,41 @@ impl Run {
         chars.as_str()
     }
 
+    /// Reads plain characters, at least one.
+    fn read_plain(&mut self, plain: &[u8])
+        requires { self.old.erasable + length plain.now < 2 ^ 64 }
+        ensures { self.new ≡ with_plain self.old plain.now }
+    {
+        self.erasable += plain.len() as u64;
+        self.after_cr = false;
+        push_octets(&mut self.ending, plain);
+        self.is_open = true;
+    }
+
+    /// Writes the plain characters at the front of a text, and the label before them where they are the first that are seen.
+    /// Answers with the others.
+    fn write_plain<'a>(&mut self, name: &str, text: &'a str, out: &mut Text) -> &'a str
+        requires bound { self.old.erasable + length text.now < 2 ^ 64 }
+        requires fits { length out.old + label_room self.old.labelled name.now + length text.now ≤ MOST_TEXT_OCTETS }
+        ensures writes { (first : Run) (alone behind_cr : Bool) (run cs before : List ℕ)
+            → Writes name.now first self.old alone behind_cr run cs before out.old text.now
+            → Writes name.now first self.new alone behind_cr run cs before out.new result.now }
+        ensures shorter { length result.now ≤ length text.now }
+        ensures bound { self.new.erasable + length result.now ≤ self.old.erasable + length text.now }
+        ensures fits { length out.new + label_room self.new.labelled name.now + length result.now ≤ MOST_TEXT_OCTETS }
+        ensures kept { self.new.has_chunk ≡ self.old.has_chunk }
+    {
+        let (plain, rest) = text.split_at(plain_len(text.as_bytes()));
+        let octets = plain.as_bytes();
+        if octets.is_empty() {
+            return text;
+        }
+        self.head_before(name, char::from(octets[0]), out);
+        self.read_plain(octets);
+        append(octets, out);
+        rest
+    }
+
     /// Appends a text of the run to `out`, as it is sent: without its directions.
     pub(crate) fn write(&mut self, name: &str, text: &str, out: &mut Text)
         requires bound { self.old.erasable + MOST_TEXT_OCTETS < 2 ^ 64 }
@@ -242,7 +307,8 @@ impl Run {
     {
         let mut rest = text;
         while !rest.is_empty() {
-            rest = self.write_first(name, rest, out);
+            let others = self.write_plain(name, rest, out);
+            rest = self.write_first(name, others, out);
         }
     }
 }

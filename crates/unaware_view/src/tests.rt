@@ -1,9 +1,12 @@
 //! One text of many speakers.
 ghost use Rattle.std.specs.Prelude.{◌≡◌, ◌<◌, ◌≤◌, length};
+ghost use Rattle.mixer_spec.specs.Setups.{IsRoom};
 ghost use Rattle.unaware_view.specs.Standing.{legs_of, next_ask};
 
 use crate::Composer;
 use mixer_places::Slots;
+use mixer_spec::limits::LONGEST_LABEL;
+use rtt_base::limits::MOST_TEXT_OCTETS;
 use rtt_base::{Chunk, Name, Text};
 use std::alloc::Global;
 use std::test::Fail;
@@ -109,9 +112,23 @@ fn goes_so(
     cy: &str,
     steps: &[Step<'_>],
 ) -> Result<bool, Fail> {
+    goes_so_within(alloc, MOST_TEXT_OCTETS, relabel, bob, cy, steps)
+}
+
+/// Whether it goes so where a text has so many octets at most.
+fn goes_so_within(
+    alloc: Global,
+    room: usize,
+    relabel: Option<u32>,
+    bob: &str,
+    cy: &str,
+    steps: &[Step<'_>],
+) -> Result<bool, Fail>
+    requires { IsRoom room }
+{
     let names = [name("Ann"), name("Bob"), name("Cy")];
     let mut slots = Slots::new(alloc, 3)?;
-    let mut ann = Composer::new(alloc, 3, 0, relabel)?;
+    let mut ann = Composer::new(alloc, 3, 0, room, relabel)?;
     offer(&mut slots, 1, bob)?;
     offer(&mut slots, 2, cy)?;
     let mut least = 0;
@@ -187,11 +204,29 @@ fn a_run_is_labelled_again_where_that_is_asked_for(rt: HostRuntime) -> Result<()
     Ok(())
 }
 
+/// What Bob types goes beside his label, or behind it.
+const BESIDE: [Step<'static>; 1] = [Step::Gives(0, true, "[Bob] These 29 octets go beside it.")];
+
+const BEHIND: [Step<'static>; 3] = [
+    Step::Gives(0, true, "[Bob] "),
+    Step::Gives(300, true, "These 30 octets come behind it"),
+    Step::Gives(600, true, ""),
+];
+
+#[test]
+fn a_text_has_no_more_octets_than_its_room(rt: HostRuntime) -> Result<(), Fail> {
+    let beside = "These 29 octets go beside it.";
+    let behind = "These 30 octets come behind it";
+    assert!(rt; goes_so_within(rt.alloc(), LONGEST_LABEL, None, beside, "", &BESIDE)?);
+    assert!(rt; goes_so_within(rt.alloc(), LONGEST_LABEL, None, behind, "", &BEHIND)?);
+    Ok(())
+}
+
 /// What is given at an ask of a leg that typed this, behind what another one typed.
 fn given(rt: &HostRuntime, before: &str, typed: &str, expected: &str) -> Result<bool, Fail> {
     let names = [name("Ann"), name("Bob"), name("Cy")];
     let mut slots = Slots::new(rt.alloc(), 3)?;
-    let mut ann = Composer::new(rt.alloc(), 3, 0, None)?;
+    let mut ann = Composer::new(rt.alloc(), 3, 0, MOST_TEXT_OCTETS, None)?;
     let mut text = Text::new();
     offer(&mut slots, 1, before)?;
     offer(&mut slots, 2, typed)?;

@@ -1,31 +1,19 @@
 -- No more packets are used than come, and a source has no more markers than packets that came.
-use Rattle.std.proofs.Common.{◌≡◌, ℕ, suc, ◌+◌, ◌≤◌, Bool, true, false, cond, Option, Some, None, List, [], ◌∷◌, Result, Ok, Err, refl, ap, length, arith}
+use Rattle.std.proofs.Common.{ℕ, suc, ◌+◌, ◌≤◌, Bool, true, false, cond, Option, Some, None, List, [], ◌∷◌, Result, Ok, Err, length, arith}
 use Rattle.std.specs.Prelude.{filter}
 use Rattle.wire_spec.specs.declared.faults.TextFault.{TextFault}
 use Rattle.wire_spec.specs.declared.faults.TextFault.TheVariants as faults
 use Rattle.wire_spec.specs.Packets.{Packet, Arrival}
 use Rattle.wire_spec.specs.Text.{text_of}
 use Rattle.wire_spec.specs.Dump.{Item, What, Whole, Rtcp, Cut, Large, arrived, arrivals_with, arrivals_after}
-use Rattle.stream_spec.specs.Numbering.{Numbered, by_number, in_time, numbered, used, has_number, first_number}
+use Rattle.stream_spec.specs.Numbering.{Numbered, numbered, used, has_number, first_number}
 use Rattle.stream_spec.specs.Hearing.{is_marked, is_packet_of}
-use Rattle.stream_spec.proofs.Rising.{length_by_number}
 use Rattle.view_spec.specs.Seen.{Reception, fate_of, fate_at, is_packet, many, arrivals_at, counts_at}
 use Rattle.view_spec.specs.Markers.{markers_over, markers_at}
 use Rattle.view_spec.proofs.Markers.{one_if}
+use Rattle.stream_spec.proofs.Plain.{used_fits, all_numbered}
 
-used_fits : (wait : ℕ) (past : List Numbered) → length (used wait past) ≤ length past
-used_fits wait [] = omega arith
-used_fits wait (e ∷ past) = go (in_time wait e past) (used_fits wait past)
-  where
-    go : (t : Bool) → length (used wait past) ≤ length past → length (cond t (by_number e (used wait past)) (used wait past)) ≤ suc (length past)
-    go true h = omega (arith, h, length_by_number e (used wait past))
-    go false h = omega (arith, h)
-
-all_numbered : (a : List Arrival) → length (numbered a) ≡ length a
-all_numbered [] = refl
-all_numbered (x ∷ past) = ap suc (all_numbered past)
-
-filter_fits : {X : Type 0} (p : X → Bool) (xs : List X) → length (filter p xs) ≤ length xs
+pub filter_fits : {X : Type 0} (p : X → Bool) (xs : List X) → length (filter p xs) ≤ length xs
 filter_fits p [] = omega arith
 filter_fits p (x ∷ xs) = go (p x) (filter_fits p xs)
   where

@@ -9,3 +9,4 @@ pub mod Parts
 pub mod Markers
 pub mod Counted
 pub mod MarkersShown
+pub mod Plain

@@ -10,7 +10,7 @@ use Rattle.std.proofs.lemmas.Str.{chars-append}
 use Rattle.wire_spec.specs.Packets.{Arrival, AreTextArrivals}
 use Rattle.stream_spec.specs.Numbering.{Numbered, numbered, used, has_number, first_number}
 use Rattle.stream_spec.specs.Hearing.{AreHeardTexts, heard, heard_over, is_marked, is_packet_of, marker, new_texts, piece}
-use Rattle.stream_spec.proofs.HeardTexts.{heard_texts, heard_utf8, utf8_concat}
+use Rattle.stream_spec.proofs.HeardTexts.{heard_texts, heard_utf8, utf8_concat, all_append}
 use Rattle.view_spec.specs.Characters.{class_of, is_marker}
 use Rattle.view_spec.specs.Shown as text
 use Rattle.view_spec.proofs.Parts.{markers_seen}
@@ -58,10 +58,6 @@ in_piece f first prev b a =
 
 new_front : (f : ℕ → Bool) (first : ℕ) (prev : Option Numbered) (b : Numbered) → AreHeardTexts (piece f first prev b) → AreHeardTexts (new_texts prev b)
 new_front f first prev b a = back_texts (if is_marked f first prev b then marker ∷ [] else []) (new_texts prev b) a
-
-all_append : (xs ys : List (List ℕ)) → AreHeardTexts xs → AreHeardTexts ys → AreHeardTexts (xs ++ ys)
-all_append [] ys p q = q
-all_append (x ∷ xs) ys p q = (p.0, p.1, all_append xs ys p.2 q)
 
 new_all : (f : ℕ → Bool) (first : ℕ) (prev : Option Numbered) (bs : List Numbered) → AreHeardTexts (heard_over f first prev bs) → AreHeardTexts (new_texts_over prev bs)
 new_all f first prev [] a = tt

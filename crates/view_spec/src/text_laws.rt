@@ -76,7 +76,8 @@ pub fn lines()
 /// What stands before a marker and what stands behind it are shown each for itself: nothing that is typed behind a marker
 /// changes what is shown before it.
 pub fn shown_in_parts()
-    ensures { (a b : List ℕ) → IsUtf8 a → shown (a ++ (encode_utf8 0xFFFD ++ b)) ≡ with_marker_between (shown a) (shown b) }
+    ensures { (a b : List ℕ) → IsUtf8 a
+        → shown (a ++ (encode_utf8 0xFFFD ++ b)) ≡ with_marker_between (shown a) (shown b) }
 {}
 
 /// As many markers are shown as the text has.

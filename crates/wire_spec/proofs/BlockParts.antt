@@ -21,7 +21,7 @@ use Rattle.wire_spec.specs.Rtp.{IsOctets}
 use Rattle.wire_spec.specs.Red.{IsRedundant, red_header, RedBlocks, PlainText, Red, Headers, with_header, header_of, header_at, and_others, headers_at, older_size, blocks_at, all_utf8, checked, texts_at, red}
 use Rattle.rtt_base.specs.declared.limits.TheConstants.{MOST_TEXT_OCTETS}
 
-IsOctets-drop : (n : ℕ) (octets : List ℕ) → IsOctets octets → IsOctets (drop n octets)
+pub IsOctets-drop : (n : ℕ) (octets : List ℕ) → IsOctets octets → IsOctets (drop n octets)
 IsOctets-drop n octets h i = rw get_or-drop (h (n + i))
 
 -- ---- one header

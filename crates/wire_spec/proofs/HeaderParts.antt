@@ -10,9 +10,7 @@ use Rattle.rtt_base.specs.Steps.{◌>>=◌}
 use Rattle.rtt_base.proofs.Steps.{bind_ok}
 use Rattle.wire_spec.proofs.Tests.{guard, guard_else, guard_ok, guard_ended, ok_is, failed}
 use Rattle.wire_spec.specs.Rtp.{Reading, Rtp, IsOctets, bit, first_in, IsExtension, IsPadding, past, first_source, past_extension, unpadded, rtp_of_header, rtp}
-
-IsOctets-drop : (n : ℕ) (octets : List ℕ) → IsOctets octets → IsOctets (drop n octets)
-IsOctets-drop n octets h i = rw get_or-drop (h (n + i))
+use Rattle.wire_spec.proofs.BlockParts.{IsOctets-drop}
 
 IsOctets-take : (n : ℕ) (octets : List ℕ) → IsOctets octets → IsOctets (take n octets)
 IsOctets-take n octets h i =

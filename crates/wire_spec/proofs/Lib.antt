@@ -11,3 +11,4 @@ pub mod WholePackets
 pub mod SentBack
 pub mod Sizes
 pub mod ReadBack
+pub mod Plain

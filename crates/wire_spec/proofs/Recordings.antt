@@ -31,12 +31,12 @@ one_what octets some few =
     let c : ltb MOST_PACKET_OCTETS (length octets) ≡ false = le-ltb MOST_PACKET_OCTETS (length octets) few in
     rw (a, b, c, take_all (length octets) octets (omega arith)) refl
 
-eight_taken : (a b c d e f g h n : ℕ) (octets more : List ℕ) → length octets ≡ n → drop 8 (take (n + 8) (a ∷ b ∷ c ∷ d ∷ e ∷ f ∷ g ∷ h ∷ (octets ++ more))) ≡ octets
+pub eight_taken : (a b c d e f g h n : ℕ) (octets more : List ℕ) → length octets ≡ n → drop 8 (take (n + 8) (a ∷ b ∷ c ∷ d ∷ e ∷ f ∷ g ∷ h ∷ (octets ++ more))) ≡ octets
 eight_taken a b c d e f g h n octets more e' =
     let k : n + 8 ≡ suc (suc (suc (suc (suc (suc (suc (suc n))))))) = omega arith in
     rw k (take_at octets more n e')
 
-eight_dropped : (a b c d e f g h n : ℕ) (octets more : List ℕ) → length octets ≡ n → drop (n + 8) (a ∷ b ∷ c ∷ d ∷ e ∷ f ∷ g ∷ h ∷ (octets ++ more)) ≡ more
+pub eight_dropped : (a b c d e f g h n : ℕ) (octets more : List ℕ) → length octets ≡ n → drop (n + 8) (a ∷ b ∷ c ∷ d ∷ e ∷ f ∷ g ∷ h ∷ (octets ++ more)) ≡ more
 eight_dropped a b c d e f g h n octets more e' =
     let k : n + 8 ≡ suc (suc (suc (suc (suc (suc (suc (suc n))))))) = omega arith in
     rw k (drop_at octets more n e')

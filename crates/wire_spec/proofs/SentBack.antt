@@ -17,12 +17,12 @@ use Rattle.wire_spec.proofs.BlockLaws.{red_only}
 use Rattle.rtt_base.specs.declared.limits.TheConstants.{MOST_PACKET_OCTETS}
 
 -- ---- the blocks
-redundant_front : (older : List TextBlock) (b : TextBlock) → redundant (older ++ b ∷ []) ≡ older
+pub redundant_front : (older : List TextBlock) (b : TextBlock) → redundant (older ++ b ∷ []) ≡ older
 redundant_front [] b = refl
 redundant_front (x ∷ []) b = refl
 redundant_front (x ∷ y ∷ older) b = ap (λ (bs : List TextBlock). x ∷ bs) (redundant_front (y ∷ older) b)
 
-primary_last : (older : List TextBlock) (b : TextBlock) → primary_text (older ++ b ∷ []) ≡ b.text
+pub primary_last : (older : List TextBlock) (b : TextBlock) → primary_text (older ++ b ∷ []) ≡ b.text
 primary_last [] b = refl
 primary_last (x ∷ []) b = refl
 primary_last (x ∷ y ∷ older) b = primary_last (y ∷ older) b
@@ -65,7 +65,7 @@ source_back source ssrc = go (source == ssrc) refl
     go true e = grind (arith, nat_tests)
     go false e = refl
 
-one_source : (csrc : Option ℕ) → length (option_to_list csrc) ≤ 1
+pub one_source : (csrc : Option ℕ) → length (option_to_list csrc) ≤ 1
 one_source None = omega arith
 one_source (Some source) = omega arith
 

@@ -1,5 +1,5 @@
 -- A packet of text that is written is read back.
-use Rattle.std.proofs.Common.{◌≡◌, ℕ, ◌≤◌, true, false, ltb, List, length, Option, None, Some, option_to_list, Ok, refl, ap, ◌∙◌, arith}
+use Rattle.std.proofs.Common.{◌≡◌, ℕ, ◌≤◌, true, false, ltb, List, length, Option, option_to_list, Ok, refl, ap, ◌∙◌}
 use Rattle.std.proofs.lemmas.Bool.{le-ltb}
 use Rattle.rtt_base.specs.declared.blocks.TextBlock.{TextBlock}
 use Rattle.rtt_base.specs.declared.text_packets.PayloadTypes.{PayloadTypes}
@@ -9,10 +9,7 @@ use Rattle.wire_spec.specs.Text.{is_asked, text_packet, text_of_short, text_of}
 use Rattle.wire_spec.proofs.Written.{rtp_read_back}
 use Rattle.wire_spec.proofs.BlockLaws.{red_read_back}
 use Rattle.rtt_base.specs.declared.limits.TheConstants.{MOST_PACKET_OCTETS}
-
-one_source : (csrc : Option ℕ) → length (option_to_list csrc) ≤ 1
-one_source None = omega arith
-one_source (Some source) = omega arith
+use Rattle.wire_spec.proofs.SentBack.{one_source}
 
 pub text_read_back : (h : Head) (blocks : List TextBlock) (asked : Option ℕ) (payload_types : PayloadTypes) → FitsHeader h → h.pt ≡ payload_types.red → FitsRed blocks payload_types → is_asked asked h.ssrc ≡ true → length (rtp_written h (red_written blocks payload_types)) ≤ MOST_PACKET_OCTETS
     → text_of (rtp_written h (red_written blocks payload_types)) asked payload_types ≡ Ok (text_packet (reading_of h (red_written blocks payload_types)) blocks)

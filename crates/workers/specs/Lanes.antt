@@ -19,7 +19,8 @@ module _ {Q F G : Type 0} where
 
   -- what runs began with this
   abbrev pub BeganWith : (F → F → List Q → Type 0) → F → Worker Q F G → Type 0
-  BeganWith stands first lane = (g : GatedProducer F G) → g.gives ≡ first → RunnerStands (gated_gives stands) g lane.runner
+  BeganWith stands first lane = (g : GatedProducer F G) → g.gives ≡ first
+      → RunnerStands (gated_gives stands) g lane.runner
 
   -- whatever the one began with, the other did
   abbrev pub LaneFollows : (F → F → List Q → Type 0) → Worker Q F G → Worker Q F G → Type 0
@@ -32,7 +33,8 @@ module _ {Q F G : Type 0} where
 
   -- what was popped is the first of what it gave, whatever it began with
   abbrev pub ComesBack : (F → F → List Q → Type 0) → Worker Q F G → F → Type 0
-  ComesBack stands lane back = (first : F) → BeganWith stands first lane → (left : List Q) × stands first back (popped_of lane ++ left)
+  ComesBack stands lane back = (first : F) → BeganWith stands first lane
+      → (left : List Q) × stands first back (popped_of lane ++ left)
 
   abbrev pub AreStarted : (F → F → List Q → Type 0) → List F → List (Worker Q F G) → Type 0
   AreStarted stands = Pairs (IsStarted stands)

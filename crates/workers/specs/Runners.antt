@@ -29,6 +29,7 @@ module _ {Q F : Type 0} where
   IsRunnerOf q (There h) = (end : PushPass Q) → IsPushOf h.promise.of.value end → IsPushOf q end
   IsRunnerOf q (Here f) = IsPushOf q f.pass
 
-  pub IsRunnerOf-prop : (q : ItemQueue Q) (r : Runner Q F) → ((end : PushPass Q) → IsProp (IsPushOf q end)) → IsProp (IsRunnerOf q r)
+  pub IsRunnerOf-prop : (q : ItemQueue Q) (r : Runner Q F) → ((end : PushPass Q) → IsProp (IsPushOf q end))
+      → IsProp (IsRunnerOf q r)
   IsRunnerOf-prop q (There h) a = λ x y i end e. a end (x end e) (y end e) i
   IsRunnerOf-prop q (Here f) a = a f.pass

@@ -117,7 +117,8 @@ impl<Q: Drop, F: Producer<Q>> Feed<Q, F> {
         requires going { is_done F.over self.old ≡ false }
         ensures queue { IsPushOf queue.now self.new.pass }
         ensures follows { Follows F.stands self.old self.new }
-        ensures nearer { is_empty self.old ≡ true → has_of self.new ≡ has_of self.old → F.nearer self.old.gives self.new.gives }
+        ensures nearer { is_empty self.old ≡ true → has_of self.new ≡ has_of self.old
+            → F.nearer self.old.gives self.new.gives }
         ensures kept { is_empty self.new ≡ false → WasFull (pushed self.new.pass) }
         ensures done { result ≡ is_done F.over self.new }
     {

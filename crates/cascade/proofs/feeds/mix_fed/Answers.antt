@@ -11,28 +11,28 @@ use Rattle.cascade.proofs.feeds.mix_fed.Goals as goal
 
 pub mix_opened-mixed-requires-clause-new : goal.mix_opened-mixed-requires-clause-new
 mix_opened-mixed-requires-clause-new g c = λ κs lives.
-    are_new g.W.World.tells g.W.Src.Source.tells g.W.Src.Source.left g.W.Src.Source.faults g.W.Src.Source.name (g.W.World.contents c.args.world.now) (meaning_of c.args.conference.now) (recordings_of c.args.splits.now) c.as_slice.result.now c.input_limit-limit.result c.in-Ok.legs.items
-    c.as_slice.ensures c.input_limit-limit.ensures c.in-Ok.ensures.legs c.in-Ok.ensures.fed
+    are_new g.W.World.tells g.W.Src.Source.tells g.W.Src.Source.left g.W.Src.Source.faults g.W.Src.Source.name (g.W.World.contents c.args.world.now) (meaning_of c.args.conference.now) (recordings_of c.args.splits.now) c.as_slice.result.now c.of-hearing.result c.input_limit-limit.result c.in-Ok.legs.items
+    c.as_slice.ensures c.of-hearing.ensures.value c.input_limit-limit.ensures c.in-Ok.ensures.legs c.in-Ok.ensures.fed
 
 pub returns-clause-mixes : goal.returns-clause-mixes
 returns-clause-mixes g c = λ told tells.
-    mixes_fed g.W.World.tells g.W.Src.Source.tells g.W.Src.Source.left g.W.Src.Source.faults g.W.Src.Source.name (g.W.World.contents c.args.world.now) (meaning_of c.args.conference.now) (recordings_of c.args.splits.now) c.as_slice.result.now c.input_limit-limit.result c.in-Ok.legs.items
-    c.as_slice.ensures c.input_limit-limit.ensures c.in-Ok.ensures.legs c.in-Ok.ensures.fed c.mix_opened-mixed.result.mixed c.mix_opened-mixed.ensures.leg c.mix_opened-mixed.ensures.mixes told tells
+    mixes_fed g.W.World.tells g.W.Src.Source.tells g.W.Src.Source.left g.W.Src.Source.faults g.W.Src.Source.name (g.W.World.contents c.args.world.now) (meaning_of c.args.conference.now) (recordings_of c.args.splits.now) c.as_slice.result.now c.of-hearing.result c.input_limit-limit.result c.in-Ok.legs.items
+    c.as_slice.ensures c.of-hearing.ensures.value c.input_limit-limit.ensures c.in-Ok.ensures.legs c.in-Ok.ensures.fed c.mix_opened-mixed.result.mixed c.mix_opened-mixed.ensures.leg c.mix_opened-mixed.ensures.mixes told tells
 
 pub returns-clause-caused : goal.returns-clause-caused
 returns-clause-caused g c =
     let own = g.W.World.own_faults in
     let objects = g.W.World.object_faults in
-    caused g.W.World.tells g.W.Src.Source.tells g.W.Src.Source.left g.W.Src.Source.faults g.W.Src.Source.name (g.W.World.contents c.args.world.now) (meaning_of c.args.conference.now) (recordings_of c.args.splits.now) c.as_slice.result.now c.input_limit-limit.result c.in-Ok.legs.items
-    c.as_slice.ensures c.input_limit-limit.ensures c.in-Ok.ensures.legs c.in-Ok.ensures.fed c.mix_opened-mixed.result.mixed c.mix_opened-mixed.ensures.leg
+    caused g.W.World.tells g.W.Src.Source.tells g.W.Src.Source.left g.W.Src.Source.faults g.W.Src.Source.name (g.W.World.contents c.args.world.now) (meaning_of c.args.conference.now) (recordings_of c.args.splits.now) c.as_slice.result.now c.of-hearing.result c.input_limit-limit.result c.in-Ok.legs.items
+    c.as_slice.ensures c.of-hearing.ensures.value c.input_limit-limit.ensures c.in-Ok.ensures.legs c.in-Ok.ensures.fed c.mix_opened-mixed.result.mixed c.mix_opened-mixed.ensures.leg
     (objects c.args.world.now) (objects c.close_legs.new.world) c.mix_opened-mixed.result.legs.items c.mix_opened-mixed.ensures.legs c.mix_opened-mixed.ensures.sources (λ n. Rose (own c.args.world.now n) (own c.close_legs.new.world n))
     (λ j q at name named rose. subst (λ n. Rose n (objects c.close_legs.new.world name)) (c.open_legs.ensures.same_objects name) (c.close_legs.ensures.failed j q at name named rose))
 
 pub returns-clause-kept : goal.returns-clause-kept
 returns-clause-kept g c =
     let objects = g.W.World.object_faults in
-    counts_kept g.W.World.tells g.W.Src.Source.tells g.W.Src.Source.left g.W.Src.Source.faults g.W.Src.Source.name (g.W.World.contents c.args.world.now) (meaning_of c.args.conference.now) (recordings_of c.args.splits.now) c.as_slice.result.now c.input_limit-limit.result c.in-Ok.legs.items
-    c.as_slice.ensures c.input_limit-limit.ensures c.in-Ok.ensures.legs c.in-Ok.ensures.fed c.mix_opened-mixed.result.mixed c.mix_opened-mixed.ensures.leg
+    counts_kept g.W.World.tells g.W.Src.Source.tells g.W.Src.Source.left g.W.Src.Source.faults g.W.Src.Source.name (g.W.World.contents c.args.world.now) (meaning_of c.args.conference.now) (recordings_of c.args.splits.now) c.as_slice.result.now c.of-hearing.result c.input_limit-limit.result c.in-Ok.legs.items
+    c.as_slice.ensures c.of-hearing.ensures.value c.input_limit-limit.ensures c.in-Ok.ensures.legs c.in-Ok.ensures.fed c.mix_opened-mixed.result.mixed c.mix_opened-mixed.ensures.leg
     (objects c.args.world.now) (objects c.close_legs.new.world) c.mix_opened-mixed.result.legs.items c.mix_opened-mixed.ensures.legs c.mix_opened-mixed.ensures.sources (g.W.World.contents c.open_legs.new.world) c.open_legs.ensures.same_contents
     (λ calm n. c.close_legs.ensures.calm calm n ∙ c.open_legs.ensures.same_objects n)
     (λ told n left. c.close_legs.ensures.left told n left ∙ c.open_legs.ensures.same_objects n)

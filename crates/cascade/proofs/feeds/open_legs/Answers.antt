@@ -12,7 +12,7 @@ use Rattle.cascade.proofs.feeds.open_legs.Goals as goal
 
 pub returns-in-Err-clause-refused : goal.returns-in-Err-clause-refused
 returns-in-Err-clause-refused g c =
-    not_opened g.W.World.tells g.W.Src.Source.tells (left_in g.W.Src.Source.left) (faults_in g.W.Src.Source.faults) (name_in g.W.Src.Source.name) (g.W.World.contents c.args.world.now) c.args.wait c.args.limit c.loop-index.index c.args.legs.now
+    not_opened g.W.World.tells g.W.Src.Source.tells (left_in g.W.Src.Source.left) (faults_in g.W.Src.Source.faults) (name_in g.W.Src.Source.name) (g.W.World.contents c.args.world.now) c.args.hearing c.args.limit c.loop-index.index c.args.legs.now
     (recordings_of c.args.splits.now) c.index-legs-index.result c.loop-index.inlets.items
     (g.W.World.own_faults c.args.world.now) (g.W.World.own_faults c.loop-index.world) (g.W.World.own_faults c.open_leg.new.world) (g.W.World.own_faults c.close_legs.new.world) c.in-Err.fault
     c.loop-index.invariant.fed c.loop-index.invariant.count
@@ -32,8 +32,8 @@ loop-index-preserved g c =
     let recordings = recordings_of c.args.splits.now in
     let inlet = c.in-Ok-open_leg.inlet in
     let is : c.recording-recording.result.now ≡ input_at recordings c.loop-index.index = got_input recordings c.loop-index.index c.recording-recording.result.now c.recording-recording.ensures in
-    let fed = subst (λ (xs : List (LegInlet (TrunkSource g.row.W-Src.Denot))). AllFed g.W.World.tells g.W.Src.Source.tells (left_in g.W.Src.Source.left) (faults_in g.W.Src.Source.faults) (name_in g.W.Src.Source.name) (g.W.World.contents c.args.world.now) c.args.wait c.args.limit c.args.legs.now recordings xs) (sym c.push_reserved.ensures.items)
-    (fed_more g.W.World.tells g.W.Src.Source.tells (left_in g.W.Src.Source.left) (faults_in g.W.Src.Source.faults) (name_in g.W.Src.Source.name) (g.W.World.contents c.loop-index.world) (g.W.World.contents c.args.world.now) c.args.wait c.args.limit c.loop-index.index c.args.legs.now
+    let fed = subst (λ (xs : List (LegInlet (TrunkSource g.row.W-Src.Denot))). AllFed g.W.World.tells g.W.Src.Source.tells (left_in g.W.Src.Source.left) (faults_in g.W.Src.Source.faults) (name_in g.W.Src.Source.name) (g.W.World.contents c.args.world.now) c.args.hearing c.args.limit c.args.legs.now recordings xs) (sym c.push_reserved.ensures.items)
+    (fed_more g.W.World.tells g.W.Src.Source.tells (left_in g.W.Src.Source.left) (faults_in g.W.Src.Source.faults) (name_in g.W.Src.Source.name) (g.W.World.contents c.loop-index.world) (g.W.World.contents c.args.world.now) c.args.hearing c.args.limit c.loop-index.index c.args.legs.now
     recordings c.index-legs-index.result c.recording-recording.result.now c.loop-index.inlets.items inlet
     i.contents i.fed i.count (leg_read_at c.args.legs.now c.loop-index.index c.index-legs-index.result (omega (arith, c.loop-index-test.true)) c.index-legs-index.is) is c.in-Ok-open_leg.ensures.fed) in
     record {

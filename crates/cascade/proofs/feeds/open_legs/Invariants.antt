@@ -10,7 +10,7 @@ invariant-loop-index g l = record {
   count : length l.inlets.items ≡ l.index;
   len : vec_len l.inlets ≡ l.index;
   room : length l.legs ≤ vec_capacity l.inlets;
-  fed : AllFed g.W.World.tells g.W.Src.Source.tells (left_in g.W.Src.Source.left) (faults_in g.W.Src.Source.faults) (name_in g.W.Src.Source.name) (g.W.World.contents l.fn.world) l.wait l.limit l.legs (recordings_of l.splits) l.inlets.items;
+  fed : AllFed g.W.World.tells g.W.Src.Source.tells (left_in g.W.Src.Source.left) (faults_in g.W.Src.Source.faults) (name_in g.W.Src.Source.name) (g.W.World.contents l.fn.world) l.hearing l.limit l.legs (recordings_of l.splits) l.inlets.items;
   calm : AreCalm (faults_in g.W.Src.Source.faults) l.inlets.items;
   same_own : (n : List ℕ) → g.W.World.own_faults l.world n ≡ g.W.World.own_faults l.fn.world n;
   same_objects : (n : List ℕ) → g.W.World.object_faults l.world n ≡ g.W.World.object_faults l.fn.world n;

@@ -3,8 +3,8 @@ use Rattle.receiver.specs.Pieces.{left_of}
 use Rattle.cascade.specs.declared.splitters.SourceRecording.{SourceRecording}
 use Rattle.cascade.specs.Dividing.{AddsTexts}
 use Rattle.cascade.proofs.Adding.{divides_none, divides_one}
-use Rattle.cascade.proofs.Gathering.{on_ok}
 use Rattle.cascade.proofs.routes.divide.Goals as goal
+use Rattle.wire_spec.proofs.Plain.{on_ok}
 
 pub returns-in_default-clause-divides : goal.returns-in_default-clause-divides
 returns-in_default-clause-divides c =

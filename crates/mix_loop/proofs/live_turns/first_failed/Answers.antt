@@ -1,7 +1,8 @@
 use Rattle.std.proofs.Common.{arith}
-use Rattle.mix_loop.proofs.Lists.{get_read, get_within}
+use Rattle.mix_loop.proofs.Lists.{get_within}
 use Rattle.mix_loop.proofs.LiveWalking.{none_failed, one_failed}
 use Rattle.mix_loop.proofs.live_turns.first_failed.Goals as goal
+use Rattle.stream_spec.proofs.Plain.{get_read}
 
 pub returns-then-port : goal.returns-then-port
 returns-then-port g c =

@@ -2,9 +2,9 @@ use Rattle.std.proofs.Common.{◌≡◌, ◌<◌, ℕ, Some, ap, length, arith, 
 use Rattle.std.specs.Prelude.{slice_get}
 use Rattle.std.specs.Vec.Iter.{into_iter_items, into_iter_len}
 use Rattle.workers.proofs.Matching.{fits_one}
-use Rattle.mix_loop.proofs.Lists.{get_read}
 use Rattle.mix_loop.proofs.Opening.{inlet_in, each_none, each_more, opens_all, opens_first, opens_next}
 use Rattle.mix_loop.proofs.ports.ports_over.Goals as goal
+use Rattle.stream_spec.proofs.Plain.{get_read}
 
 pub loop-inlet-init : goal.loop-inlet-init
 loop-inlet-init g c = record {

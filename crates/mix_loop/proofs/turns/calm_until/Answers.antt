@@ -2,8 +2,9 @@ use Rattle.std.proofs.Common.{◌≡◌, Some, inl, inr, ap, sym, subst, ◌∙�
 use Rattle.std.specs.Prelude.{slice_get}
 use Rattle.std.proofs.lemmas.Bool.{cases_eq}
 use Rattle.mix_loop.specs.Calm.{IsCalm}
-use Rattle.mix_loop.proofs.Lists.{get_read, get_within}
+use Rattle.mix_loop.proofs.Lists.{get_within}
 use Rattle.mix_loop.proofs.turns.calm_until.Goals as goal
+use Rattle.stream_spec.proofs.Plain.{get_read}
 
 pub returns-then-all_empty : goal.returns-then-all_empty
 returns-then-all_empty g c = λ t l. absurd (omega (arith, l))

@@ -1,8 +1,8 @@
 use Rattle.std.proofs.Common.{◌≡◌, true≢false, Some, sym, subst, ◌∙◌}
 use Rattle.terminal_scheduler.specs.declared.schedulers.TerminalScheduler.{TerminalScheduler}
 use Rattle.terminal_scheduler.specs.Schedulers.{IsCalmBefore}
-use Rattle.mixer_places.proofs.Lists.{get_read}
 use Rattle.mixer.proofs.calm.calm_at.Goals as goal
+use Rattle.stream_spec.proofs.Plain.{get_read}
 
 pub returns-then-not-is_seated : goal.returns-then-not-is_seated
 returns-then-not-is_seated c = λ o at held. absurd (true≢false (sym held ∙ sym c.if-not-is_seated.ensures.place))

@@ -1,4 +1,4 @@
-use Rattle.std.proofs.Common.{List, [], map, subst, sym}
+use Rattle.std.proofs.Common.{List, map, subst, sym}
 use Rattle.std.proofs.lemmas.List.Elements.{All-nil}
 use Rattle.terminal_scheduler.specs.Schedulers.{sources_of}
 use Rattle.mixer.specs.declared.batches.Post.{Post}

@@ -1,10 +1,10 @@
 use Rattle.std.proofs.Common.{◌≡◌, ℕ, Some, true, length, subst, sym, arith}
 use Rattle.std.specs.Prelude.{slice_get}
-use Rattle.mixer_places.proofs.Lists.{get_read}
 use Rattle.mixer_spec.specs.Rounds.{all_below}
 use Rattle.mixer_spec.specs.Table.{is_quiet}
 use Rattle.terminal_scheduler.proofs.Below.{fails_at, all_more}
 use Rattle.mixer.proofs.looks.are_quiet.Goals as goal
+use Rattle.stream_spec.proofs.Plain.{get_read}
 
 pub returns-then-not-is_quiet : goal.returns-then-not-is_quiet
 returns-then-not-is_quiet c = λ s table h w.

@@ -1,9 +1,9 @@
 use Rattle.std.proofs.Common.{◌≡◌, true, false, not, length, ap, ◌∙◌, arith}
 use Rattle.std.specs.Prelude.{◌==◌, ◌||◌, ◌&&◌}
-use Rattle.mixer_places.proofs.Lists.{get_read}
 use Rattle.mixer_spec.specs.Rounds.{all_below}
 use Rattle.mixer_spec.specs.Table.{is_quiet, has_work}
 use Rattle.mixer.proofs.looks.is_done.Goals as goal
+use Rattle.stream_spec.proofs.Plain.{get_read}
 
 pub returns-then-is_quiet : goal.returns-then-is_quiet
 returns-then-is_quiet c = λ s table h w.

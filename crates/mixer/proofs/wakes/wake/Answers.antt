@@ -1,9 +1,9 @@
 use Rattle.std.proofs.Common.{◌≡◌, ℕ, ◌<◌, Some, length, subst, arith}
 use Rattle.std.specs.Prelude.{slice_get}
-use Rattle.mixer_places.proofs.Lists.{get_read}
 use Rattle.mixer.specs.Waking.{AreWokenBelow}
 use Rattle.mixer.proofs.Woken.{none_woken, one_woken}
 use Rattle.mixer.proofs.wakes.wake.Goals as goal
+use Rattle.stream_spec.proofs.Plain.{get_read}
 
 pub loop-terminal-init : goal.loop-terminal-init
 loop-terminal-init c = none_woken c.args.schedulers.now.items

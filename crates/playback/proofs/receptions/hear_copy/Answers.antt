@@ -1,9 +1,9 @@
 use Rattle.std.proofs.Common.{ℕ, drop, ap, ◌∙◌}
 use Rattle.std.proofs.lemmas.Grind.{get_or_default_zero}
 use Rattle.playback.specs.Arriving.{copy_of}
-use Rattle.terminal.proofs.Listening.{on_ok}
-use Rattle.playback.proofs.PlayedCopies.{heard_copy, no_copy, rest_is}
+use Rattle.playback.proofs.PlayedCopies.{heard_copy, no_copy}
 use Rattle.playback.proofs.receptions.hear_copy.Goals as goal
+use Rattle.wire_spec.proofs.Plain.{on_ok, rest_is}
 
 pub returns-clause-listens : goal.returns-clause-listens
 returns-clause-listens c = on_ok c.arrive.result c.arrive.ensures.listens (λ g.

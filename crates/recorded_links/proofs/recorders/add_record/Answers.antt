@@ -1,7 +1,8 @@
 use Rattle.std.proofs.Common.{rules, ◌≡◌, ◌++◌, ℕ, List, Some, ap, ◌∙◌}
-use Rattle.recorded_links.proofs.Fronts.{left_further, longer}
+use Rattle.recorded_links.proofs.Fronts.{left_further}
 use Rattle.live_spec.specs.Recorded.{entry_written}
 use Rattle.recorded_links.proofs.recorders.add_record.Goals as goal
+use Rattle.wire_spec.proofs.Plain.{front_of_more as longer}
 
 pub returns-in_default-clause-left : goal.returns-in_default-clause-left
 returns-in_default-clause-left g c = λ told tells there.

@@ -1,9 +1,9 @@
-use Rattle.std.proofs.Common.{List, ℕ, ◌++◌, sym, ap, ◌∙◌}
+use Rattle.std.proofs.Common.{List, ℕ, ◌++◌, sym, ap, ◌∙◌, map-id as map_same}
 use Rattle.std.proofs.lemmas.Iterator.{YieldsList-from_chars}
 use Rattle.std.proofs.lemmas.Iterator.Consumers.{YieldsList-end}
 use Rattle.view_spec.proofs.Steps.{ends_with_cr-last}
 use Rattle.command_spec.specs.Transcripts.{escaped}
-use Rattle.recording_views.proofs.Escaping.{appended_push, escaped_signs, map_same}
+use Rattle.recording_views.proofs.Escaping.{appended_push, escaped_signs}
 use Rattle.recording_views.proofs.escapes.append_characters.Goals as goal
 
 pub loop-c-preserved : goal.loop-c-preserved

@@ -1,8 +1,8 @@
 use Rattle.std.proofs.Common.{List, ℕ, ◌++◌, sym, ap, ◌∙◌}
 use Rattle.view_spec.specs.declared.classes.CharClass.TheVariants.{Erase, Bell}
 use Rattle.recording_views.proofs.Escaping.{escaped_by_class, escaped_marker, escaped_print}
-use Rattle.recording_views.proofs.Printing.{on_ok}
 use Rattle.recording_views.proofs.escapes.append_escaped_character.Goals as goal
+use Rattle.receiver.proofs.Parts.{on_ok_then as on_ok}
 
 pub returns-in-Erase : goal.returns-in-Erase
 returns-in-Erase c =

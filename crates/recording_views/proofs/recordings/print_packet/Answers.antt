@@ -3,8 +3,9 @@ use Rattle.std.proofs.Math.Logic.{∥∥₁_map}
 use Rattle.stream_spec.specs.Ready.{chunk_of}
 use Rattle.receiver.specs.declared.ears.Ear.{Ear}
 use Rattle.receiver.specs.Hears.{Becomes, text_for, told}
-use Rattle.recording_views.proofs.Printing.{on_ok, plain_giving, becomes_giving, prints_plain, prints_nothing, prints_told}
+use Rattle.recording_views.proofs.Printing.{plain_giving, becomes_giving, prints_plain, prints_nothing, prints_told}
 use Rattle.recording_views.proofs.recordings.print_packet.Goals as goal
+use Rattle.receiver.proofs.Parts.{on_ok_then as on_ok}
 
 pub print_heard-requires : goal.print_heard-requires
 print_heard-requires c =

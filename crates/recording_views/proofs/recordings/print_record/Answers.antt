@@ -2,8 +2,9 @@ use Rattle.std.proofs.Common.{ℕ, sym, subst}
 use Rattle.rtpdump_io.specs.Answers.{record_of}
 use Rattle.rtpdump_io.specs.declared.items.DumpItem.{DumpItem}
 use Rattle.recording_views.specs.Writing.{PrintsItem, PrintsPacket}
-use Rattle.recording_views.proofs.Printing.{on_ok, item_printed}
+use Rattle.recording_views.proofs.Printing.{item_printed}
 use Rattle.recording_views.proofs.recordings.print_record.Goals as goal
+use Rattle.receiver.proofs.Parts.{on_ok_then as on_ok}
 
 pub returns-in-Packet-clause-prints : goal.returns-in-Packet-clause-prints
 returns-in-Packet-clause-prints c =

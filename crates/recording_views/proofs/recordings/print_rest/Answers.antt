@@ -1,7 +1,8 @@
 use Rattle.std.proofs.Math.Logic.{∥∥₁_map}
 use Rattle.reorder_buffer.specs.Stories.{ended}
-use Rattle.recording_views.proofs.Printing.{on_ok, becomes_giving, prints_end}
+use Rattle.recording_views.proofs.Printing.{becomes_giving, prints_end}
 use Rattle.recording_views.proofs.recordings.print_rest.Goals as goal
+use Rattle.receiver.proofs.Parts.{on_ok_then as on_ok}
 
 pub print_heard-requires : goal.print_heard-requires
 print_heard-requires c =

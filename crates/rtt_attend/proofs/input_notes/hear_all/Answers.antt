@@ -9,9 +9,9 @@ use Rattle.rtt_mix.specs.Mixes.{RoseAt}
 use Rattle.rtt_attend.specs.declared.sender_reports.SenderReport.{SenderReport}
 use Rattle.rtt_attend.specs.Opened.{AreHeard}
 use Rattle.rtt_attend.specs.Named.{AreTold}
-use Rattle.rtt_attend.proofs.Lists.{same_function}
 use Rattle.rtt_attend.proofs.Legs.{are_told, lie_below, none_failed, none_refused, stops, unheard_of}
 use Rattle.rtt_attend.proofs.input_notes.hear_all.Goals as goal
+use Rattle.wire_spec.proofs.Plain.{funext as same_function}
 
 pub returns-in-Err-hear_inputs-clause-stops : goal.returns-in-Err-hear_inputs-clause-stops
 returns-in-Err-hear_inputs-clause-stops g c =

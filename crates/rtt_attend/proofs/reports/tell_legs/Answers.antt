@@ -2,10 +2,10 @@ use Rattle.std.proofs.Common.{List, length, refl, ap, ◌∙◌, arith}
 use Rattle.std.proofs.lemmas.Option.{slice_get_read}
 use Rattle.file_spec.specs.declared.conference_lines.LegLine.{LegLine}
 use Rattle.command_spec.specs.Attending.{told_so}
-use Rattle.command_spec.proofs.Naming.{length_changed}
 use Rattle.rtt_attend.specs.Heard.{said_of}
 use Rattle.rtt_attend.proofs.Changes.{told_more}
 use Rattle.rtt_attend.proofs.reports.tell_legs.Goals as goal
+use Rattle.file_spec.proofs.KeptLines.{length-change as length_changed}
 
 pub loop-leg-preserved : goal.loop-leg-preserved
 loop-leg-preserved c =

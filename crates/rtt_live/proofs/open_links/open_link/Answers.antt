@@ -39,7 +39,7 @@ returns-in-Ok-new-clause-leg g c = λ line at.
     let opened = c.in-Ok-link.ensures in
     let numbered : g.W.In.LinkIn.port c.in-Ok-new.leg.arrivals.link ≡ c.in-Some.port = ap g.W.In.LinkIn.port link ∙ opened.ports.0 in
     record {
-      settings = c.in-Ok-new.ensures.settings ∙ (c.leg_settings.ensures ∙ ap (leg_settings_at (meaning_of c.args.conference.now)) same);
+      settings = c.in-Ok-new.ensures.settings ∙ (c.leg_settings.ensures.value ∙ ap (leg_settings_at (meaning_of c.args.conference.now)) same);
       new = c.in-Ok-new.ensures.stands;
       at = ap (λ (l : LegLine). port l.input) (sym same) ∙ (there ∙ ap Some (sym numbered));
       fresh = ap g.W.In.LinkIn.faults link ∙ opened.fresh.0;

@@ -8,10 +8,10 @@ use Rattle.rtt_live.specs.Listeners.{ArePrintedOf}
 use Rattle.rtt_live.specs.Reports.{end_of}
 use Rattle.rtt_live.specs.Spans.{span_of}
 use Rattle.rtt_live.specs.Tallies.{tallies_in}
-use Rattle.rtt_live.proofs.Composing.{map_long}
 use Rattle.rtt_live.proofs.Leading.{some_all}
 use Rattle.rtt_live.proofs.Returning.{broke_off_by, calm_closed, counted_by, done_turned, gave_nothing, given_up_by, same_span, served_by, was_not_opened}
 use Rattle.rtt_live.proofs.services.serve_tapped.Goals as goal
+use Rattle.mixer_spec.proofs.Arriving.{length_map as map_long}
 
 pub returns-in-Err-clause-given_up : goal.returns-in-Err-clause-given_up
 returns-in-Err-clause-given_up g c = was_not_opened g.W.Links.tells _ (g.W.Links.own_faults c.args.world.now) _ _ _ (meaning_of c.args.conference.now) c.requires.links c.in-Err.fault c.in-Err.ensures.refused

@@ -1,7 +1,7 @@
 use Rattle.file_spec.specs.Conferences.{meaning_of}
-use Rattle.terminal.proofs.Listening.{on_ok}
 use Rattle.rtt_live.proofs.Showing.{adds_view}
 use Rattle.rtt_live.proofs.views.add_view.Goals as goal
+use Rattle.wire_spec.proofs.Plain.{on_ok}
 
 pub returns : goal.returns
 returns c = on_ok c.append.result c.append.ensures

@@ -2,11 +2,11 @@ use Rattle.std.proofs.Common.{◌≡◌, ◌∙◌, ◌++◌, List, ap, subst}
 use Rattle.std.specs.Prelude.{remove}
 use Rattle.file_spec.specs.declared.conference_lines.LegLine.{LegLine}
 use Rattle.file_spec.specs.Conferences.{meaning_of}
-use Rattle.terminal.proofs.Listening.{on_ok}
 use Rattle.file_spec.specs.Speakers.{names_of, ssrcs_of}
 use Rattle.live_spec.specs.Served.{live_view}
 use Rattle.rtt_live.proofs.Showing.{aware_shown, shown_leg}
 use Rattle.rtt_live.proofs.views.append_aware.Goals as goal
+use Rattle.wire_spec.proofs.Plain.{on_ok}
 
 pub returns : goal.returns
 returns c = on_ok c.append_view.result c.append_view.ensures.seen (λ f leg given at e h.

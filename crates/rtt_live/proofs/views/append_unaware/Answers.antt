@@ -1,10 +1,10 @@
 use Rattle.std.proofs.Common.{◌≡◌, ◌∙◌, ◌++◌, ap, subst}
 use Rattle.file_spec.specs.declared.conference_lines.LegLine.{LegLine}
 use Rattle.file_spec.specs.Conferences.{meaning_of}
-use Rattle.terminal.proofs.Listening.{on_ok}
 use Rattle.live_spec.specs.Served.{live_view}
 use Rattle.rtt_live.proofs.Showing.{shown_leg, unaware_shown}
 use Rattle.rtt_live.proofs.views.append_unaware.Goals as goal
+use Rattle.wire_spec.proofs.Plain.{on_ok}
 
 pub returns : goal.returns
 returns c = on_ok c.append_view.result c.append_view.ensures.seen (λ f leg given at e h.

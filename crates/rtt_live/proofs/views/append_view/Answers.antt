@@ -1,8 +1,8 @@
 use Rattle.std.proofs.Common.{◌≡◌, ◌∙◌, List, get_or, ap, sym}
 use Rattle.file_spec.specs.declared.conference_lines.LegLine.{LegLine}
-use Rattle.terminal.proofs.Listening.{on_ok}
 use Rattle.rtt_live.proofs.Showing.{read_leg}
 use Rattle.rtt_live.proofs.views.append_view.Goals as goal
+use Rattle.wire_spec.proofs.Plain.{on_ok}
 
 pub returns-then-as_slice-own : goal.returns-then-as_slice-own
 returns-then-as_slice-own c = on_ok c.append_aware.result c.append_aware.ensures (λ f leg given at h.

@@ -4,8 +4,9 @@ use Rattle.std.specs.Vec.Iter.{into_iter_items}
 use Rattle.std.proofs.lemmas.List.{length-append, length_push}
 use Rattle.file_spec.specs.Conferences.{meaning_of}
 use Rattle.rtt_live.specs.Listeners.{AreViewsOf, Listening}
-use Rattle.rtt_live.proofs.Showing.{first_all, first_more, get_seam, no_leg}
+use Rattle.rtt_live.proofs.Showing.{first_all, first_more, no_leg}
 use Rattle.rtt_live.proofs.views.views_of.Goals as goal
+use Rattle.workers.proofs.Matching.{get_behind as get_seam}
 
 pub add_view-requires : goal.add_view-requires
 add_view-requires c =

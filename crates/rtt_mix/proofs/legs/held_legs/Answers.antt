@@ -37,17 +37,17 @@ loop-octets-preserved c =
     let is : octets ≡ input_at inputs number =
     sym (get_or-append_seam yielded octets (into_iter_items c.next.new.self) []) ∙ (ap (λ (xs : List (List ℕ)). input_at xs (length yielded)) whole ∙ ap (λ (n : ℕ). input_at inputs n) at) in
     let got = leg_got legs number ∙ slice_get_read legs (length legs) number c.index-legs-number.result refl below c.index-legs-number.is in
-    let over : IsOver (Unit {0}) left-value.it c.args.wait c.args.limit c.index-legs-number.result octets c.in-Ok.inlet
-    = subst (λ (os : List ℕ). IsOver (Unit {0}) left-value.it c.args.wait c.args.limit c.index-legs-number.result os c.in-Ok.inlet) c.new-source.ensures c.in-Ok.ensures.over in
+    let over : IsOver (Unit {0}) left-value.it c.args.hearing c.args.limit c.index-legs-number.result octets c.in-Ok.inlet
+    = subst (λ (os : List ℕ). IsOver (Unit {0}) left-value.it c.args.hearing c.args.limit c.index-legs-number.result os c.in-Ok.inlet) c.new-source.ensures c.in-Ok.ensures.over in
     record {
       all = append_assoc yielded (octets ∷ []) (into_iter_items c.next.new.self) ∙ whole;
       left = omega (arith, i.left, c.in-Some.ensures.steps.1, ap (λ (xs : List (List ℕ)). length xs) steps);
       count = ap (λ (xs : List (LegInlet SteadySource)). length xs) items ∙ omega (arith, length_push now c.in-Ok.inlet, length_push yielded octets, i.count);
       len = omega (arith, c.push_reserved.ensures.len, i.len, length_push yielded octets);
       room = omega (arith, c.push_reserved.ensures.capacity, i.room);
-      over = subst (λ (xs : List (LegInlet SteadySource)). AllOver (Unit {0}) left-value.it c.args.wait c.args.limit legs inputs xs) (sym items)
-          (over_more (Unit {0}) left-value.it c.args.wait c.args.limit number legs c.index-legs-number.result inputs octets now c.in-Ok.inlet i.over (omega (arith, i.count, at)) got is over);
+      over = subst (λ (xs : List (LegInlet SteadySource)). AllOver (Unit {0}) left-value.it c.args.hearing c.args.limit legs inputs xs) (sym items)
+          (over_more (Unit {0}) left-value.it c.args.hearing c.args.limit number legs c.index-legs-number.result inputs octets now c.in-Ok.inlet i.over (omega (arith, i.count, at)) got is over);
     }
 
 pub returns-clause-over : goal.returns-clause-over
-returns-clause-over c = subst (λ (os : List (List ℕ)). AllOver (Unit {0}) left-value.it c.args.wait c.args.limit c.args.legs.now os c.loop-octets.inlets.items) c.into_iter-octets-iterator.ensures.into_iter_gives.0 c.loop-octets.invariant.over
+returns-clause-over c = subst (λ (os : List (List ℕ)). AllOver (Unit {0}) left-value.it c.args.hearing c.args.limit c.args.legs.now os c.loop-octets.inlets.items) c.into_iter-octets-iterator.ensures.into_iter_gives.0 c.loop-octets.invariant.over

@@ -12,5 +12,5 @@ invariant-loop-octets l = record {
   count : length l.inlets.items ≡ length l.yielded;
   len : vec_len l.inlets ≡ length l.yielded;
   room : length l.legs ≤ vec_capacity l.inlets;
-  over : AllOver (Unit {0}) left-value.it l.wait l.limit l.legs (into_iter_items l.initial.octets-iterator) l.inlets.items;
+  over : AllOver (Unit {0}) left-value.it l.hearing l.limit l.legs (into_iter_items l.initial.octets-iterator) l.inlets.items;
 }

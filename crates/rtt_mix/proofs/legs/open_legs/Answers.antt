@@ -7,7 +7,7 @@ use Rattle.rtt_mix.proofs.legs.open_legs.Goals as goal
 
 pub returns-in-Err-clause-refused : goal.returns-in-Err-clause-refused
 returns-in-Err-clause-refused g c =
-    not_opened g.W.World.tells g.W.Src.Source.left g.W.Src.Source.faults g.W.Src.Source.name (g.W.World.contents c.args.world.now) c.args.wait c.args.limit c.loop-index.index c.args.legs.now c.index-legs-index.result c.loop-index.inlets.items
+    not_opened g.W.World.tells g.W.Src.Source.left g.W.Src.Source.faults g.W.Src.Source.name (g.W.World.contents c.args.world.now) c.args.hearing c.args.limit c.loop-index.index c.args.legs.now c.index-legs-index.result c.loop-index.inlets.items
     (g.W.World.own_faults c.args.world.now) (g.W.World.own_faults c.loop-index.world) (g.W.World.own_faults c.open_leg.new.world) (g.W.World.own_faults c.close_legs.new.world) c.in-Err.fault
     c.loop-index.invariant.opened c.loop-index.invariant.count (leg_read_at c.args.legs.now c.loop-index.index c.index-legs-index.result (omega (arith, c.loop-index-test.true)) c.index-legs-index.is) c.loop-index.invariant.same_own c.close_legs.ensures.same_own c.in-Err.ensures.refused
 
@@ -22,8 +22,8 @@ loop-index-preserved g c =
     let i = c.loop-index.invariant in
     let inlet = c.in-Ok-open_leg.inlet in
     let items = c.push_reserved.ensures.items in
-    let opened = subst (λ (xs : List (LegInlet g.row.W-Src.Denot)). AllOpened g.W.World.tells g.W.Src.Source.left g.W.Src.Source.faults g.W.Src.Source.name (g.W.World.contents c.args.world.now) c.args.wait c.args.limit c.args.legs.now xs) (sym items)
-    (opened_more g.W.World.tells g.W.Src.Source.left g.W.Src.Source.faults g.W.Src.Source.name (g.W.World.contents c.loop-index.world) (g.W.World.contents c.args.world.now) c.args.wait c.args.limit c.loop-index.index c.args.legs.now c.index-legs-index.result c.loop-index.inlets.items inlet
+    let opened = subst (λ (xs : List (LegInlet g.row.W-Src.Denot)). AllOpened g.W.World.tells g.W.Src.Source.left g.W.Src.Source.faults g.W.Src.Source.name (g.W.World.contents c.args.world.now) c.args.hearing c.args.limit c.args.legs.now xs) (sym items)
+    (opened_more g.W.World.tells g.W.Src.Source.left g.W.Src.Source.faults g.W.Src.Source.name (g.W.World.contents c.loop-index.world) (g.W.World.contents c.args.world.now) c.args.hearing c.args.limit c.loop-index.index c.args.legs.now c.index-legs-index.result c.loop-index.inlets.items inlet
     i.contents i.opened i.count (leg_read_at c.args.legs.now c.loop-index.index c.index-legs-index.result (omega (arith, c.loop-index-test.true)) c.index-legs-index.is) c.in-Ok-open_leg.ensures.opened) in
     record {
       count = ap (λ (xs : List (LegInlet g.row.W-Src.Denot)). length xs) items ∙ (length_push c.loop-index.inlets.items inlet ∙ ap (λ n. n + 1) i.count);

@@ -8,7 +8,7 @@ invariant-loop-index g l = record {
   count : length l.inlets.items ≡ l.index;
   len : vec_len l.inlets ≡ l.index;
   room : length l.legs ≤ vec_capacity l.inlets;
-  opened : AllOpened g.W.World.tells g.W.Src.Source.left g.W.Src.Source.faults g.W.Src.Source.name (g.W.World.contents l.fn.world) l.wait l.limit l.legs l.inlets.items;
+  opened : AllOpened g.W.World.tells g.W.Src.Source.left g.W.Src.Source.faults g.W.Src.Source.name (g.W.World.contents l.fn.world) l.hearing l.limit l.legs l.inlets.items;
   shown : g.W.World.tells → 0 < l.index → g.W.Src.Source.tells;
   calm : AreCalm g.W.Src.Source.faults l.inlets.items;
   same_own : (n : List ℕ) → g.W.World.own_faults l.world n ≡ g.W.World.own_faults l.fn.world n;

@@ -9,18 +9,18 @@ use Rattle.rtt_mix.proofs.mixes.mix.Goals as goal
 
 pub mix_opened-mixed-requires-clause-new : goal.mix_opened-mixed-requires-clause-new
 mix_opened-mixed-requires-clause-new g c = λ κs lives.
-    are_new g.W.World.tells g.W.Src.Source.left g.W.Src.Source.faults g.W.Src.Source.name (g.W.World.contents c.args.world.now) (meaning_of c.args.conference.now) c.as_slice-lines.result.now c.input_limit-limit.result c.in-Ok.legs.items
-    c.as_slice-lines.ensures c.input_limit-limit.ensures c.in-Ok.ensures.legs c.in-Ok.ensures.opened
+    are_new g.W.World.tells g.W.Src.Source.left g.W.Src.Source.faults g.W.Src.Source.name (g.W.World.contents c.args.world.now) (meaning_of c.args.conference.now) c.as_slice-lines.result.now c.of-hearing.result c.input_limit-limit.result c.in-Ok.legs.items
+    c.as_slice-lines.ensures c.of-hearing.ensures.value c.input_limit-limit.ensures c.in-Ok.ensures.legs c.in-Ok.ensures.opened
 
 pub returns-clause-made : goal.returns-clause-made
 returns-clause-made g c =
-    is_made g.W.World.tells g.W.Src.Source.left g.W.Src.Source.faults g.W.Src.Source.name (g.W.World.contents c.args.world.now) (meaning_of c.args.conference.now) c.as_slice-lines.result.now c.input_limit-limit.result c.in-Ok.legs.items
-    c.as_slice-lines.ensures c.input_limit-limit.ensures c.in-Ok.ensures.legs c.in-Ok.ensures.opened c.mix_opened-mixed.result.mixed g.W.Src.Source.tells (omega (arith, c.args.conference.now.kept.two, ap (λ (xs : List LegLine). length xs) c.as_slice-lines.ensures)) c.in-Ok.ensures.shown c.mix_opened-mixed.ensures.mixes
+    is_made g.W.World.tells g.W.Src.Source.left g.W.Src.Source.faults g.W.Src.Source.name (g.W.World.contents c.args.world.now) (meaning_of c.args.conference.now) c.as_slice-lines.result.now c.of-hearing.result c.input_limit-limit.result c.in-Ok.legs.items
+    c.as_slice-lines.ensures c.of-hearing.ensures.value c.input_limit-limit.ensures c.in-Ok.ensures.legs c.in-Ok.ensures.opened c.mix_opened-mixed.result.mixed g.W.Src.Source.tells (omega (arith, c.args.conference.now.kept.two, ap (λ (xs : List LegLine). length xs) c.as_slice-lines.ensures)) c.in-Ok.ensures.shown c.mix_opened-mixed.ensures.mixes
 
 pub returns-clause-stops : goal.returns-clause-stops
 returns-clause-stops g c =
-    stops g.W.World.tells g.W.Src.Source.left g.W.Src.Source.faults g.W.Src.Source.name (g.W.World.contents c.args.world.now) (meaning_of c.args.conference.now) c.as_slice-lines.result.now c.input_limit-limit.result c.in-Ok.legs.items
-    c.as_slice-lines.ensures c.input_limit-limit.ensures c.in-Ok.ensures.legs c.in-Ok.ensures.opened c.mix_opened-mixed.result.mixed g.W.Src.Source.tells (omega (arith, c.args.conference.now.kept.two, ap (λ (xs : List LegLine). length xs) c.as_slice-lines.ensures)) c.in-Ok.ensures.shown c.mix_opened-mixed.ensures.mixes
+    stops g.W.World.tells g.W.Src.Source.left g.W.Src.Source.faults g.W.Src.Source.name (g.W.World.contents c.args.world.now) (meaning_of c.args.conference.now) c.as_slice-lines.result.now c.of-hearing.result c.input_limit-limit.result c.in-Ok.legs.items
+    c.as_slice-lines.ensures c.of-hearing.ensures.value c.input_limit-limit.ensures c.in-Ok.ensures.legs c.in-Ok.ensures.opened c.mix_opened-mixed.result.mixed g.W.Src.Source.tells (omega (arith, c.args.conference.now.kept.two, ap (λ (xs : List LegLine). length xs) c.as_slice-lines.ensures)) c.in-Ok.ensures.shown c.mix_opened-mixed.ensures.mixes
     (g.W.World.object_faults c.args.world.now) (g.W.World.object_faults c.close_legs.new.world) c.mix_opened-mixed.result.legs.items c.mix_opened-mixed.ensures.legs
     (RoseAt (g.W.World.own_faults c.args.world.now) (g.W.World.own_faults c.close_legs.new.world)) c.mix_opened-mixed.ensures.sources c.mix_opened-mixed.ensures.leg
     (λ j q at rose. subst (λ n. Rose n (g.W.World.object_faults c.close_legs.new.world (g.W.Src.Source.name (source_in q)))) (c.in-Ok.ensures.same_objects (g.W.Src.Source.name (source_in q)))
@@ -28,8 +28,8 @@ returns-clause-stops g c =
 
 pub returns-clause-none_failed : goal.returns-clause-none_failed
 returns-clause-none_failed g c =
-    none_failed g.W.World.tells g.W.Src.Source.left g.W.Src.Source.faults g.W.Src.Source.name (g.W.World.contents c.args.world.now) (meaning_of c.args.conference.now) c.as_slice-lines.result.now c.input_limit-limit.result c.in-Ok.legs.items
-    c.as_slice-lines.ensures c.input_limit-limit.ensures c.in-Ok.ensures.legs c.in-Ok.ensures.opened c.mix_opened-mixed.result.mixed g.W.Src.Source.tells (omega (arith, c.args.conference.now.kept.two, ap (λ (xs : List LegLine). length xs) c.as_slice-lines.ensures)) c.in-Ok.ensures.shown c.mix_opened-mixed.ensures.mixes
+    none_failed g.W.World.tells g.W.Src.Source.left g.W.Src.Source.faults g.W.Src.Source.name (g.W.World.contents c.args.world.now) (meaning_of c.args.conference.now) c.as_slice-lines.result.now c.of-hearing.result c.input_limit-limit.result c.in-Ok.legs.items
+    c.as_slice-lines.ensures c.of-hearing.ensures.value c.input_limit-limit.ensures c.in-Ok.ensures.legs c.in-Ok.ensures.opened c.mix_opened-mixed.result.mixed g.W.Src.Source.tells (omega (arith, c.args.conference.now.kept.two, ap (λ (xs : List LegLine). length xs) c.as_slice-lines.ensures)) c.in-Ok.ensures.shown c.mix_opened-mixed.ensures.mixes
     (g.W.World.object_faults c.args.world.now) (g.W.World.object_faults c.close_legs.new.world) c.mix_opened-mixed.result.legs.items c.mix_opened-mixed.ensures.legs
     (g.W.World.contents c.open_legs.new.world) c.mix_opened-mixed.ensures.sources c.mix_opened-mixed.ensures.leg c.in-Ok.ensures.same_contents
     (λ calm n. c.close_legs.ensures.counts.calm calm n ∙ c.in-Ok.ensures.same_objects n)

@@ -9,12 +9,12 @@ use Rattle.rtt_mix.proofs.mixes.mix_held.Goals as goal
 pub mix_opened-mixed-requires-clause-new : goal.mix_opened-mixed-requires-clause-new
 mix_opened-mixed-requires-clause-new g c = λ κs lives.
     new_over (Unit {0}) left-value.it (meaning_of c.args.conference.now) c.args.inputs.items c.in-Ok.legs.items
-    (over_of (Unit {0}) left-value.it (meaning_of c.args.conference.now) c.as_slice.result.now c.input_limit-limit.result c.args.inputs.items c.in-Ok.legs.items c.as_slice.ensures c.input_limit-limit.ensures c.in-Ok.ensures.over)
+    (over_of (Unit {0}) left-value.it (meaning_of c.args.conference.now) c.as_slice.result.now c.of-hearing.result c.input_limit-limit.result c.args.inputs.items c.in-Ok.legs.items c.as_slice.ensures c.of-hearing.ensures.value c.input_limit-limit.ensures c.in-Ok.ensures.over)
 
 pub returns-clause-mixes : goal.returns-clause-mixes
 returns-clause-mixes g c =
     c.mix_opened-mixed.ensures.mixes tt c.args.inputs.items c.requires (asked_over (Unit {0}) left-value.it (meaning_of c.args.conference.now) c.args.inputs.items c.in-Ok.legs.items
-    (over_of (Unit {0}) left-value.it (meaning_of c.args.conference.now) c.as_slice.result.now c.input_limit-limit.result c.args.inputs.items c.in-Ok.legs.items c.as_slice.ensures c.input_limit-limit.ensures c.in-Ok.ensures.over) tt)
+    (over_of (Unit {0}) left-value.it (meaning_of c.args.conference.now) c.as_slice.result.now c.of-hearing.result c.input_limit-limit.result c.args.inputs.items c.in-Ok.legs.items c.as_slice.ensures c.of-hearing.ensures.value c.input_limit-limit.ensures c.in-Ok.ensures.over) tt)
 
 pub returns-clause-read : goal.returns-clause-read
 returns-clause-read g c =

@@ -29,6 +29,10 @@ if_ok : {A E : Type 0} (r : Result A E) (P Q : A → Type 0) → ((a : A) → P 
 if_ok (Ok a) P Q f p = f a p
 if_ok (Err e) P Q f p = p
 
+if_both : {A E : Type 0} (r : Result A E) (P Q : A → Type 0) → IfOk r P → IfOk r Q → IfOk r (λ a. P a × Q a)
+if_both (Ok a) P Q p q = (p, q)
+if_both (Err e) P Q p q = p
+
 pub mix_legs-mixing-requires : goal.mix_legs-mixing-requires
 mix_legs-mixing-requires g c =
     let conference = c.args.conference.now in
@@ -86,7 +90,7 @@ returns-in-Over-clause-outs g c =
     let m = c.mix_legs-mixing.result.mixer in
     let mixed : HasMixed conference m x.table = subst (λ (a : MixEnd DumpFault memory.NoMemory). UnlessUnsent a (HasMixed conference m x.table)) c.in-Over.is x.mixed in
     let log = c.into_outbound-log.ensures in
-    if_ok c.made.result _ _ (λ made e. ap (λ (l : State). length l) (e ∙ log) ∙ many conference m x.table mixed) c.made.ensures.outs
+    if_both c.made.result _ _ (if_ok c.made.result _ _ (λ made e. ap (λ (l : State). length l) (e ∙ log) ∙ many conference m x.table mixed) c.made.ensures.outs) c.made.ensures.lawful
 
 pub returns-in-Over-clause-sources : goal.returns-in-Over-clause-sources
 returns-in-Over-clause-sources g c =

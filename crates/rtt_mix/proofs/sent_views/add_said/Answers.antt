@@ -5,9 +5,9 @@ use Rattle.view_spec.specs.Views.{source_view}
 use Rattle.sent_log.specs.States.{sents}
 use Rattle.rtt_mix.specs.Shown.{lines_of}
 use Rattle.rtt_mix.specs.SentViews.{said_of}
-use Rattle.rtt_mix.proofs.Noting.{found_at}
 use Rattle.rtt_mix.proofs.SentViews.{said_end, said_step}
 use Rattle.rtt_mix.proofs.sent_views.add_said.Goals as goal
+use Rattle.sent_log.proofs.Recorded.{terminal_there as found_at}
 
 pub add_lines-requires : goal.add_lines-requires
 add_lines-requires c =

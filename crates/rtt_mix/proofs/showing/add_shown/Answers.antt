@@ -7,10 +7,10 @@ use Rattle.terminal.specs.declared.views.View.{View}
 use Rattle.terminal.specs.declared.views.View.TheVariants.{Aware}
 use Rattle.terminal.specs.Terminals.{AreUtf8, IsWhole, counts_of, texts_of}
 use Rattle.terminal.specs.Views.{Fits, named, view_of}
-use Rattle.terminal.proofs.Listening.{on_ok}
 use Rattle.terminal.proofs.Seeing.{view_is_seen}
 use Rattle.rtt_mix.specs.Shown.{AddsView}
 use Rattle.rtt_mix.proofs.showing.add_shown.Goals as goal
+use Rattle.wire_spec.proofs.Plain.{on_ok}
 
 pub add_aware-requires-clause-each : goal.add_aware-requires-clause-each
 add_aware-requires-clause-each c =

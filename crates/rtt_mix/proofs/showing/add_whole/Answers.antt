@@ -1,7 +1,7 @@
 use Rattle.std.proofs.Common.{List, ℕ, subst}
 use Rattle.terminal.specs.Told.{AppendsSeen}
-use Rattle.terminal.proofs.Listening.{on_ok}
 use Rattle.rtt_mix.proofs.showing.add_whole.Goals as goal
+use Rattle.wire_spec.proofs.Plain.{on_ok}
 
 pub returns : goal.returns
 returns c = on_ok c.add_octets.result c.add_octets.ensures (λ e. record {

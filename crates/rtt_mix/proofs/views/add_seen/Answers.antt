@@ -8,10 +8,10 @@ use Rattle.terminal.specs.Views.{Fits}
 use Rattle.sent_log.specs.States.{records_of}
 use Rattle.playback.specs.Written.{IsWrittenOf}
 use Rattle.rtt_mix.specs.Viewed.{IsSeenAs}
-use Rattle.rtt_mix.proofs.Noting.{found_at}
 use Rattle.rtt_mix.proofs.Recorded.{read_recording}
 use Rattle.rtt_mix.proofs.Viewing.{leg_read, has_few, seen_as}
 use Rattle.rtt_mix.proofs.views.add_seen.Goals as goal
+use Rattle.sent_log.proofs.Recorded.{terminal_there as found_at}
 
 pub add_shown-requires-clause-finished : goal.add_shown-requires-clause-finished
 add_shown-requires-clause-finished c = λ whole.

@@ -3,18 +3,18 @@ use Rattle.std.specs.Prelude.{AllPairs, remove, slice_index_or, ◌≢◌}
 use Rattle.std.proofs.lemmas.List.{length-map}
 use Rattle.file_spec.specs.declared.conference_lines.LegLine.{LegLine}
 use Rattle.file_spec.specs.Conferences.{meaning_of}
-use Rattle.terminal.proofs.Listening.{on_ok}
 use Rattle.rtt_mix.specs.Viewed.{AddsTerminalView, terminal_settings}
 use Rattle.mixer_posts.proofs.LegLines.{ssrcs_differ}
 use Rattle.stream_spec.specs.Own.{Sent}
 use Rattle.sent_log.specs.States.{sents}
 use Rattle.playback.specs.Written.{IsWrittenOf}
 use Rattle.playback.proofs.Sendings.{few_sent}
-use Rattle.rtt_mix.proofs.Noting.{found_at}
 use Rattle.rtt_mix.proofs.Recorded.{read_recording}
 use Rattle.rtt_mix.proofs.SentViews.{sent_adds}
 use Rattle.rtt_mix.proofs.Viewing.{at_leg, leg_read, aware_view, adds, unaware_view}
 use Rattle.rtt_mix.proofs.views.add_view.Goals as goal
+use Rattle.wire_spec.proofs.Plain.{on_ok}
+use Rattle.sent_log.proofs.Recorded.{terminal_there as found_at}
 
 pub sent_view-requires-clause-each : goal.sent_view-requires-clause-each
 sent_view-requires-clause-each c =

@@ -2,9 +2,9 @@ use Rattle.std.proofs.Common.{◌≡◌, false, [], ◌∷◌, ◌++◌, length,
 use Rattle.rtpdump_io.specs.Reading.{to_come}
 use Rattle.wire_spec.specs.Dump.{with_item}
 use Rattle.rtpdump_io.specs.Answers.{is_end, record_of}
-use Rattle.rtpdump_io.proofs.Records.{gives_item, not_end, not_last}
+use Rattle.rtpdump_io.proofs.Records.{gives_item, not_end, not_last, most_few}
 use Rattle.rtt_show.specs.Finds.{IsSmall}
-use Rattle.rtt_show.proofs.Gathering.{most_few, one_more}
+use Rattle.rtt_show.proofs.Gathering.{one_more}
 use Rattle.rtt_show.proofs.shows.gather.Goals as goal
 
 pub loop-item-init : goal.loop-item-init

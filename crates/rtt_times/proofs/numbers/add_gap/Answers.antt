@@ -1,8 +1,8 @@
 use Rattle.std.proofs.Common.{◌≡◌, ◌+◌, ℕ, suc, arith, subst}
 use Rattle.rtt_times.specs.Numbers.{AddsMissing}
 use Rattle.rtt_times.proofs.Missing.{part_added}
-use Rattle.recording_views.proofs.Printing.{on_ok}
 use Rattle.rtt_times.proofs.numbers.add_gap.Goals as goal
+use Rattle.receiver.proofs.Parts.{on_ok_then as on_ok}
 
 pub returns : goal.returns
 returns c =

@@ -4,8 +4,8 @@ use Rattle.rtt_times.specs.declared.stream_packets.TimedPacket.{TimedPacket}
 use Rattle.rtt_times.specs.Lines.{AddsLines}
 use Rattle.rtt_times.specs.Numbers.{AreAbove, AreLateNumbers, gap_lines, late_lines}
 use Rattle.rtt_times.proofs.Missing.{dues_above, numbers_added}
-use Rattle.recording_views.proofs.Printing.{on_ok}
 use Rattle.rtt_times.proofs.numbers.add_numbers.Goals as goal
+use Rattle.receiver.proofs.Parts.{on_ok_then as on_ok}
 
 pub add_gaps-requires-clause-above : goal.add_gaps-requires-clause-above
 add_gaps-requires-clause-above c = subst AreAbove (sym c.as_slice-2.ensures.value) (dues_above c.args.heard.now c.requires.0 c.requires.1)

@@ -1,7 +1,7 @@
 use Rattle.std.proofs.Common.{◌<◌, arith}
 use Rattle.rtt_times.proofs.Missing.{row_added}
-use Rattle.recording_views.proofs.Printing.{on_ok}
 use Rattle.rtt_times.proofs.numbers.add_row.Goals as goal
+use Rattle.receiver.proofs.Parts.{on_ok_then as on_ok}
 
 pub returns : goal.returns
 returns c =

@@ -1,8 +1,8 @@
 use Rattle.std.proofs.Common.{◌<◌, ◌≤◌, arith, get_or, length, refl}
 use Rattle.rtt_times.proofs.Kept.{place_is}
 use Rattle.rtt_times.proofs.Missing.{rows_end, rows_more}
-use Rattle.recording_views.proofs.Printing.{on_ok}
 use Rattle.rtt_times.proofs.numbers.add_rows.Goals as goal
+use Rattle.receiver.proofs.Parts.{on_ok_then as on_ok}
 
 pub loop-index-preserved : goal.loop-index-preserved
 loop-index-preserved c =

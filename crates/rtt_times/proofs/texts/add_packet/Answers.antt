@@ -3,9 +3,10 @@ use Rattle.std.proofs.Math.Logic.{∥∥₁_map}
 use Rattle.stream_spec.specs.Ready.{chunk_of}
 use Rattle.receiver.specs.declared.ears.Ear.{Ear}
 use Rattle.receiver.specs.Hears.{Becomes, text_for, told}
-use Rattle.recording_views.proofs.Printing.{on_ok, plain_giving, becomes_giving}
+use Rattle.recording_views.proofs.Printing.{plain_giving, becomes_giving}
 use Rattle.rtt_times.proofs.Writing.{writes_plain, writes_nothing, writes_told}
 use Rattle.rtt_times.proofs.texts.add_packet.Goals as goal
+use Rattle.receiver.proofs.Parts.{on_ok_then as on_ok}
 
 pub add_heard-requires : goal.add_heard-requires
 add_heard-requires c =

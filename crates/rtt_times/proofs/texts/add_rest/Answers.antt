@@ -1,8 +1,9 @@
 use Rattle.std.proofs.Math.Logic.{∥∥₁_map}
 use Rattle.reorder_buffer.specs.Stories.{ended}
-use Rattle.recording_views.proofs.Printing.{on_ok, becomes_giving}
+use Rattle.recording_views.proofs.Printing.{becomes_giving}
 use Rattle.rtt_times.proofs.Writing.{writes_end}
 use Rattle.rtt_times.proofs.texts.add_rest.Goals as goal
+use Rattle.receiver.proofs.Parts.{on_ok_then as on_ok}
 
 pub add_heard-requires : goal.add_heard-requires
 add_heard-requires c = record { giving = ∥∥₁_map c.requires.giving (becomes_giving c.args.ear.now c.finish.new.self (λ settings story. ended story) c.finish.ensures.becomes) }

@@ -1,8 +1,9 @@
 use Rattle.std.proofs.Common.{◌≡◌, ◌++◌, decimal, rules, subst}
 use Rattle.std.specs.Prelude.{OnErr}
 use Rattle.rtt_io.specs.Fronts.{TakesFront}
-use Rattle.rtt_top.proofs.Fronts.{behind_err, front_before, on_err}
+use Rattle.rtt_top.proofs.Fronts.{behind_err, on_err}
 use Rattle.rtt_top.proofs.messages.write_counted.Goals as goal
+use Rattle.sent_log.proofs.Passing.{front_before}
 
 pub returns-in_err-write_all-clause-partly : goal.returns-in_err-write_all-clause-partly
 returns-in_err-write_all-clause-partly g c = λ t.

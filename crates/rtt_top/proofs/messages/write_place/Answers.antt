@@ -1,8 +1,10 @@
 use Rattle.std.proofs.Common.{◌++◌, codes}
 use Rattle.rtt_io.specs.Fronts.{TakesFront}
 use Rattle.report_spec.specs.Told.{told_name}
-use Rattle.rtt_top.proofs.Fronts.{behind_err, both, front_before, front_behind, on_err}
+use Rattle.rtt_top.proofs.Fronts.{behind_err, front_behind, on_err}
 use Rattle.rtt_top.proofs.messages.write_place.Goals as goal
+use Rattle.sent_log.proofs.Passing.{front_before}
+use Rattle.rtt_check.proofs.Pieces.{pieces_more as both}
 
 pub returns-in_err-write_name-clause-partly : goal.returns-in_err-write_name-clause-partly
 returns-in_err-write_name-clause-partly g c = λ t.

@@ -1,8 +1,9 @@
 use Rattle.std.proofs.Common.{◌++◌, codes}
 use Rattle.rtt_io.specs.Fronts.{TakesFront}
 use Rattle.report_spec.specs.Told.{told_name}
-use Rattle.rtt_top.proofs.Fronts.{behind_err, front_before, front_behind, on_err}
+use Rattle.rtt_top.proofs.Fronts.{behind_err, front_behind, on_err}
 use Rattle.rtt_top.proofs.messages.write_trouble.Goals as goal
+use Rattle.sent_log.proofs.Passing.{front_before}
 
 pub returns-in_err-write_all-clause-partly : goal.returns-in_err-write_all-clause-partly
 returns-in_err-write_all-clause-partly g c = λ t.

@@ -1,7 +1,8 @@
 use Rattle.std.proofs.Common.{◌++◌}
 use Rattle.rtt_io.specs.Fronts.{TakesFront}
-use Rattle.rtt_top.proofs.Fronts.{behind_err, front_before, on_err}
+use Rattle.rtt_top.proofs.Fronts.{behind_err, on_err}
 use Rattle.rtt_top.proofs.messages.write_two.Goals as goal
+use Rattle.sent_log.proofs.Passing.{front_before}
 
 pub returns-in_err-write_all-clause-partly : goal.returns-in_err-write_all-clause-partly
 returns-in_err-write_all-clause-partly g c = λ t.

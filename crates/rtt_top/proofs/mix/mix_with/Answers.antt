@@ -5,6 +5,7 @@ use Rattle.std.specs.List.{concat}
 use Rattle.file_spec.specs.Conferences.{meaning_of}
 use Rattle.command_spec.specs.declared.faults.Fault.{Fault}
 use Rattle.sent_log.specs.Files.{recordings_of}
+use Rattle.sent_log.specs.States.{AreLawful, State}
 use Rattle.rtt_mix.specs.Mixes.{outputs_of}
 use Rattle.rtt_top.specs.Conferences.{MakesOutputs, OutputsEnd, ending_name}
 use Rattle.rtt_top.specs.Outside.{outside_at}
@@ -41,3 +42,6 @@ returns g c = λ counts file command m.
     (record { same = c.mix.ensures.same_contents; calls_rise = c.mix.ensures.calls_never_fall; objects_rise = c.mix.ensures.objects_never_fall }) refl refl c.in-Ok.ensures.none_failed c.in-Ok.ensures.opened
     (ends command (ending_name file legs) (names_outputs file legs)
     (subst (λ (p : List ℕ). Of p (recordings_of more.outs)) (sym all) (subst (λ os. Of printed os) (sym (ap recordings_of c.in-Ok-with_lines.ensures.outs)) made)))
+
+pub make_outputs-requires-clause-lawful : goal.make_outputs-requires-clause-lawful
+make_outputs-requires-clause-lawful g c = λ κs within. subst (λ (s : State). AreLawful s) (sym c.in-Ok-with_lines.ensures.outs) c.in-Ok.ensures.outs.1

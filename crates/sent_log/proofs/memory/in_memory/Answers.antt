@@ -3,8 +3,9 @@ use Rattle.std.proofs.lemmas.List.{append-nil}
 use Rattle.stream_spec.specs.Own.{Sent}
 use Rattle.wire_spec.specs.Dump.{dump_opening, record_written}
 use Rattle.sent_log.specs.States.{first_sent}
-use Rattle.sent_log.proofs.Recorded.{all_first, none_first, one_more, written_of}
+use Rattle.sent_log.proofs.Recorded.{all_first, one_more, written_of}
 use Rattle.sent_log.proofs.memory.in_memory.Goals as goal
+use Rattle.sent_log.proofs.Penning.{none_first}
 
 pub loop-number-init : goal.loop-number-init
 loop-number-init c = record {

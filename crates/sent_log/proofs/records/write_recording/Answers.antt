@@ -6,8 +6,9 @@ use Rattle.stream_spec.specs.Own.{Sent}
 use Rattle.sent_log.specs.States.{recording_of}
 use Rattle.sent_log.specs.FileWriting.{HoldsRest}
 use Rattle.sent_log.proofs.Passing.{err_then, nothing_taken, ok_gives}
-use Rattle.sent_log.proofs.Recorded.{front_is_taken, front_of_all, next_held, none_first, whole_taken, written_of}
+use Rattle.sent_log.proofs.Recorded.{front_is_taken, front_of_all, next_held, whole_taken, written_of}
 use Rattle.sent_log.proofs.records.write_recording.Goals as goal
+use Rattle.sent_log.proofs.Penning.{none_first}
 
 pub loop-number-init : goal.loop-number-init
 loop-number-init g c =

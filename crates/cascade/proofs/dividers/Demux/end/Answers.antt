@@ -1,7 +1,8 @@
 use Rattle.std.proofs.Common.{refl}
 use Rattle.reorder_buffer.specs.Stories.{ended}
-use Rattle.cascade.proofs.Gathering.{ends, hears_told, on_ok}
+use Rattle.cascade.proofs.Gathering.{ends, hears_told}
 use Rattle.cascade.proofs.dividers.Demux.end.Goals as goal
+use Rattle.wire_spec.proofs.Plain.{on_ok}
 
 pub gather-requires : goal.gather-requires
 gather-requires c =

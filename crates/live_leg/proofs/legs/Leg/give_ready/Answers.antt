@@ -1,10 +1,11 @@
-use Rattle.std.proofs.Common.{sym, subst, refl, ◌∙◌, true≢false}
+use Rattle.std.proofs.Common.{sym, subst, refl, ◌∙◌, true≢false, Some}
+use Rattle.live_leg.specs.declared.kinds.ItemKind.TheVariants as kind
 use Rattle.std.proofs.Math.Logic.{∥∥₁_map}
 use Rattle.std.proofs.lemmas.Str.{is_utf8-from_IsUtf8}
 use Rattle.stream_spec.specs.Ready.{chunk_of}
 use Rattle.live_leg.proofs.Ears.{rests_giving, still_giving}
-use Rattle.live_leg.proofs.HowFar.{heard_giving, heard_not_idle, still_going}
-use Rattle.live_leg.proofs.Giving.{given_heard, gives_end, gives_next, gives_said}
+use Rattle.live_leg.proofs.HowFar.{heard_giving, heard_not_idle}
+use Rattle.live_leg.proofs.Giving.{given_heard, gives_end, gives_next, gives_said, going_if as still_going}
 use Rattle.live_leg.specs.declared.kinds.ItemKind.{ItemKind}
 use Rattle.live_leg.specs.Texts.{HasText}
 use Rattle.live_leg.proofs.Texts.{seen_text, some_text}
@@ -21,11 +22,10 @@ pub returns-then-next-clause-gives : goal.returns-then-next-clause-gives
 returns-then-next-clause-gives g c =
     gives_next g.A.Arrivals c.args.self.now _ (chunk_of c.next.new.chunk) (chunk_of c.next.new.chunk) (heard_giving c.args.self.now.state c.requires) refl (refl, refl, refl, refl, refl) c.next.ensures.settings
     (c.next.ensures.some c.if-next.true) c.next.ensures.front (c.next.ensures.source c.if-next.true) (sym (given_heard c.args.self.now.state c.args.self.now.senders.moment (chunk_of c.next.new.chunk) c.requires))
-    c.unless_blank.result c.unless_blank.ensures
 
 pub returns-then-next-clause-text : goal.returns-then-next-clause-text
 returns-then-next-clause-text g c =
-    some_text c.unless_blank.result (chunk_of c.next.new.chunk) (c.next.ensures.text c.if-next.true) (is_utf8-from_IsUtf8 c.next.new.chunk.text (c.next.ensures.utf8 c.if-next.true))
+    some_text (Some kind.Text) (chunk_of c.next.new.chunk) (c.next.ensures.text c.if-next.true) (is_utf8-from_IsUtf8 c.next.new.chunk.text (c.next.ensures.utf8 c.if-next.true))
 
 pub invariant_of-self-then-is_ending : goal.invariant_of-self-then-is_ending
 invariant_of-self-then-is_ending g c = record {

@@ -1,5 +1,5 @@
 use Rattle.std.proofs.Common.{List, ℕ, ap, refl, sym, subst, ◌∙◌, ◌≡◌}
-use Rattle.std.specs.Prelude.{IfSome, true}
+use Rattle.std.specs.Prelude.{true}
 use Rattle.std.specs.Str.{is_utf8}
 use Rattle.std.proofs.Math.Logic.{∥∥₁_map}
 use Rattle.std.proofs.lemmas.Str.{is_utf8-from_IsUtf8}
@@ -7,14 +7,11 @@ use Rattle.wire_spec.specs.Packets.{has_text}
 use Rattle.stream_spec.specs.Hearing.{marker}
 use Rattle.stream_spec.specs.Ready.{Chunk, chunk, chunk_of}
 use Rattle.stream_spec.proofs.HeardTexts.{marker_utf8}
-use Rattle.live_spec.specs.Told.{ready_until}
 use Rattle.live_leg.specs.States.{is_giving}
 use Rattle.live_leg.specs.Stories.{BeginsWith}
-use Rattle.live_leg.specs.Texts.{HasText}
 use Rattle.live_leg.proofs.Ears.{rests_giving, still_giving}
 use Rattle.live_leg.proofs.Giving.{given_parting, gives_marker, gives_next}
 use Rattle.live_leg.proofs.HowFar.{parting_not_going, parting_not_idle}
-use Rattle.live_leg.proofs.Texts.{some_text}
 use Rattle.live_leg.proofs.legs.Leg.part.Goals as goal
 
 pub invariant_of-self : goal.invariant_of-self
@@ -30,14 +27,12 @@ returns-then-next-clause-gives g c =
     gives_next g.A.Arrivals c.args.self.now _ heard (chunk_of c.hasten.new.chunk) (ap is_giving c.requires) refl (refl, refl, refl, refl, refl) c.next.ensures.settings
     (c.next.ensures.some c.if-next.true) c.next.ensures.front (c.next.ensures.source c.if-next.true)
     (given_parting c.args.self.now.state c.args.self.now.senders.moment c.moment.result heard (chunk_of c.hasten.new.chunk) c.requires c.moment.ensures.value c.hasten.ensures)
-    c.unless_blank.result c.unless_blank.ensures
 
 pub returns-then-next-clause-text : goal.returns-then-next-clause-text
 returns-then-next-clause-text g c =
-    let P : Chunk → Type 0 = λ k. IfSome c.unless_blank.result (λ kind. HasText kind k) in
+    let P : Chunk → Type 0 = λ k. (has_text k.text ≡ true) × (is_utf8 k.text ≡ true) in
     let heard = c.next.new.chunk in
-    subst P (sym c.hasten.ensures)
-    (some_text c.unless_blank.result (ready_until c.moment.result (chunk_of heard)) (c.next.ensures.text c.if-next.true) (is_utf8-from_IsUtf8 heard.text (c.next.ensures.utf8 c.if-next.true)))
+    λ e. subst P (sym c.hasten.ensures) (c.next.ensures.text c.if-next.true, is_utf8-from_IsUtf8 heard.text (c.next.ensures.utf8 c.if-next.true))
 
 pub begin_with-requires-clause-giving : goal.begin_with-requires-clause-giving
 begin_with-requires-clause-giving g c = ∥∥₁_map c.args.self.now.giving (rests_giving c.args.self.now.ear c.next.new.self (c.next.ensures.none c.if-next.false))

@@ -4,9 +4,10 @@ use Rattle.live_leg.specs.declared.paced_links.LinkStop.TheVariants.{Failed, Tol
 use Rattle.mix_loop.specs.declared.live_offers.StepAnswer.{StepAnswer}
 use Rattle.mix_loop.specs.LivePorts.{Advances}
 use Rattle.mix_loop.proofs.Advancing.{goes_signal, goes_nothing, goes_silent, text_goes, text_grew}
-use Rattle.mix_loop.proofs.Enough.{or_none, or_some}
+use Rattle.mix_loop.proofs.Enough.{or_none}
 use Rattle.mix_loop.proofs.live_ports.LivePort.advance.Goals as goal
 use Rattle.std.specs.Prelude.{suc}
+use Rattle.std.proofs.Math.Bool.{or-true as or_some}
 
 pub returns-in-Text-clause-advances : goal.returns-in-Text-clause-advances
 returns-in-Text-clause-advances g c =

@@ -7,9 +7,9 @@ use Rattle.mixer_places.specs.Rings.{end_of}
 use Rattle.mixer_places.specs.Lanes.{Waiting, part_heard}
 use Rattle.mixer_places.specs.LaneInsides.{waiting_in}
 use Rattle.mixer_places.specs.SlotStanding.{SlotHolds}
-use Rattle.mixer_places.proofs.Lists.{get_read}
 use Rattle.mixer_places.proofs.Holding.{listened}
 use Rattle.mixer_places.proofs.lanes.SourceQueue.listen.Goals as goal
+use Rattle.stream_spec.proofs.Plain.{get_read}
 
 pub invariant_of-self : goal.invariant_of-self
 invariant_of-self c =

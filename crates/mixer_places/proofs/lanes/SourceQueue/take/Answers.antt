@@ -8,11 +8,11 @@ use Rattle.mixer_places.specs.Rings.{end_of, chunks_between, count_fitting}
 use Rattle.mixer_places.specs.Lanes.{Waiting, part_end}
 use Rattle.mixer_places.specs.LaneInsides.{waiting_in}
 use Rattle.mixer_places.specs.SlotStanding.{SlotHolds}
-use Rattle.mixer_places.proofs.Lists.{get_read}
 use Rattle.mixer_places.proofs.Holding.{bounds_in, part_at, end_read}
 use Rattle.mixer_places.proofs.Utf8.{fetched_utf8}
 use Rattle.mixer_places.proofs.Taking.{IsFront, took_front, text_front, front_within, front_read}
 use Rattle.mixer_places.proofs.lanes.SourceQueue.take.Goals as goal
+use Rattle.stream_spec.proofs.Plain.{get_read}
 
 pub place_behind-place-requires-clause-from : goal.place_behind-place-requires-clause-from
 place_behind-place-requires-clause-from c =

@@ -5,9 +5,9 @@ use Rattle.mixer_places.specs.Rings.{end_of}
 use Rattle.mixer_places.specs.Lanes.{Waiting, part_end}
 use Rattle.mixer_places.specs.LaneInsides.{waiting_in}
 use Rattle.mixer_places.specs.SlotStanding.{SlotHolds}
-use Rattle.mixer_places.proofs.Lists.{get_read}
 use Rattle.mixer_places.proofs.Holding.{bounds_in, waiting_is, part_at, end_read}
 use Rattle.mixer_places.proofs.lanes.SourceQueue.waiting.Goals as goal
+use Rattle.stream_spec.proofs.Plain.{get_read}
 
 pub overflow_sub-result : goal.overflow_sub-result
 overflow_sub-result c =

@@ -1,8 +1,9 @@
 use Rattle.std.proofs.Common.{◌≡◌, ◌≤◌, ◌+◌, ◌-◌, ℕ, List, ap, sym, ◌∙◌, ◌++◌, length, length-take, length-append, append_assoc, take, drop, arith}
 use Rattle.std.proofs.lemmas.List.{append-nil}
 use Rattle.mixer_places.specs.Rings.{Chunks}
-use Rattle.mixer_places.proofs.Lists.{on_ok, parts_between}
+use Rattle.mixer_places.proofs.Lists.{parts_between}
 use Rattle.mixer_places.proofs.rings.Ring.append_to.Goals as goal
+use Rattle.stream_spec.proofs.Plain.{on_ok}
 
 pub returns-then-end-split : goal.returns-then-end-split
 returns-then-end-split c =

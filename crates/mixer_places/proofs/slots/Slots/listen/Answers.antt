@@ -1,9 +1,9 @@
 use Rattle.std.proofs.Common.{◌≡◌, ℕ, ◌<◌, Bool, Some, List, length, ap, subst, arith}
 use Rattle.std.specs.Prelude.{slice_get}
 use Rattle.mixer_places.specs.Lanes.{Waiting}
-use Rattle.mixer_places.proofs.Lists.{get_read}
 use Rattle.mixer_places.proofs.Sources.{Heard, Told, told_more, stands_told}
 use Rattle.mixer_places.proofs.slots.Slots.listen.Goals as goal
+use Rattle.stream_spec.proofs.Plain.{get_read}
 
 pub loop-source-preserved : goal.loop-source-preserved
 loop-source-preserved c =

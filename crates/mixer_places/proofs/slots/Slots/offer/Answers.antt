@@ -1,17 +1,12 @@
-use Rattle.std.proofs.Common.{◌≡◌, Some, Result, Ok, Err, List, get_or, set, ap, subst, sym, ◌∙◌}
-use Rattle.std.specs.Prelude.{slice_get, OnOk}
-use Rattle.rtt_base.specs.declared.errors.Full.{Full}
+use Rattle.std.proofs.Common.{◌≡◌, Some, List, get_or, set, ap, subst, sym, ◌∙◌}
+use Rattle.std.specs.Prelude.{slice_get}
 use Rattle.stream_spec.specs.Ready.{chunk_of}
 use Rattle.mixer_spec.specs.Table.{given}
 use Rattle.mixer_places.specs.Lanes.{Waiting}
 use Rattle.mixer_places.specs.SlotStanding.{SlotsStandFor}
-use Rattle.mixer_places.proofs.Lists.{get_read}
 use Rattle.mixer_places.proofs.Sources.{stands_given}
 use Rattle.mixer_places.proofs.slots.Slots.offer.Goals as goal
-
-on_ok_of : {P Q : Type 0} (r : Result (Unit {0}) Full) → OnOk r P → (P → Q) → OnOk r Q
-on_ok_of (Ok x) p f = f p
-on_ok_of (Err x) p f = p
+use Rattle.stream_spec.proofs.Plain.{get_read, on_ok_of}
 
 pub returns-clause-ok : goal.returns-clause-ok
 returns-clause-ok c =

@@ -4,9 +4,9 @@ use Rattle.mixer_spec.specs.Table.{is_given}
 use Rattle.mixer_places.specs.Words.{fetched}
 use Rattle.mixer_places.specs.Lanes.{Waiting}
 use Rattle.mixer_places.specs.SlotStanding.{SlotsStandFor}
-use Rattle.mixer_places.proofs.Lists.{get_read}
 use Rattle.mixer_places.proofs.Sources.{stands_fetched}
 use Rattle.mixer_places.proofs.slots.Slots.take.Goals as goal
+use Rattle.stream_spec.proofs.Plain.{get_read}
 
 pub returns-clause-text : goal.returns-clause-text
 returns-clause-text c = λ s table h.

@@ -2,8 +2,8 @@ use Rattle.std.proofs.Common.{◌≡◌, Some, List, get_or, ap, ◌∙◌}
 use Rattle.std.specs.Prelude.{slice_get}
 use Rattle.mixer_spec.specs.Table.{is_given}
 use Rattle.mixer_places.specs.Lanes.{Waiting}
-use Rattle.mixer_places.proofs.Lists.{get_read}
 use Rattle.mixer_places.proofs.slots.Slots.waiting.Goals as goal
+use Rattle.stream_spec.proofs.Plain.{get_read}
 
 pub returns : goal.returns
 returns c = λ s table h.

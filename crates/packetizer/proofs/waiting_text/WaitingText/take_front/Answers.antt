@@ -1,7 +1,8 @@
 use Rattle.std.proofs.Common.{◌≡◌, ◌≤◌, ◌-◌, ℕ, List, ap, ◌∙◌, ◌++◌, length, length-take, take, min, arith}
-use Rattle.packetizer.proofs.Fronts.{front_parts, on_ok}
+use Rattle.packetizer.proofs.Fronts.{front_parts}
 use Rattle.packetizer.proofs.waiting_text.WaitingText.take_front.Goals as goal
 use Rattle.rtt_base.specs.declared.limits.TheConstants.{MOST_TEXT_OCTETS}
+use Rattle.stream_spec.proofs.Plain.{on_ok}
 
 pub returns-clause-text : goal.returns-clause-text
 returns-clause-text c =
@@ -13,6 +14,17 @@ returns-clause-text c =
     let few : len ≤ MOST_TEXT_OCTETS = c.front_len-len.ensures.fits.0 in
     let one : c.append.new.self ≡ take part first =
     on_ok c.append.result (c.append.ensures.room.1 (omega (arith, within, few, ap (λ (l : List ℕ). length l) c.clear.ensures, length-take part first))) c.append.ensures.ok ∙ ap (λ (l : List ℕ). l ++ take part first) c.clear.ensures in
-    let two : c.append-2.new.self ≡ c.append.new.self ++ take (len - part) second =
-    on_ok c.append-2.result (c.append-2.ensures.room.1 (omega (arith, within, few, ap (λ (l : List ℕ). length l) one, length-take part first, length-take (len - part) second))) c.append-2.ensures.ok in
+    let two : c.append_rest.new.text ≡ c.append.new.self ++ take (len - part) second = c.append_rest.ensures in
     two ∙ (ap (λ (l : List ℕ). l ++ take (len - part) second) one ∙ (front_parts c.args.self.now first second len part (c.as_slices.ensures ∙ c.self.view_is) within ∙ ap (λ (n : ℕ). take n c.args.self.now) c.front_len-len.ensures.value))
+
+pub append_rest-requires : goal.append_rest-requires
+append_rest-requires c =
+    let first = c.as_slices.result.0.now in
+    let second = c.as_slices.result.1.now in
+    let len = c.front_len-len.result in
+    let part = c.min-from_first.result in
+    let within : part ≡ min (length first) len = c.min-from_first.ensures in
+    let few : len ≤ MOST_TEXT_OCTETS = c.front_len-len.ensures.fits.0 in
+    let one : c.append.new.self ≡ take part first =
+    on_ok c.append.result (c.append.ensures.room.1 (omega (arith, within, few, ap (λ (l : List ℕ). length l) c.clear.ensures, length-take part first))) c.append.ensures.ok ∙ ap (λ (l : List ℕ). l ++ take part first) c.clear.ensures in
+    omega (arith, within, few, ap (λ (l : List ℕ). length l) one, length-take part first, length-take (len - part) second)

@@ -2,9 +2,9 @@ use Rattle.std.proofs.Common.{rules, ◌≡◌, ◌<◌, ◌^◌, ◌+◌, Some,
 use Rattle.live_spec.specs.Recorded.{record_in}
 use Rattle.recorded_links.specs.Places.{entry}
 use Rattle.recorded_links.specs.Standing.{IsFresh}
-use Rattle.recorded_links.proofs.Pieces.{at_err}
 use Rattle.recorded_links.proofs.Noting.{left_done, left_more, left_next, left_pending, noted_more, noted_next, touches, touches_both}
 use Rattle.recorded_links.proofs.recorders.Recorder.note.Goals as goal
+use Rattle.wire_spec.proofs.Plain.{on_err as at_err}
 
 pub returns-then-has_room-clause-notes : goal.returns-then-has_room-clause-notes
 returns-then-has_room-clause-notes g c = λ tells ps stands.

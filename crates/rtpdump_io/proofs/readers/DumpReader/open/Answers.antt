@@ -1,7 +1,7 @@
-use Rattle.std.proofs.Common.{Result, Ok, Err, ap, inr}
-use Rattle.std.specs.Prelude.{OnErr}
+use Rattle.std.proofs.Common.{Ok, ap, inr}
 use Rattle.rtpdump_io.proofs.Recordings.{no_opening, no_line, no_head, opens, opens_all, head_begins}
 use Rattle.rtpdump_io.proofs.readers.DumpReader.open.Goals as goal
+use Rattle.wire_spec.proofs.Plain.{on_err}
 
 pub returns-then-not-branch-clause-opened : goal.returns-then-not-branch-clause-opened
 returns-then-not-branch-clause-opened g c = λ t. no_opening _ (c.in_ok-begins_with.ensures.no t (ap Ok c.if-not-branch.true))
@@ -17,10 +17,6 @@ returns-clause-opened g c = λ t. rw c.from.ensures (opens _ _ _ _ c.in-Some.mor
 
 pub returns-clause-all : goal.returns-clause-all
 returns-clause-all g c = λ t. rw c.from.ensures (opens_all _ _ _ _ c.in-Some.more (c.in_ok-begins_with.ensures.yes t (ap Ok c.if-not-branch.false)) (rw c.in-Some.is at (c.in_ok-more.ensures.number t)) (c.in_ok-pass.ensures.there t (ap Ok c.if-not-branch-2.false)))
-
-on_err : {X E : Type 0} (r : Result X E) (P : Type 0) → P → OnErr r P
-on_err (Ok x) P h = tt
-on_err (Err e) P h = h
 
 pub returns-in_err-pass-clause-read_at : goal.returns-in_err-pass-clause-read_at
 returns-in_err-pass-clause-read_at g c = λ t. on_err _ _ (inr (rw c.from.ensures (head_begins _ _ _ c.in-Some.more (c.in_ok-begins_with.ensures.yes t (ap Ok c.if-not-branch.false)) (rw c.in-Some.is at (c.in_ok-more.ensures.line t)) (rw c.in-Some.is at (c.in_ok-more.ensures.number t)))))

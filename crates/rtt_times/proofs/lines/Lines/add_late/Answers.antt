@@ -2,8 +2,8 @@ use Rattle.std.proofs.Common.{ℕ, refl, subst}
 use Rattle.rtt_times.specs.declared.lines.Lines.{Lines}
 use Rattle.rtt_times.specs.Lines.{KeepsFrom}
 use Rattle.rtt_times.proofs.Kept.{kept}
-use Rattle.recording_views.proofs.Printing.{on_ok}
 use Rattle.rtt_times.proofs.lines.Lines.add_late.Goals as goal
+use Rattle.receiver.proofs.Parts.{on_ok_then as on_ok}
 
 pub returns : goal.returns
 returns c =

@@ -3,8 +3,8 @@ use Rattle.stream_spec.specs.Ready.{chunk_of}
 use Rattle.rtt_times.specs.declared.lines.Lines.{Lines}
 use Rattle.rtt_times.specs.Lines.{KeepsFrom, said_line}
 use Rattle.rtt_times.proofs.Kept.{text_added}
-use Rattle.recording_views.proofs.Printing.{on_ok}
 use Rattle.rtt_times.proofs.lines.Lines.add_text.Goals as goal
+use Rattle.receiver.proofs.Parts.{on_ok_then as on_ok}
 
 pub returns : goal.returns
 returns c =

@@ -4,8 +4,8 @@ use Rattle.wire_spec.specs.Packets.{packet_of}
 use Rattle.reorder_buffer.specs.States.{current_of}
 use Rattle.rtt_times.specs.Heard.{Counts}
 use Rattle.rtt_times.proofs.Hearing.{hears_current}
-use Rattle.recording_views.proofs.Printing.{on_ok}
 use Rattle.rtt_times.proofs.stream_packets.StreamPackets.take.Goals as goal
+use Rattle.receiver.proofs.Parts.{on_ok_then as on_ok}
 
 pub returns-clause-hears : goal.returns-clause-hears
 returns-clause-hears c =

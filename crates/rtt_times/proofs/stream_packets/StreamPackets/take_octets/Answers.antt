@@ -1,8 +1,8 @@
 use Rattle.wire_spec.specs.Packets.{packet_of}
 use Rattle.rtp_text.specs.Views.{packet_in}
 use Rattle.rtt_times.proofs.Hearing.{no_text_heard, text_heard, with_packet_heard}
-use Rattle.recording_views.proofs.Printing.{on_ok}
 use Rattle.rtt_times.proofs.stream_packets.StreamPackets.take_octets.Goals as goal
+use Rattle.receiver.proofs.Parts.{on_ok_then as on_ok}
 
 pub returns-in-Some-next_in_order-clause-hears : goal.returns-in-Some-next_in_order-clause-hears
 returns-in-Some-next_in_order-clause-hears c =

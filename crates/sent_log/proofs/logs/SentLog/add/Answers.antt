@@ -1,14 +1,11 @@
-use Rattle.std.proofs.Common.{◌≡◌, ◌+◌, ◌≤◌, List, Result, Ok, Err, length, ap, subst, sym, ◌∙◌, arith}
-use Rattle.std.specs.Prelude.{All, OnErr, map}
+use Rattle.std.proofs.Common.{◌≡◌, ◌+◌, ◌≤◌, List, length, ap, subst, sym, ◌∙◌, arith}
+use Rattle.std.specs.Prelude.{All, map}
 use Rattle.sent_log.specs.declared.terminals.TerminalLog.{TerminalLog}
 use Rattle.sent_log.specs.Insides.{IsTerminal, sending_of}
 use Rattle.sent_log.proofs.Growing.{lists_same, lists_still}
 use Rattle.sent_log.proofs.Noting.{added_all, added_still}
 use Rattle.sent_log.proofs.logs.SentLog.add.Goals as goal
-
-on_err : {X E : Type 0} (r : Result X E) (P : Type 0) → P → OnErr r P
-on_err (Ok x) P h = tt
-on_err (Err e) P h = h
+use Rattle.wire_spec.proofs.Plain.{on_err}
 
 pub invariant_of-self : goal.invariant_of-self
 invariant_of-self c = lists_still c.self.inside c.make_lists.new.texts.items c.make_lists.ensures.grows c.self.invariant

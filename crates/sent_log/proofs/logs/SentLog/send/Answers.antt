@@ -1,5 +1,4 @@
-use Rattle.std.proofs.Common.{◌≡◌, ℕ, Result, Ok, Err, get_or, subst, sym, ◌∙◌, arith}
-use Rattle.std.specs.Prelude.{OnErr}
+use Rattle.std.proofs.Common.{◌≡◌, ℕ, get_or, subst, sym, ◌∙◌, arith}
 use Rattle.std.proofs.lemmas.Option.{slice_get_within}
 use Rattle.sent_log.specs.declared.logs.SentLog.TheInside.{Inside}
 use Rattle.sent_log.specs.declared.terminals.TerminalLog.{TerminalLog}
@@ -9,10 +8,7 @@ use Rattle.sent_log.proofs.Growing.{all_same, all_still, each_same}
 use Rattle.sent_log.proofs.Noting.{noting, source_in, source_there}
 use Rattle.sent_log.proofs.Rendering.{is_terminal}
 use Rattle.sent_log.proofs.logs.SentLog.send.Goals as goal
-
-on_err : {X E : Type 0} (r : Result X E) (P : Type 0) → P → OnErr r P
-on_err (Ok x) P h = tt
-on_err (Err e) P h = h
+use Rattle.wire_spec.proofs.Plain.{on_err}
 
 pub returns-in_err-turn-clause-err : goal.returns-in_err-turn-clause-err
 returns-in_err-turn-clause-err c =

@@ -6,7 +6,6 @@ use Rattle.terminal_scheduler.specs.AwareStates.{AwareState}
 use Rattle.terminal_scheduler.specs.AwareTurns.{IsTurned, text_of_leg}
 use Rattle.terminal_scheduler.proofs.AwareServing.{leg_served}
 use Rattle.terminal_scheduler.proofs.aware.AwareScheduler.serve_leg.Goals as goal
-use Rattle.rtt_base.specs.declared.limits.TheConstants.{MOST_TEXT_OCTETS}
 
 pub returns-clause-turned : goal.returns-clause-turned
 returns-clause-turned c = λ s table h now l n.
@@ -14,8 +13,8 @@ returns-clause-turned c = λ s table h now l n.
     let leg = c.args.leg in
     let text = c.fetch.new.text in
     let after = c.fetch.new.slots in
-    subst (λ (x : AwareState). IsTurned s table o.own (serve_leg s now c.args.media (table.terminals o.own) c.args.place (Some leg)) c.args.media x after (Some leg) text) (sym c.keep.ensures)
+    subst (λ (x : AwareState). IsTurned s table o.own (serve_leg s o.own now c.args.media (table.terminals o.own) c.args.place (Some leg)) c.args.media x after (Some leg) text) (sym c.keep.ensures)
     (leg_served s table o c.args.slots.now after c.args.place leg c.args.media now text h
     (subst (λ (x : AwareState). length x.left ≡ length x.free_at) c.self.view_is c.self.invariant.legs) l n
-    (subst (λ (x : AwareState). text ≡ text_of_leg (table.terminals x.own) leg) c.self.view_is (c.fetch.ensures.text s table h.slots_stand))
-    (subst (λ (x : AwareState). slots.SlotsStandFor s after (fetched x.own leg MOST_TEXT_OCTETS table)) c.self.view_is (c.fetch.ensures.stands s table h.slots_stand)))
+    (subst (λ (x : AwareState). text ≡ text_of_leg x.room (table.terminals x.own) leg) c.self.view_is (c.fetch.ensures.text s table h.slots_stand))
+    (subst (λ (x : AwareState). slots.SlotsStandFor s after (fetched x.own leg x.room table)) c.self.view_is (c.fetch.ensures.stands s table h.slots_stand)))

@@ -5,7 +5,7 @@ use Rattle.unaware_view.specs.Choices.{since_at}
 use Rattle.unaware_view.proofs.Turning.{at_first, no_text}
 
 pub returns-clause-stands : goal.returns-clause-stands
-returns-clause-stands c = λ s e again.
+returns-clause-stands c = λ s e room again.
     let none : Option ℕ = None in
     let all : c.in_ok-vec-2.field-0.items ≡ replicate c.args.legs none = c.in_ok-vec-2.ensures.items_if_clones_equal (λ y q. search rules) in
     record {
@@ -15,4 +15,5 @@ returns-clause-stands c = λ s e again.
       run = record { is_run = at_first c.new.result c.new.ensures.run; utf8 = no_text; chunk = c.new.ensures.empty; begun = refl; line = c.new.ensures.closed };
       asked = refl;
       relabel = sym again;
+      room = sym room;
     }

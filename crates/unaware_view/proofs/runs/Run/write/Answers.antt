@@ -14,8 +14,11 @@ returns-clause-sends c alone behind_cr run u h =
 pub loop-rest-preserved : goal.loop-rest-preserved
 loop-rest-preserved c = record {
   text = c.write_first-rest.utf8;
-  writes = λ alone behind_cr run u h. c.write_first-rest.ensures.writes c.args.self.now alone behind_cr run (without_directions (chars c.args.text.now)) c.args.out.now (c.loop-rest.invariant.writes alone behind_cr run u h);
-  bound = omega (arith, c.write_first-rest.ensures.bound, c.loop-rest.invariant.bound);
-  kept = c.write_first-rest.ensures.kept ∙ c.loop-rest.invariant.kept;
+  writes = λ alone behind_cr run u h.
+      let cs = without_directions (chars c.args.text.now) in
+      c.write_first-rest.ensures.writes c.args.self.now alone behind_cr run cs c.args.out.now
+      (c.write_plain-others.ensures.writes c.args.self.now alone behind_cr run cs c.args.out.now (c.loop-rest.invariant.writes alone behind_cr run u h));
+  bound = omega (arith, c.write_first-rest.ensures.bound, c.write_plain-others.ensures.bound, c.loop-rest.invariant.bound);
+  kept = c.write_first-rest.ensures.kept ∙ (c.write_plain-others.ensures.kept ∙ c.loop-rest.invariant.kept);
   fits = c.write_first-rest.ensures.fits;
 }

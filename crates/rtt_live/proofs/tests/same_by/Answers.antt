@@ -1,8 +1,0 @@
-use Rattle.file_spec.specs.Conferences.{meaning_of}
-use Rattle.rtt_live.proofs.tests.same_by.Goals as goal
-
-pub serve-requires-after_bounds : goal.serve-requires-after_bounds
-serve-requires-after_bounds g c κs within = c.links_are_apart.ensures c.args.conference.now (meaning_of c.in-Ok.conference) c.in-Ok.ensures.value
-
-pub serve-requires-2-after_bounds : goal.serve-requires-2-after_bounds
-serve-requires-2-after_bounds g c κs within = c.links_are_apart.ensures c.args.conference.now (meaning_of c.in-Ok.conference) c.in-Ok.ensures.value

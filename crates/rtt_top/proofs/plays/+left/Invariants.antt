@@ -1,5 +1,0 @@
-use Rattle.std.proofs.Common.{length}
-use Rattle.rtt_top.proofs.plays.+left.Given as goal
-
-abbrev pub decreases-left : goal.decreases-left
-decreases-left g l = length l.cases.now
