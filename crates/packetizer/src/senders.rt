@@ -54,7 +54,7 @@ pub struct Sender {
     waiting: WaitingText,
     output: Packetizer,
     last: Option<Last>,
-    /// The text of the last packet, which is written over for the next one.
+    /// The text of a packet that lay in two pieces, which is written over for the next one.
     text: Text,
 }
 
@@ -206,9 +206,11 @@ impl Sender {
         ensures stands { DueAt now self.old (λ settings past. SenderStandsFor settings self.new (Ask now ∷ past)) }
     {
         let media = self.media_at(now);
-        self.waiting.take_front(&mut self.text);
+        let text = self.waiting.front(&mut self.text);
         out.clear();
-        let _ = self.output.packet(media, 0, self.text.as_slice(), out);
+        let _ = self.output.packet(media, 0, text, out);
+        let len = text.len();
+        self.waiting.pass(len);
         self.last = Some(Last { at: now, media });
     }
 }

@@ -1,5 +1,5 @@
 //! The text that waits to be sent.
-ghost use Rattle.std.specs.Prelude.{◌≡◌, ◌+◌, ◌≤◌, ◌<◌, ◌++◌, ◌↔◌, ◌==◌, [], length, min, drop, IfOk, IsOk, OnOk, OnErr};
+ghost use Rattle.std.specs.Prelude.{◌≡◌, ◌+◌, ◌≤◌, ◌<◌, ◌++◌, ◌↔◌, ◌==◌, [], length, min, take, drop, IfOk, IsOk, OnOk, OnErr};
 ghost use Rattle.stream_spec.specs.Typed.{is_end, last_end, whole_front};
 
 use circular_buffer::HeapCircularBuffer;
@@ -87,17 +87,40 @@ impl WaitingText {
         len
     }
 
-    /// Takes the longest front of whole characters that fits in a block, in place of what was in `text`.
-    pub fn take_front(&mut self, text: &mut Text)
-        ensures text { text.new ≡ whole_front MOST_TEXT_OCTETS self.old }
-        ensures rest { self.new ≡ drop (length text.new) self.old }
+    /// Puts the first octets, so many, in place of what was in `text`.
+    #[inline(never)]
+    fn copy_front(&self, len: usize, text: &mut Text)
+        requires few { len ≤ MOST_TEXT_OCTETS }
+        requires there { len ≤ length self.now }
+        ensures { text.new ≡ take len self.now }
     {
-        let len = self.front_len();
         let (first, second) = self.ring.as_slices();
         let from_first = first.len().min(len);
         text.clear();
         let _ = text.append(&first[..from_first]);
         append_rest(text, &second[..len - from_first]);
+    }
+
+    /// The longest front of whole characters that fits in a block: where it lies, or a copy in `text`, if it lies in two pieces.
+    #[inline(always)]
+    pub fn front<'a>(&'a self, text: &'a mut Text) -> &'a [u8]
+        ensures value { result.now ≡ whole_front MOST_TEXT_OCTETS self.now }
+        ensures fits { length result.now ≤ MOST_TEXT_OCTETS }
+    {
+        let len = self.front_len();
+        let (first, _) = self.ring.as_slices();
+        if len <= first.len() {
+            return &first[..len];
+        }
+        self.copy_front(len, text);
+        text.as_slice()
+    }
+
+    /// Passes over so many octets.
+    pub fn pass(&mut self, len: usize)
+        requires { len ≤ length self.old }
+        ensures { self.new ≡ drop len self.old }
+    {
         self.ring.truncate_front(self.ring.len() - len);
     }
 }

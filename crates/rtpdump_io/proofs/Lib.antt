@@ -1,6 +1,7 @@
 pub mod Pieces
 pub mod Lines
 pub mod Recordings
+pub mod Whole
 pub mod Records
 pub mod Told
 mod Entries

@@ -1,5 +1,5 @@
 //! Octets that are read block by block.
-ghost use Rattle.std.specs.Prelude.{◌≡◌, ℕ, ◌<◌, ◌≤◌, ◌+◌, [], ◌++◌, length, take, drop, min, Ok, None, true, false, IfOk, option_to_list};
+ghost use Rattle.std.specs.Prelude.{◌≡◌, ℕ, ◌<◌, ◌≤◌, ◌+◌, ◌-◌, [], ◌++◌, length, take, drop, min, Ok, None, true, false, IfOk, option_to_list};
 ghost use Rattle.rtt_base.specs.declared.limits.TheConstants.{MOST_PACKET_OCTETS};
 
 use rtt_base::{Failed, Packet};
@@ -44,8 +44,8 @@ impl<S: Source> Input<S> {
         source
     }
 
-    // The rest of the block.
-    fn held(&self) -> &[u8]
+    /// The rest of the block.
+    pub fn held(&self) -> &[u8]
         ensures { result.now ≡ held self.now }
     {
         &self.block[self.start..self.end]
@@ -170,6 +170,21 @@ impl<S: Source> Input<S> {
         append(out, &self.held()[..count]);
         self.advance(count);
         Ok(true)
+    }
+
+    /// Passes over so many octets of the block, and has those behind the first eight of them in place of what was in `out`.
+    #[inline(always)]
+    pub fn take_body(&mut self, size: usize, out: &mut Packet)
+        requires head { 8 ≤ size }
+        requires there { size ≤ length (held self.old) }
+        requires fits { size - 8 ≤ MOST_PACKET_OCTETS }
+        ensures source { self.new.source ≡ self.old.source }
+        ensures held { held self.new ≡ drop size (held self.old) }
+        ensures body { out.new ≡ take (size - 8) (drop 8 (held self.old)) }
+    {
+        out.clear();
+        append(out, &self.held()[8..size]);
+        self.advance(size);
     }
 
     // Copies octets part by part, from as many blocks as it takes.

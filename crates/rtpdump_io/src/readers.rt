@@ -5,6 +5,7 @@ ghost use Rattle.wire_spec.specs.declared.limits.TheConstants.{MOST_RECORDING_OC
 use crate::inputs::Input;
 use crate::items::{DumpFault, DumpItem, RecordingFault};
 use crate::record_heads::RecordHead;
+use rtt_base::limits::MOST_PACKET_OCTETS;
 use rtt_base::{Failed, Packet};
 use rtt_io::Source;
 use wire_spec::DumpKind;
@@ -35,15 +36,15 @@ pub struct DumpReader<S> {
 }
 
 impl<S: Source> DumpReader<S> {
-    ghost use Rattle.std.specs.Prelude.{◌≡◌, ◌<◌, ◌≤◌, true, false, Ok, OnOk, OnErr, IfOk, length, take};
+    ghost use Rattle.std.specs.Prelude.{◌≡◌, ◌<◌, ◌≤◌, true, false, Ok, OnOk, OnErr, IfOk, IfSome, length, take};
     ghost use Rattle.wire_spec.specs.Dump.{dump, usual_limit};
     ghost use Rattle.wire_spec.specs.Recorded.{entries};
     ghost use Rattle.rtpdump_io.specs.Reading.{to_come, most_answers, is_ended, source_of, unread_by};
     ghost use Rattle.rtpdump_io.specs.Structures.{Starts, IsLineOrHead, all_octets, octets_around};
     ghost use Rattle.rtpdump_io.specs.Steps.{OnFound, OnRecord, IsOfRecording, Opens, IsReady, Finds, Comes};
-    ghost use Rattle.rtpdump_io.specs.Heads.{body_size, kept_size};
+    ghost use Rattle.rtpdump_io.specs.Heads.{body_size, kept_size, IsWholePacket};
     ghost use Rattle.rtpdump_io.specs.Entries.{GivesEntry, HandsOutRtcp, entries_to_come, EntriesCome, EntriesReady};
-    ghost use Rattle.rtpdump_io.specs.Input.{CountsFaults, PassesOver};
+    ghost use Rattle.rtpdump_io.specs.Input.{held, CountsFaults, PassesOver};
     ghost use Rattle.rtpdump_io.specs.Calls.{Reads, ReadsRecord};
 
     /// A reader of a recording of at most 4194304 octets, from its first octet on. It takes no memory.
@@ -233,9 +234,59 @@ impl<S: Source> DumpReader<S> {
         Ok(Ok(()))
     }
 
-    // Reads a record, or finds the end.
+    // Reads a record, or finds the end. Most are whole packets that lie in the block.
     #[inline(always)]
     fn record(
+        &mut self,
+        with_rtcp: bool,
+        out: &mut Packet,
+    ) -> Result<Result<DumpItem, DumpKind>, Failed>
+        ensures same_offset { OnErr result (self.new.offset ≡ self.old.offset) }
+        ensures all { S.tells → OnFound result (octets_around S.left self.new ≡ octets_around S.left self.old) }
+        ensures farther { OnRecord result (self.old.offset < self.new.offset) }
+        ensures found { S.tells → IfOk result (λ found. Finds S.left self.old self.new out.new found) }
+        ensures rtcp { S.tells → IfOk result (λ found. HandsOutRtcp with_rtcp (unread_by S.left self.old) out.new found) }
+        ensures not_read { IsOfRecording result }
+        ensures same_limit { self.new.limit ≡ self.old.limit }
+        ensures same_stage { self.new.stage ≡ self.old.stage }
+        ensures counts { CountsFaults S.faults S.name (source_of self.old) (source_of self.new) result }
+    {
+        let Some(head) = self.whole_packet() else {
+            return self.any_record(with_rtcp, out);
+        };
+        self.input.take_body(usize::from(head.size), out);
+        self.offset += u64::from(head.size);
+        Ok(Ok(DumpItem::Packet { at: head.time }))
+    }
+
+    // The head of the record that is read next, where it is nothing but a packet and all of it lies in the block.
+    #[inline(always)]
+    fn whole_packet(&self) -> Option<RecordHead>
+        ensures { IfSome result (IsWholePacket self.now.limit self.now.offset (held self.now.input)) }
+    {
+        let held = self.input.held();
+        if held.len() < 8 {
+            return None;
+        }
+        let mut octets = [0; 8];
+        octets.copy_from_slice(&held[..8]);
+        let head = RecordHead::from_octets(&octets);
+        let size = usize::from(head.size);
+        if head.packet_size == 0 || usize::from(head.packet_size) + 8 != size {
+            return None;
+        }
+        if size > held.len() || usize::from(head.packet_size) > MOST_PACKET_OCTETS {
+            return None;
+        }
+        if self.offset + u64::from(head.size) > u64::from(self.limit) || head.is_late() {
+            return None;
+        }
+        Some(head)
+    }
+
+    // Reads a record, whatever it is and wherever it lies, or finds the end.
+    #[inline(never)]
+    fn any_record(
         &mut self,
         with_rtcp: bool,
         out: &mut Packet,

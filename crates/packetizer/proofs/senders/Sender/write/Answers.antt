@@ -13,16 +13,16 @@ pub returns-clause-octets : goal.returns-clause-octets
 returns-clause-octets c = λ settings past s l d.
     let r = subst (λ (st : State). SenderStandsFor settings st past) (sym c.self.view_is) s in
     let k = subst (λ (x : SenderSettings). AreSettings x) r.settings_is c.self.invariant.settings in
-    let text : c.as_slice.result.now ≡ whole_front MOST_TEXT_OCTETS (waits_for settings past) = c.as_slice.ensures.value ∙ (c.take_front.ensures.text ∙ ap (λ (w : List ℕ). whole_front MOST_TEXT_OCTETS w) r.waits) in
-    (sent_whole settings past c.args.now c.media_at-media.result c.as_slice.result.now _ _ _ _ c.packet.result k (l, c.requires, r.script) d (c.media_at-media.ensures.value settings past s) text c.clear.ensures r.output c.packet.ensures.packet c.packet.ensures.stands).0
+    let text : c.front-text.result.now ≡ whole_front MOST_TEXT_OCTETS (waits_for settings past) = c.front-text.ensures.value ∙ ap (λ (w : List ℕ). whole_front MOST_TEXT_OCTETS w) r.waits in
+    (sent_whole settings past c.args.now c.media_at-media.result c.front-text.result.now _ _ _ _ c.packet.result k (l, c.requires, r.script) d (c.media_at-media.ensures.value settings past s) text c.clear.ensures r.output c.packet.ensures.packet c.packet.ensures.stands).0
 
 pub returns-clause-stands : goal.returns-clause-stands
 returns-clause-stands c = λ settings past s l d.
     let r = subst (λ (st : State). SenderStandsFor settings st past) (sym c.self.view_is) s in
     let k = subst (λ (x : SenderSettings). AreSettings x) r.settings_is c.self.invariant.settings in
     let media = c.media_at-media.ensures.value settings past s in
-    let given : c.as_slice.result.now ≡ whole_front MOST_TEXT_OCTETS c.self.inside.waiting = c.as_slice.ensures.value ∙ c.take_front.ensures.text in
-    let text : c.as_slice.result.now ≡ whole_front MOST_TEXT_OCTETS (waits_for settings past) = given ∙ ap (λ (w : List ℕ). whole_front MOST_TEXT_OCTETS w) r.waits in
-    turned settings past c.args.now _ _ c.as_slice.result.now r l c.requires d refl given (c.take_front.ensures.rest ∙ ap (λ (t : List ℕ). drop (length t) c.self.inside.waiting) (sym c.as_slice.ensures.value))
-    (sent_whole settings past c.args.now c.media_at-media.result c.as_slice.result.now _ _ _ _ c.packet.result k (l, c.requires, r.script) d media text c.clear.ensures r.output c.packet.ensures.packet c.packet.ensures.stands).1
+    let given : c.front-text.result.now ≡ whole_front MOST_TEXT_OCTETS c.self.inside.waiting = c.front-text.ensures.value in
+    let text : c.front-text.result.now ≡ whole_front MOST_TEXT_OCTETS (waits_for settings past) = given ∙ ap (λ (w : List ℕ). whole_front MOST_TEXT_OCTETS w) r.waits in
+    turned settings past c.args.now _ _ c.front-text.result.now r l c.requires d refl given c.pass.ensures
+    (sent_whole settings past c.args.now c.media_at-media.result c.front-text.result.now _ _ _ _ c.packet.result k (l, c.requires, r.script) d media text c.clear.ensures r.output c.packet.ensures.packet c.packet.ensures.stands).1
     (ap (λ (m : ℕ). let x : Last = record { at = c.args.now; media = m } in Some x) media)
