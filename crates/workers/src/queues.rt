@@ -17,9 +17,9 @@ use std::thread;
 /// How many items there are: one for each place, and one for each end's hand.
 const ITEMS: usize = MOST_QUEUED + 2;
 
-/// After how many pops who sleeps while the queue is full is woken: half of the places are free then, and what is in the others
+/// After how many pops who sleeps while the queue is full is woken: most of the places are free then, and what is in the others
 /// keeps who pops busy until the other is awake.
-const POPS: u8 = 32;
+const POPS: u8 = 48;
 
 /// How often who pops lets other threads go on, where it finds nothing, before it sleeps.
 const YIELDS: u8 = 100;
