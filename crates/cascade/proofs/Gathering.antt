@@ -8,7 +8,10 @@ use Rattle.rtt_base.specs.declared.text_packets.PayloadTypes.{PayloadTypes}
 use Rattle.rtt_base.specs.declared.text_packets.TextPacket.{TextPacket}
 use Rattle.wire_spec.specs.declared.faults.TextFault.{TextFault}
 use Rattle.wire_spec.specs.Packets.{Arrival, Packet}
-use Rattle.wire_spec.specs.Dump.{arrived}
+use Rattle.wire_spec.specs.Dump.{arrived, sent_item}
+use Rattle.rtt_base.specs.declared.limits.TheConstants.{MOST_TEXT_OCTETS}
+use Rattle.mixer_spec.specs.Laws.{AreShortArrivals, AreShortBlocks}
+use Rattle.mixer_spec.proofs.Recordings.{recordings_law}
 use Rattle.wire_spec.specs.Text.{text_of}
 use Rattle.stream_spec.specs.Numbering.{Numbered, numbered, used}
 use Rattle.stream_spec.specs.Ready.{Chunk, chunks}
@@ -61,6 +64,7 @@ gathers_one old d e due g s p tracks takes latest divides t sources story h =
         wait = now.1.wait;
         tracks = tracks before now.1.tracks;
         stands = subst (Stands e.receiver sources) (sym more) (takes sources us now.1.stands);
+        short = now.1.short;
         latest = latest ∙ sym (ap (last_after None) more ∙ last_snoc None us (due_packet due e.buffer.current));
         split_off = subst (λ (vs : List Numbered). AreSplit t.payload_types sources vs e.splitters.items) (sym more) (divides t.payload_types sources us now.1.stands now.1.split_off);
       },
@@ -76,6 +80,7 @@ hears_same d e t sources story s p k r v h = record {
   tracks = subst (λ (x : State). Tracks x story) (sym k) h.tracks;
   stands = subst (λ (x : Receiver). Stands x sources (ready_packets story.given)) (sym r) h.stands;
   latest = ap latest_number r ∙ h.latest;
+  short = h.short;
   split_off = subst (AreSplit t.payload_types sources (ready_packets story.given)) (sym (ap (λ w. w.items) v)) h.split_off;
 }
 
@@ -89,9 +94,9 @@ gathered old d e g s p k r v all t sources story h =
 
 -- ---- what comes
 -- the tracker was told more
-pub hears_told : (d : Demux) (s : State) (t : Trunk) (sources : List ℕ) (story after : Story) → after.wait ≡ story.wait → after.given ≡ story.given → (Tracks d.buffer story → Tracks s after)
+pub hears_told : (d : Demux) (s : State) (t : Trunk) (sources : List ℕ) (story after : Story) → after.wait ≡ story.wait → after.given ≡ story.given → AreShortArrivals after.past → (Tracks d.buffer story → Tracks s after)
     → Hears d t sources story → Hears (record d { buffer = s }) t sources after
-hears_told d s t sources story after w g k h = record {
+hears_told d s t sources story after w g short k h = record {
   ssrc = h.ssrc;
   types = h.types;
   t140 = h.t140;
@@ -99,8 +104,16 @@ hears_told d s t sources story after w g k h = record {
   tracks = k h.tracks;
   stands = rw g h.stands;
   latest = rw g h.latest;
+  short = short;
   split_off = rw g h.split_off;
 }
+
+-- a packet that is read is short
+pub short_more : (octets : List ℕ) (ssrc : ℕ) (payload_types : PayloadTypes) (p : Packet) (past : List Arrival) → text_of octets (Some ssrc) payload_types ≡ Ok p → AreShortArrivals past
+    → (AreShortBlocks p.older) × (length p.primary ≤ MOST_TEXT_OCTETS) × AreShortArrivals past
+short_more octets ssrc payload_types p past x short =
+    let one : AreShortArrivals (arrived 0 (Ok p) []) = subst (λ (r : Result Packet TextFault). AreShortArrivals (arrived 0 r [])) x (recordings_law (sent_item (0, octets) ∷ []) ssrc payload_types).1 in
+    (one.0, one.1, short)
 
 -- a packet of the stream came, and what is ready then was added
 pub takes_packet : (d e : Demux) (s : State) (now : ℕ) (octets : List ℕ) (p : Packet) → text_of octets (Some d.ssrc) d.payload_types ≡ Ok p
@@ -111,7 +124,7 @@ takes_packet d e s now octets p x k f g q ef t sources past l =
     sym (ap (λ (n : ℕ). text_of octets (Some n) d.payload_types) l.hears.ssrc ∙ ap (λ (ps : PayloadTypes). text_of octets (Some t.ssrc) ps) l.hears.types) ∙ x in
     subst (λ (r : Result Packet TextFault). Listens e t sources (arrived now r past)) (sym same) (record {
       story = all_given (came l.story now p);
-      hears = g t sources (came l.story now p) (hears_told d s t sources l.story (came l.story now p) refl refl (k l.story) l.hears);
+      hears = g t sources (came l.story now p) (hears_told d s t sources l.story (came l.story now p) refl refl (short_more octets d.ssrc d.payload_types p l.story.past x l.hears.short) (k l.story) l.hears);
       told = let more = told_arrived l.story past now (Ok p) l.told in record { arrivals = more.arrivals; moment = more.moment };
       quiet = q;
       open_still = ef ∙ (f ∙ l.open_still);
@@ -124,7 +137,7 @@ takes_nothing d q now octets x e t sources past l =
     sym (ap (λ (n : ℕ). text_of octets (Some n) d.payload_types) l.hears.ssrc ∙ ap (λ (ps : PayloadTypes). text_of octets (Some t.ssrc) ps) l.hears.types) ∙ e in
     subst (λ (r : Result Packet TextFault). Listens (record d { buffer = with_packet d.buffer q }) t sources (arrived now r past)) (sym same) (record {
       story = l.story;
-      hears = hears_told d (with_packet d.buffer q) t sources l.story l.story refl refl (tracks_with d.buffer q l.story) l.hears;
+      hears = hears_told d (with_packet d.buffer q) t sources l.story l.story refl refl l.hears.short (tracks_with d.buffer q l.story) l.hears;
       told = l.told;
       quiet = l.quiet;
       open_still = l.open_still;
@@ -143,7 +156,7 @@ pub ends : (d e : Demux) (s : State) → ((story : Story) → Tracks d.buffer st
     → ((story : Story) → Tracks d.buffer story → ready_dues (ended story) ≡ dues story) → Gathers (record d { buffer = s }) e → Ends d e
 ends d e s k all g t sources past l =
     let story : Story = l.story in
-    let h : Hears e t sources (all_given (ended story)) = g t sources (ended story) (hears_told d s t sources story (ended story) refl refl (k story) l.hears) in
+    let h : Hears e t sources (all_given (ended story)) = g t sources (ended story) (hears_told d s t sources story (ended story) refl refl l.hears.short (k story) l.hears) in
     let due : ready_dues (ended story) ≡ dues story = all story l.hears.tracks in
     record {
       t140 = l.hears.t140;

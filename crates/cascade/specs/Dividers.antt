@@ -9,6 +9,7 @@ use Rattle.reorder_buffer.specs.Tracks.{Tracks}
 use Rattle.reorder_buffer.specs.States.{has_ready, is_finished}
 use Rattle.receiver.specs.Stands.{Stands, latest_number}
 use Rattle.receiver.specs.Hears.{IsToldOf, all_given, last_after, ready_packets}
+use Rattle.mixer_spec.specs.Laws.{AreShortArrivals}
 use Rattle.command_spec.specs.Splitting.{Trunk, chunks_of, split}
 use Rattle.cascade.specs.declared.splitters.SourceRecording.{SourceRecording}
 use Rattle.cascade.specs.declared.dividers.Demux.{Demux}
@@ -24,6 +25,7 @@ pub record Hears (d : Demux) (t : Trunk) (sources : List ℕ) (story : Story) : 
   pub tracks : Tracks d.buffer story
   pub stands : Stands d.receiver sources (ready_packets story.given)
   pub latest : latest_number d.receiver ≡ last_after None (ready_packets story.given)
+  pub short : AreShortArrivals story.past
   pub split_off : AreSplit t.payload_types sources (ready_packets story.given) d.splitters.items
 
 abbrev pub IsHearing : Demux → Type 0

@@ -9,7 +9,7 @@ use crate::splitters::SourceRecording;
 use receiver::Receiver;
 use reorder_buffer::ReorderBuffer;
 use rtp_text::read_text;
-use rtt_base::{NoMemory, Packet, PayloadTypes, Text};
+use rtt_base::{NoMemory, Packet, PayloadTypes};
 use std::alloc::Global;
 
 /// Hears the packets of one stream, and splits what is heard of each source into a recording of its own. One reorder buffer and one
@@ -23,8 +23,7 @@ pub struct Demux {
     receiver: Receiver,
     /// One for each source, in their order.
     splitters: Vec<SourceRecording>,
-    /// The text that is heard, and the packet that is written.
-    text: Text,
+    /// The packet that is written.
     out: Packet,
 }
 
@@ -70,7 +69,8 @@ impl Demux {
         requires few { length sources.now ≤ MOST_SOURCES }
         requires differ { AllPairs (λ a b. a ≢ b) sources.now }
         ensures listens { IfOk result (λ d. (limit : ℕ)
-            → Listens d (record { ssrc = ssrc; payload_types = payload_types; wait = wait; limit = limit }) sources.now []) }
+            → Listens d (record { ssrc = ssrc; payload_types = payload_types; wait = wait; limit = limit })
+            sources.now []) }
         ensures arrivals { IfOk result (λ d. arrival_count d.buffer ≡ 0) }
     {
         Ok(Demux {
@@ -79,7 +79,6 @@ impl Demux {
             buffer: ReorderBuffer::new(alloc, wait)?,
             receiver: Receiver::new(alloc, sources)?,
             splitters: new_splitters(alloc, sources, payload_types)?,
-            text: Text::new(),
             out: Packet::new(),
         })
     }
@@ -98,7 +97,6 @@ impl Demux {
                 self.splitters.as_mut_slice(),
                 due,
                 self.buffer.packet(),
-                &mut self.text,
                 &mut self.out,
             )?;
         }
@@ -150,7 +148,6 @@ impl Demux {
             buffer: _,
             receiver: _,
             splitters,
-            text: _,
             out: _,
         } = self;
         Ok(splitters)

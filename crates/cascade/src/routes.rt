@@ -9,7 +9,7 @@ ghost use Rattle.rtt_base.specs.declared.limits.TheConstants.{MOST_TEXT_OCTETS};
 use crate::splitters::SourceRecording;
 use receiver::{Receiver, TextCursor, is_blank};
 use reorder_buffer::Due;
-use rtt_base::{NoMemory, Packet, Text, TextPacket};
+use rtt_base::{NoMemory, Packet, TextPacket};
 
 /// The place of the source among these.
 fn place_of(splitters: &[SourceRecording], source: u32) -> Option<usize>
@@ -36,21 +36,21 @@ fn add_lively(
     splitter.add(ready, text, out)
 }
 
-/// Adds what is left of a packet, text by text, by way of `text` and `out`.
+/// Adds what is left of a packet, text by text, by way of `out`.
 fn add_piece(
     splitter: &mut SourceRecording,
     ready: u64,
     mut piece: TextCursor,
     packet: &TextPacket,
-    text: &mut Text,
     out: &mut Packet,
 ) -> Result<(), NoMemory>
     requires t140 { splitter.old.payload_types.t140 < 2 ^ 7 }
+    requires short { length packet.now.primary ≤ MOST_TEXT_OCTETS }
     ensures adds { OnOk result (AddsTexts splitter.old splitter.new ready (left_of piece packet.now)) }
     ensures payload_types { splitter.new.payload_types ≡ splitter.old.payload_types }
 {
-    while piece.next(packet, text) {
-        add_lively(splitter, ready, text.as_slice(), out)?;
+    while let Some(text) = piece.next(packet) {
+        add_lively(splitter, ready, text, out)?;
     }
     Ok(())
 }
@@ -61,9 +61,9 @@ pub fn divide(
     splitters: &mut [SourceRecording],
     due: Due,
     packet: &TextPacket,
-    text: &mut Text,
     out: &mut Packet,
 ) -> Result<(), NoMemory>
+    requires short { length packet.now.primary ≤ MOST_TEXT_OCTETS }
     requires rises { ForSome (latest_number receiver.old) (λ latest. latest < due.number) }
     requires t140 { All (λ s. s.payload_types.t140 < 2 ^ 7) splitters.old }
     ensures latest { latest_number receiver.new ≡ Some due.number }
@@ -74,5 +74,5 @@ pub fn divide(
     let Some(place) = place_of(splitters, packet.source) else {
         return Ok(());
     };
-    add_piece(&mut splitters[place], due.ready, piece, packet, text, out)
+    add_piece(&mut splitters[place], due.ready, piece, packet, out)
 }

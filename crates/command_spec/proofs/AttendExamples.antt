@@ -7,8 +7,8 @@ use Rattle.std.specs.Str.{is_utf8, chars}
 use Rattle.std.specs.Char.{encode_utf8}
 use Rattle.wire_spec.specs.SentPackets.{packet_written}
 use Rattle.wire_spec.specs.Rtp.{rtp, rtp_of_header}
-use Rattle.wire_spec.specs.Red.{headers_at, texts_at, red}
-use Rattle.wire_spec.specs.Text.{text_of_short, text_of}
+use Rattle.wire_spec.specs.Red.{headers_at, red, red_within, texts_at, texts_within}
+use Rattle.wire_spec.specs.Text.{short_within, text_of, text_of_short, text_within}
 use Rattle.wire_spec.specs.Dump.{opening, dump_opening, dump_step, records_within, records, record_written, dump, dump_written}
 use Rattle.stream_spec.specs.History.{placed}
 use Rattle.stream_spec.specs.Own.{Stream, Sent, sent_history, own_packet}
@@ -68,11 +68,11 @@ view name other lines came =
 -- Ann is called by the name that her description has
 sdes_name : outcome (lying legs (with_first names_ann (packets_of (typist 1001) of_ann)) by_bob) (attending (codes "c.txt"))
     ≡ Done (view (codes "Ann_Lee") (codes "Bob") (codes "Hi Ann" ∷ []) 3 ++ (view (codes "Bob") (codes "Ann_Lee") (codes "Hey" ∷ [] ∷ []) 5 ++ [])) (files to_ann to_bob)
-unfolding said_by rtcp packets_within packet_read body_at chunks chunk_at items_within entries entries_at entries_within entry time_or_other stay_or_plan leg_of mixer_of plan_of is_utf8 chars encode_utf8 text_of text_of_short rtp rtp_of_header red headers_at texts_at dump records records_within dump_step opening shown class_of
+unfolding said_by rtcp packets_within packet_read body_at chunks chunk_at items_within entries entries_at entries_within entry time_or_other stay_or_plan leg_of mixer_of plan_of is_utf8 chars encode_utf8 text_within short_within rtp rtp_of_header red_within headers_at texts_within dump records records_within dump_step opening shown class_of
 sdes_name = refl
 
 -- Ann left: what she sent later is not heard, and she is sent nothing
 bye : outcome (lying (legs ++ codes "wait 0\n") (with_second ann_leaves (packets_of (typist 1001) of_ann)) by_bob) (attending (codes "c.txt"))
     ≡ Done (view (codes "Ann") (codes "Bob") ([] ∷ []) 0 ++ (view (codes "Bob") (codes "Ann") (codes "H" ∷ []) 3 ++ [])) (files [] letter_to_bob)
-unfolding said_by rtcp packets_within packet_read body_at chunks chunk_at items_within entries entries_at entries_within entry time_or_other stay_or_plan leg_of mixer_of plan_of is_utf8 chars encode_utf8 text_of text_of_short rtp rtp_of_header red headers_at texts_at dump records records_within dump_step opening shown class_of
+unfolding said_by rtcp packets_within packet_read body_at chunks chunk_at items_within entries entries_at entries_within entry time_or_other stay_or_plan leg_of mixer_of plan_of is_utf8 chars encode_utf8 text_within short_within rtp rtp_of_header red_within headers_at texts_within dump records records_within dump_step opening shown class_of
 bye = refl

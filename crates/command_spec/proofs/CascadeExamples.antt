@@ -5,8 +5,8 @@ use Rattle.std.specs.Prelude.{codes, bytes_eq}
 use Rattle.std.specs.Str.{is_utf8, chars}
 use Rattle.std.specs.Char.{encode_utf8}
 use Rattle.wire_spec.specs.Rtp.{rtp, rtp_of_header}
-use Rattle.wire_spec.specs.Red.{headers_at, texts_at, red}
-use Rattle.wire_spec.specs.Text.{text_of_short, text_of}
+use Rattle.wire_spec.specs.Red.{headers_at, red, red_within, texts_at, texts_within}
+use Rattle.wire_spec.specs.Text.{short_within, text_of, text_of_short, text_within}
 use Rattle.wire_spec.specs.Dump.{opening, dump_step, records_within, records, dump, dump_written}
 use Rattle.wire_spec.specs.declared.faults.DumpKind.TheVariants.{NotDump}
 use Rattle.file_spec.specs.declared.conference_lines.Form.TheVariants.{Files}
@@ -52,7 +52,7 @@ view name other shows came =
 -- Cy reads what Ann typed, as Bob does.
 trunk : prints (comes (lying (dump_written to_bob) (dump_written [])) (conference_from Files legs))
     ≡ Some (view (codes "Ann") (codes "Cy") ([] ∷ []) 0 ++ (view (codes "Cy") (codes "Ann") (codes "Hey" ∷ [] ∷ []) 5 ++ []))
-unfolding split entry time_or_other stay_or_plan leg_of mixer_of plan_of is_utf8 chars encode_utf8 text_of text_of_short rtp rtp_of_header red headers_at texts_at dump records records_within dump_step opening shown class_of
+unfolding split entry time_or_other stay_or_plan leg_of mixer_of plan_of is_utf8 chars encode_utf8 text_within short_within rtp rtp_of_header red_within headers_at texts_within dump records records_within dump_step opening shown class_of
 trunk = refl
 
 -- the recording without its second packet
@@ -63,7 +63,7 @@ without_second _ = []
 -- What that packet had comes with the third, and nothing is lost: the last two texts go on together, in a packet that is sent thrice.
 trunk_loss : prints (comes (lying (dump_written (without_second to_bob)) (dump_written [])) (conference_from Files legs))
     ≡ Some (view (codes "Ann") (codes "Cy") ([] ∷ []) 0 ++ (view (codes "Cy") (codes "Ann") (codes "Hey" ∷ [] ∷ []) 6 ++ []))
-unfolding split entry time_or_other stay_or_plan leg_of mixer_of plan_of is_utf8 chars encode_utf8 text_of text_of_short rtp rtp_of_header red headers_at texts_at dump records records_within dump_step opening shown class_of
+unfolding split entry time_or_other stay_or_plan leg_of mixer_of plan_of is_utf8 chars encode_utf8 text_within short_within rtp rtp_of_header red_within headers_at texts_within dump records records_within dump_step opening shown class_of
 trunk_loss = refl
 
 -- ---- what is refused

@@ -6,7 +6,7 @@ use Rattle.std.proofs.lemmas.Bool.{true≢false, eq-eqb, eqb-true, and_parts}
 use Rattle.std.proofs.lemmas.List.Elements.{All-nil, All-cons, All-head, All-tail}
 use Rattle.rtt_base.specs.declared.text_packets.PayloadTypes.{PayloadTypes}
 use Rattle.wire_spec.specs.Packets.{Arrival}
-use Rattle.wire_spec.specs.Dump.{arrivals_after, dump}
+use Rattle.wire_spec.specs.Dump.{arrivals_after, arrivals_within, dump}
 use Rattle.wire_spec.specs.Dump as dumps
 use Rattle.stream_spec.specs.Carries.{Groups}
 use Rattle.stream_spec.specs.Hearing.{heard}
@@ -18,6 +18,7 @@ use Rattle.file_spec.specs.declared.conference_lines.Form.TheVariants.{Files}
 use Rattle.file_spec.specs.declared.conference_lines.LegLine.{LegLine}
 use Rattle.file_spec.specs.Conference.{Conference, conference_from, usual_types}
 use Rattle.file_spec.specs.Lines as lines
+use Rattle.file_spec.specs.Primaries.{primary_limit}
 use Rattle.mixer_spec.specs.Setups.{leg_at, setup, ssrc_of}
 use Rattle.mixer_spec.specs.Table.{Table}
 use Rattle.mixer_spec.specs.Plain.{plain}
@@ -131,17 +132,17 @@ types_are leg on same =
 
 behind_of : (held : Contents) (ssrc : ℕ) (octets : List ℕ) (b : Bridge) (i : ℕ) (leg : LegLine)
     → AllZip (IsTextOf held (split_of (trunk_of b.conference ssrc) octets)) b.conference.legs b.inputs → All (λ (l : LegLine). l.ssrc < 2 ^ 32) b.conference.legs
-    → leg_at b.conference.legs i ≡ Some leg → is_on_trunk leg ≡ true → has_other_types leg ≡ false
+    → leg_at b.conference.legs i ≡ Some leg → is_on_trunk leg ≡ true → has_other_types leg ≡ false → leg.long ≡ false
     → length (split_of (trunk_of b.conference ssrc) octets leg.ssrc) ≤ input_limit b.conference
     → IsPlan b.conference.plan → ((j : ℕ) → IsPair (setup_of b) j i → IsHeard b j i)
     → IsHeardBehind (trunk_of b.conference ssrc) octets b i leg.ssrc
-behind_of held ssrc octets b i leg lie fit at on same few plan heard_at = record {
+behind_of held ssrc octets b i leg lie fit at on same brief few plan heard_at = record {
   same = is_same;
   kept_of = λ h law come.
       groups_say (heard_of b i) (map (λ c. c.text) (chunks_of b.conference.wait past leg.ssrc)) is_same
       ∙ ap concat (chunk_texts b.conference.wait 0 (still past) leg.ssrc ∙ l1 b.conference.wait (still_history h) (lawful_still h law) (still past) (come_still h past come) leg.ssrc);
-  headline = λ none j pair h law come. headline_behind (trunk_of b.conference ssrc) octets b j i leg.ssrc none (heard_at j pair) plan (λ k. is_recorded) h law come;
-  headline_all = λ none stay j pair h law come. headline_all_behind (trunk_of b.conference ssrc) octets b j i leg.ssrc none (heard_at j pair) plan (λ k. is_recorded) stay h law come;
+  headline = λ none short j pair h law come. headline_behind (trunk_of b.conference ssrc) octets b j i leg.ssrc none short (heard_at j pair) plan (λ k. is_recorded) h law come;
+  headline_all = λ none short stay j pair h law come. headline_all_behind (trunk_of b.conference ssrc) octets b j i leg.ssrc none short (heard_at j pair) plan (λ k. is_recorded) stay h law come;
 }
   where
     past : List Arrival
@@ -156,9 +157,10 @@ behind_of held ssrc octets b i leg lie fit at on same few plan heard_at = record
     heard_is : heard_of b i ≡ mixed_in usual_types leg.ssrc (input_limit b.conference) b.conference.wait text
     heard_is =
         ap (λ o. heard b.conference.wait (still (leg_arrivals (input_limit b.conference) o (input_at b.inputs i))) (ssrc_of o)) at
+        ∙ (ap (λ (most : ℕ). heard b.conference.wait (still (arrivals_within most leg.ssrc leg.payload_types [] (dump (input_limit b.conference) (input_at b.inputs i)).items)) leg.ssrc) (ap primary_limit brief)
         ∙ (ap (λ (p : PayloadTypes). heard b.conference.wait (still (arrivals_after leg.ssrc p [] (dump (input_limit b.conference) (input_at b.inputs i)).items)) leg.ssrc) (types_are leg on same)
         ∙ ap (mixed_in usual_types leg.ssrc (input_limit b.conference) b.conference.wait)
-        ((text_at held (split_of (trunk_of b.conference ssrc) octets) b.conference.legs b.inputs i leg lie at).on_trunk on))
+        ((text_at held (split_of (trunk_of b.conference ssrc) octets) b.conference.legs b.inputs i leg lie at).on_trunk on)))
 
     is_same : Groups (heard_of b i) (map (λ c. c.text) (chunks_of b.conference.wait (came_of (trunk_of b.conference ssrc) octets) leg.ssrc)) []
     is_same = subst (λ ts. Groups ts (map (λ c. c.text) (chunks_of b.conference.wait (came_of (trunk_of b.conference ssrc) octets) leg.ssrc)) []) (sym heard_is)
@@ -197,7 +199,7 @@ cascaded held after conference file ssrc printed files e stored =
           octets = octets;
           cascaded = record { read = (described, there, read); lies = h; recorded = none; texts_lie = lie; whole = whole; over = p };
           seen = is_seen;
-          behind = λ i leg at on. behind_of held ssrc octets b i leg lie (ssrcs_fit Files described c read).legs at on (not_odd c.legs i leg even at) (input_fits c ssrc octets leg.ssrc)
+          behind = λ i leg at on brief. behind_of held ssrc octets b i leg lie (ssrcs_fit Files described c read).legs at on (not_odd c.legs i leg even at) brief (input_fits c ssrc octets leg.ssrc)
               (plan_law c (accepted_law Files described c read).0) (λ j pair. is_seen.heard j i pair);
         }
 

@@ -5,8 +5,8 @@ use Rattle.rtt_base.specs.declared.text_packets.PayloadTypes.{PayloadTypes}
 use Rattle.std.specs.Str.{is_utf8, chars}
 use Rattle.std.specs.Char.{encode_utf8}
 use Rattle.wire_spec.specs.Rtp.{rtp, rtp_of_header}
-use Rattle.wire_spec.specs.Red.{headers_at, texts_at, red}
-use Rattle.wire_spec.specs.Text.{text_of_short, text_of}
+use Rattle.wire_spec.specs.Red.{headers_at, red, red_within, texts_at, texts_within}
+use Rattle.wire_spec.specs.Text.{short_within, text_of, text_of_short, text_within}
 use Rattle.wire_spec.specs.Dump.{opening, dump_step, records_within, records, dump, dump_written}
 use Rattle.command_spec.specs.Splitting.{Trunk, split, splits}
 
@@ -35,7 +35,7 @@ whole : splits trunk (1001 ∷ 2001 ∷ []) (dump_written (first ∷ second ∷ 
     (300, 0x80 ∷ 0x62 ∷ 0x00 ∷ 0x01 ∷ 0x00 ∷ 0x00 ∷ 0x01 ∷ 0x2C ∷ 0x00 ∷ 0x00 ∷ 0x03 ∷ 0xE9 ∷ 0x65 ∷ []) ∷
     (600, 0x80 ∷ 0x62 ∷ 0x00 ∷ 0x02 ∷ 0x00 ∷ 0x00 ∷ 0x02 ∷ 0x58 ∷ 0x00 ∷ 0x00 ∷ 0x03 ∷ 0xE9 ∷ 0x79 ∷ 0xE2 ∷ 0x80 ∷ 0xA8 ∷ []) ∷ [])
     ∷ dump_written [] ∷ []
-unfolding split is_utf8 chars encode_utf8 text_of text_of_short rtp rtp_of_header red headers_at texts_at dump records records_within dump_step opening
+unfolding split is_utf8 chars encode_utf8 text_within short_within rtp rtp_of_header red_within headers_at texts_within dump records records_within dump_step opening
 whole = refl
 
 -- Where the second packet is lost, its text and the next are ready together, when its number is given up: one packet.
@@ -44,5 +44,5 @@ one_lost : splits trunk (1001 ∷ []) (dump_written (first ∷ others))
     (0, 0x80 ∷ 0x62 ∷ 0x00 ∷ 0x00 ∷ 0x00 ∷ 0x00 ∷ 0x00 ∷ 0x00 ∷ 0x00 ∷ 0x00 ∷ 0x03 ∷ 0xE9 ∷ 0x48 ∷ []) ∷
     (1600, 0x80 ∷ 0x62 ∷ 0x00 ∷ 0x01 ∷ 0x00 ∷ 0x00 ∷ 0x06 ∷ 0x40 ∷ 0x00 ∷ 0x00 ∷ 0x03 ∷ 0xE9 ∷ 0x65 ∷ 0x79 ∷ 0xE2 ∷ 0x80 ∷ 0xA8 ∷ []) ∷ [])
     ∷ []
-unfolding split is_utf8 chars encode_utf8 text_of text_of_short rtp rtp_of_header red headers_at texts_at dump records records_within dump_step opening
+unfolding split is_utf8 chars encode_utf8 text_within short_within rtp rtp_of_header red_within headers_at texts_within dump records records_within dump_step opening
 one_lost = refl

@@ -4,9 +4,9 @@ use Rattle.std.specs.Prelude.{codes, ◌+◌, ◌-◌, ◌*◌, nat_lt, take, if
 use Rattle.std.specs.Str.{chars, is_utf8}
 use Rattle.std.specs.Char.{encode_utf8}
 use Rattle.wire_spec.specs.Dump.{dump_opening, dump, opening, dump_step, records_within, records, arrivals}
-use Rattle.wire_spec.specs.Text.{text_of, text_of_short}
+use Rattle.wire_spec.specs.Text.{short_within, text_of, text_of_short, text_within}
 use Rattle.wire_spec.specs.Rtp.{rtp, rtp_of_header}
-use Rattle.wire_spec.specs.Red.{red, headers_at, texts_at}
+use Rattle.wire_spec.specs.Red.{headers_at, red, red_within, texts_at, texts_within}
 use Rattle.file_spec.specs.declared.frame_kinds.FrameKind.TheVariants.{EndsInside, Length}
 use Rattle.file_spec.specs.Frames.{frame_step, reading_from, reading_within}
 use Rattle.command_spec.specs.Usual.{usual_payload_types}
@@ -62,5 +62,5 @@ no_text_is_refused s = refl
 
 -- the recording has the letters back, each at the moment of its packet
 letters_are_back : channel 1001 (dump_opening ++ letters) ≡ Ok frames
-unfolding frames letters hex digit dump opening dump_step records_within records arrivals text_of text_of_short rtp rtp_of_header red headers_at texts_at is_utf8 chars encode_utf8
+unfolding frames letters hex digit dump opening dump_step records_within records arrivals text_within short_within rtp rtp_of_header red_within headers_at texts_within is_utf8 chars encode_utf8
 letters_are_back = refl

@@ -9,8 +9,8 @@ use Rattle.std.specs.Char.{encode_utf8}
 use Rattle.rtt_base.specs.declared.text_packets.PayloadTypes.{PayloadTypes}
 use Rattle.wire_spec.specs.SentPackets.{packet_written}
 use Rattle.wire_spec.specs.Rtp.{rtp, rtp_of_header}
-use Rattle.wire_spec.specs.Red.{headers_at, texts_at, red}
-use Rattle.wire_spec.specs.Text.{text_of_short, text_of}
+use Rattle.wire_spec.specs.Red.{headers_at, red, red_within, texts_at, texts_within}
+use Rattle.wire_spec.specs.Text.{short_within, text_of, text_of_short, text_within}
 use Rattle.wire_spec.specs.Dump.{opening, dump_step, records_within, records, dump, dump_written}
 use Rattle.wire_spec.specs.declared.faults.DumpKind.TheVariants.{NotDump}
 use Rattle.stream_spec.specs.History.{placed}
@@ -92,12 +92,12 @@ printed =
 
 -- seventeen turns are enough
 call_of_two : outcome (lying (legs ++ codes "turns 17\n") by_ann by_bob) (mixing (codes "c.txt")) ≡ Done printed files
-unfolding entry time_or_other stay_or_plan leg_of mixer_of plan_of is_utf8 chars encode_utf8 text_of text_of_short rtp rtp_of_header red headers_at texts_at dump records records_within dump_step opening shown class_of
+unfolding entry time_or_other stay_or_plan leg_of mixer_of plan_of is_utf8 chars encode_utf8 text_within short_within rtp rtp_of_header red_within headers_at texts_within dump records records_within dump_step opening shown class_of
 call_of_two = refl
 
 -- sixteen are not
 turns_limit : outcome (lying (legs ++ codes "turns 16\n") by_ann by_bob) (mixing (codes "c.txt")) ≡ Refused 0 (AfterTurns 16)
-unfolding entry time_or_other stay_or_plan leg_of mixer_of plan_of is_utf8 chars encode_utf8 text_of text_of_short rtp rtp_of_header red headers_at texts_at dump records records_within dump_step opening
+unfolding entry time_or_other stay_or_plan leg_of mixer_of plan_of is_utf8 chars encode_utf8 text_within short_within rtp rtp_of_header red_within headers_at texts_within dump records records_within dump_step opening
 turns_limit = refl
 
 -- ---- Bob is sent each text once, and the second of his packets is lost: a marker stands there
@@ -110,7 +110,7 @@ once_to_bob =
 one_lost : outcome (lying (legs ++ codes "gens Bob 0\nlose Bob 1\n") by_ann by_bob) (mixing (codes "c.txt"))
     ≡ Done (view (codes "Ann") (codes "Bob") (codes "Hi Ann" ∷ []) 3 ++ (view (codes "Bob") (codes "Ann") ((codes "H" ++ 239 ∷ 191 ∷ 189 ∷ codes "y") ∷ [] ∷ []) 2 ++ []))
     (record { name = codes "ann.out"; octets = dump_written to_ann } ∷ record { name = codes "bob.out"; octets = dump_written once_to_bob } ∷ [])
-unfolding entry time_or_other stay_or_plan leg_of mixer_of plan_of line.generations_of is_utf8 chars encode_utf8 text_of text_of_short rtp rtp_of_header red headers_at texts_at dump records records_within dump_step opening shown class_of
+unfolding entry time_or_other stay_or_plan leg_of mixer_of plan_of line.generations_of is_utf8 chars encode_utf8 text_within short_within rtp rtp_of_header red_within headers_at texts_within dump records records_within dump_step opening shown class_of
 one_lost = refl
 
 -- ---- what is refused

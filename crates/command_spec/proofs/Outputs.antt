@@ -3,12 +3,13 @@ use Rattle.std.proofs.Common.{◌≡◌, ℕ, zero, suc, ◌+◌, ◌*◌, ◌�
 use Rattle.std.specs.Prelude.{map, not, ◌&&◌, ◌||◌, ◌==◌, nat_lt, unwrap_or, IsSome, if◌then◌else◌}
 use Rattle.std.specs.List.{enumerate_from}
 use Rattle.wire_spec.specs.Packets.{Arrival}
-use Rattle.wire_spec.specs.Dump.{opening, dump, dump_written, arrivals_after, usual_limit}
+use Rattle.wire_spec.specs.Dump.{opening, dump, dump_written, arrivals_within, usual_limit}
 use Rattle.wire_spec.specs.Dump as dumps
 use Rattle.wire_spec.proofs.Recordings.{read_back}
 use Rattle.file_spec.specs.declared.conference_lines.Form.TheVariants.{Files}
 use Rattle.file_spec.specs.declared.conference_lines.LegLine.{LegLine}
 use Rattle.file_spec.specs.Conference.{Conference, conference_from}
+use Rattle.file_spec.specs.Primaries.{primary_limit}
 use Rattle.stream_spec.specs.Ready.{Chunk, chunks}
 use Rattle.mixer_spec.specs.Chunks.{has_chunk}
 use Rattle.mixer_spec.specs.Rounds.{all_below, set_at}
@@ -105,7 +106,7 @@ at_once s tick (suc n) k d b =
 -- ---- inputs without a packet
 none_arrive : (c : Conference) (o : Option LegLine) (octets : List ℕ) → (dump (input_limit c) octets).items ≡ [] → leg_arrivals (input_limit c) o octets ≡ []
 none_arrive c None octets e = refl
-none_arrive c (Some l) octets e = ap (arrivals_after l.ssrc l.payload_types []) e
+none_arrive c (Some l) octets e = ap (arrivals_within (primary_limit l.long) l.ssrc l.payload_types []) e
 
 none_heard : (c : Conference) (inputs : ℕ → List ℕ) (i : ℕ) → (dump (input_limit c) (inputs i)).items ≡ [] → leg_chunks c inputs i ≡ []
 none_heard c inputs i e = ap (λ (a : List Arrival). in_stay (setup c) i (chunks_cut (cutting_of c) (chunks c.wait i (still a) (ssrc_of (leg_at c.legs i))))) (none_arrive c (leg_at c.legs i) (inputs i) e)

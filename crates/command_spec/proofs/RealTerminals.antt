@@ -4,8 +4,8 @@ use Rattle.std.specs.Prelude.{codes, bytes_eq}
 use Rattle.std.specs.Str.{is_utf8, chars}
 use Rattle.std.specs.Char.{encode_utf8}
 use Rattle.wire_spec.specs.Rtp.{rtp, rtp_of_header}
-use Rattle.wire_spec.specs.Red.{headers_at, texts_at, red}
-use Rattle.wire_spec.specs.Text.{text_of_short, text_of}
+use Rattle.wire_spec.specs.Red.{headers_at, red, red_within, texts_at, texts_within}
+use Rattle.wire_spec.specs.Text.{short_within, text_of, text_of_short, text_within}
 use Rattle.wire_spec.specs.Dump.{opening, dump_step, records_within, records, dump, dump_written}
 use Rattle.file_spec.specs.Conference.{entry, leg_of, mixer_of, plan_of, stay_or_plan, time_or_other}
 use Rattle.view_spec.specs.Characters.{class_of}
@@ -61,7 +61,7 @@ idle_between :
     seen (recorded (typist 1001) (text 1001 2600 [] ∷ text 1001 2300 [] ∷ text 1001 2000 (codes "Bye. ") ∷ text 1001 600 [] ∷ text 1001 300 [] ∷ text 1001 0 (codes "Hi. ") ∷ []))
     (recorded (typist 1002) (text 1002 2700 keep_alive ∷ text 1002 1800 keep_alive ∷ text 1002 900 keep_alive ∷ text 1002 0 keep_alive ∷ []))
     ≡ views silent 0 (display (codes "Hi. Bye. " ∷ []) 0) 6 (display (codes "[Ann] Hi. Bye. " ∷ []) 0) 6
-unfolding entry time_or_other stay_or_plan leg_of mixer_of plan_of is_utf8 chars encode_utf8 text_of text_of_short rtp rtp_of_header red headers_at texts_at dump records records_within dump_step opening shown class_of ends_line ends_sentence label label_after
+unfolding entry time_or_other stay_or_plan leg_of mixer_of plan_of is_utf8 chars encode_utf8 text_within short_within rtp rtp_of_header red_within headers_at texts_within dump records records_within dump_step opening shown class_of ends_line ends_sentence label label_after
 idle_between = refl
 
 -- ---- enter-first
@@ -77,7 +77,7 @@ once ssrc media octets = recorded (typist ssrc) (text ssrc (media + 600) [] ∷ 
 enter_first :
     seen (once 1001 0 (codes "Hello. ")) (once 1002 0 (break ++ codes "Hi"))
     ≡ views (display ([] ∷ codes "Hi" ∷ []) 0) 3 (display (codes "Hello. " ∷ []) 0) 3 (display (codes "[Ann] Hello. " ∷ codes "[Bob] Hi" ∷ []) 0) 4
-unfolding entry time_or_other stay_or_plan leg_of mixer_of plan_of is_utf8 chars encode_utf8 text_of text_of_short rtp rtp_of_header red headers_at texts_at dump records records_within dump_step opening shown class_of ends_line ends_sentence label label_after
+unfolding entry time_or_other stay_or_plan leg_of mixer_of plan_of is_utf8 chars encode_utf8 text_within short_within rtp rtp_of_header red_within headers_at texts_within dump records records_within dump_step opening shown class_of ends_line ends_sentence label label_after
 enter_first = refl
 
 -- ---- forged
@@ -85,7 +85,7 @@ enter_first = refl
 forged :
     seen (once 1001 0 (codes "Hello." ++ break ++ codes "[Bob] I owe you. ")) (dump_written [])
     ≡ views silent 0 (display (codes "Hello." ∷ codes "[Bob] I owe you. " ∷ []) 0) 3 (display (codes "[Ann] Hello." ∷ codes "(Bob) I owe you. " ∷ []) 0) 3
-unfolding entry time_or_other stay_or_plan leg_of mixer_of plan_of is_utf8 chars encode_utf8 text_of text_of_short rtp rtp_of_header red headers_at texts_at dump records records_within dump_step opening shown class_of ends_line ends_sentence label label_after
+unfolding entry time_or_other stay_or_plan leg_of mixer_of plan_of is_utf8 chars encode_utf8 text_within short_within rtp rtp_of_header red_within headers_at texts_within dump records records_within dump_step opening shown class_of ends_line ends_sentence label label_after
 forged = refl
 
 -- ---- bell-alone
@@ -93,5 +93,5 @@ forged = refl
 bell_alone :
     seen (once 1001 0 (7 ∷ [])) (once 1002 300 (codes "Hi"))
     ≡ views (display (codes "Hi" ∷ []) 0) 3 (display ([] ∷ []) 1) 3 (display (codes "[Bob] Hi" ∷ []) 1) 6
-unfolding entry time_or_other stay_or_plan leg_of mixer_of plan_of is_utf8 chars encode_utf8 text_of text_of_short rtp rtp_of_header red headers_at texts_at dump records records_within dump_step opening shown class_of ends_line ends_sentence label label_after
+unfolding entry time_or_other stay_or_plan leg_of mixer_of plan_of is_utf8 chars encode_utf8 text_within short_within rtp rtp_of_header red_within headers_at texts_within dump records records_within dump_step opening shown class_of ends_line ends_sentence label label_after
 bell_alone = refl

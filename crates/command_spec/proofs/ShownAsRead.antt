@@ -13,8 +13,8 @@ use Rattle.wire_spec.specs.declared.faults.RedFault.TheVariants as red_faults
 use Rattle.wire_spec.specs.Faults.{header_fault, blocks_fault}
 use Rattle.wire_spec.specs.Packets.{Packet, Arrival}
 use Rattle.wire_spec.specs.Rtp.{Reading, rtp}
-use Rattle.wire_spec.specs.Red.{red, texts_at, headers_at}
-use Rattle.wire_spec.specs.Text.{text_of, text_of_short, refused_as, accepted, text_packet}
+use Rattle.wire_spec.specs.Red.{headers_at, red, red_within, texts_at}
+use Rattle.wire_spec.specs.Text.{accepted, refused_as, short_within, text_of, text_of_short, text_packet, text_within}
 use Rattle.wire_spec.specs.Dump.{Item, What, Whole, arrived, arrivals_with, arrivals_after}
 use Rattle.wire_spec.specs.Dump as dumps
 use Rattle.command_spec.proofs.HeaderTypes.{header_read, type_read}
@@ -40,7 +40,7 @@ abbrev IsOther : PayloadTypes → ℕ → Type 0
 IsOther payload_types pt = ((pt == payload_types.t140) ≡ false) × ((pt == payload_types.red) ≡ false)
 
 other_type : (payload : List ℕ) (pt : ℕ) (payload_types : PayloadTypes) → IsOther payload_types pt → red payload pt payload_types ≡ Err red_faults.WrongType
-unfolding red
+unfolding red_within
 other_type payload pt payload_types o = ap (λ b. cond b (texts_at [] payload) (cond (pt == payload_types.red) (headers_at 8 payload_types.t140 payload >>= λ hs. texts_at hs.headers hs.texts) (Err red_faults.WrongType))) o.0
     ∙ ap (λ b. cond b (headers_at 8 payload_types.t140 payload >>= λ hs. texts_at hs.headers hs.texts) (Err red_faults.WrongType)) o.1
 
@@ -65,7 +65,7 @@ module _ (ssrc : ℕ) (payload_types : PayloadTypes) (t140 : is_dynamic payload_
   IsRefused r = (fault : TextFault) × (r ≡ Err fault)
 
   refused_short : (octets : List ℕ) → is_name ssrc (stream_of payload_types (sort_of_what (Whole octets))) ≡ false → IsRefused (text_of_short octets (Some ssrc) payload_types)
-  unfolding text_of_short
+  unfolding short_within
   refused_short octets n = by_header (rtp octets) refl
     where
       blocks_of : Reading → Result Packet TextFault
@@ -81,7 +81,7 @@ module _ (ssrc : ℕ) (payload_types : PayloadTypes) (t140 : is_dynamic payload_
       by_header (Ok h) e = by_ssrc h e (h.ssrc == ssrc) (nat_lt 1 h.cc) refl
 
   refused : (octets : List ℕ) → is_name ssrc (stream_of payload_types (sort_of_what (Whole octets))) ≡ false → IsRefused (text_of octets (Some ssrc) payload_types)
-  unfolding text_of
+  unfolding text_within
   refused octets n = go (nat_lt MOST_PACKET_OCTETS (length octets))
     where
       go : (b : Bool) → IsRefused (cond b (Err Long) (text_of_short octets (Some ssrc) payload_types))

@@ -16,8 +16,8 @@ use Rattle.wire_spec.specs.declared.headers.RedHeader.{RedHeader}
 use Rattle.wire_spec.specs.Faults.{header_fault, blocks_fault}
 use Rattle.wire_spec.specs.Packets.{Packet, Arrival, primary_text, redundant}
 use Rattle.wire_spec.specs.Rtp.{Reading, past, past_extension, rtp, rtp_of_header, unpadded}
-use Rattle.wire_spec.specs.Red.{Headers, and_others, blocks_at, all_utf8, header_at, headers_at, older_size, red, texts_at, with_header}
-use Rattle.wire_spec.specs.Text.{accepted, is_asked, refused_as, text_of, text_of_short, text_packet}
+use Rattle.wire_spec.specs.Red.{Headers, all_utf8, and_others, blocks_at, header_at, headers_at, older_size, red, red_within, texts_at, texts_within, with_header}
+use Rattle.wire_spec.specs.Text.{accepted, is_asked, refused_as, short_within, text_of, text_of_short, text_packet, text_within}
 use Rattle.wire_spec.specs.declared.faults.DumpKind.TheVariants.{BadLength, EndsInside, TooLong, TooLarge}
 use Rattle.wire_spec.specs.Dump.{Fault, Item, Place, Step, End, Broken, Next, What, Whole, Rtcp, Cut as Part, Large, after_line, arrived, arrivals_after, arrivals_with, dump, dump_from, dump_step, item_of, opening, packet_size_of, past_head, past_line, records, records_by, records_within, size_of, step_or, time_of, what_of}
 use Rattle.stream_spec.specs.Numbering.{Numbered, by_number, first_number, has_number, in_time, numbered, used}
@@ -141,7 +141,7 @@ blocks_size (h ∷ hs) octets =
     omega (arith, t, d, rest)
 
 texts_size : (hs : List RedHeader) (octets : List ℕ) (blocks : List TextBlock) → texts_at hs octets ≡ Ok blocks → all_size blocks ≤ length octets
-unfolding texts_at
+unfolding texts_within
 texts_size hs octets blocks e = go (nat_lt (length octets) (older_size hs)) (nat_lt (older_size hs + MOST_TEXT_OCTETS) (length octets)) (all_utf8 (blocks_at hs octets)) e
   where
     go : (a b u : Bool) → cond a (Err Cut) (cond b (Err Long) (cond u (Ok (blocks_at hs octets)) (Err NotText))) ≡ Ok blocks → all_size blocks ≤ length octets
@@ -173,7 +173,7 @@ headers_less (suc room) t140 octets hs e =
     others_less octets (headers_at room t140 (drop 4 octets)) r.0 hs (length octets) (omega arith) (λ x q. let k = headers_less room t140 (drop 4 octets) x q in omega (arith, k, d)) r.2
 
 red_size : (octets : List ℕ) (pt : ℕ) (payload_types : PayloadTypes) (blocks : List TextBlock) → red octets pt payload_types ≡ Ok blocks → all_size blocks ≤ length octets
-unfolding red
+unfolding red_within
 red_size octets pt payload_types blocks e = go (pt == payload_types.t140) (pt == payload_types.red) e
   where
     go : (a b : Bool) → cond a (texts_at [] octets) (cond b (headers_at 8 payload_types.t140 octets >>= λ hs. texts_at hs.headers hs.texts) (Err WrongType)) ≡ Ok blocks → all_size blocks ≤ length octets
@@ -199,7 +199,7 @@ accepted_same asked a b e = go (is_asked asked a.ssrc) (nat_lt 1 a.cc) e
     go false y e = absurd (cc e)
 
 text_less : (octets : List ℕ) (asked : Option ℕ) (payload_types : PayloadTypes) (p : Packet) → text_of octets asked payload_types ≡ Ok p → 12 + text_size p ≤ length octets
-unfolding text_of text_of_short
+unfolding text_within short_within
 text_less octets asked payload_types p e = go (nat_lt MOST_PACKET_OCTETS (length octets)) e
   where
     short : (refused_as header_fault (rtp octets) >>= λ reading. accepted asked reading >>= λ r. refused_as blocks_fault (red r.payload r.pt payload_types) >>= λ blocks. Ok (text_packet r blocks)) ≡ Ok p → 12 + text_size p ≤ length octets

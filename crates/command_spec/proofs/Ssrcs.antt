@@ -13,7 +13,7 @@ use Rattle.rtt_base.specs.Steps.{◌>>=◌}
 use Rattle.file_spec.specs.Steps.{unless}
 use Rattle.file_spec.specs.Lines.{Line}
 use Rattle.file_spec.specs.Numbers.{number, most_ssrc, payload_types}
-use Rattle.file_spec.specs.Conference.{Above, Conference, Entry, Leg, Generations, Stays, Tick, Spacing, Wait, Turns, Relabel, Mtu, Mixer, Plan, Follows, Serves, nothing, with_entry, change_leg, with_generations, with_follow, with_stay, mixer, mixer_of, clashes, most_legs, new_leg, usual_types, leg_of, leg, and_line, conference_from}
+use Rattle.file_spec.specs.Conference.{Above, Conference, Entry, Leg, Generations, Stays, Tick, Spacing, Wait, Turns, Relabel, Mtu, Mixer, Plan, Follows, Longs, Serves, nothing, with_entry, change_leg, with_generations, with_follow, with_long, with_stay, mixer, mixer_of, clashes, most_legs, new_leg, usual_types, leg_of, leg, and_line, conference_from}
 use Rattle.rtt_base.proofs.Steps.{bind_ok}
 use Rattle.file_spec.proofs.Passed.{unless_ok, ok_or_ok, number_most}
 use Rattle.file_spec.proofs.EachLine.{HoldsOf, entry_holds, line_adds, lines_of, completed, leg_read, mixer_read}
@@ -40,6 +40,7 @@ Fits (Relabel n) = Unit {0}
 Fits (Mtu n) = Unit {0}
 Fits (Plan p) = Unit {0}
 Fits (Follows k) = Unit {0}
+Fits (Longs k) = Unit {0}
 Fits (Serves s) = Unit {0}
 
 changed : (change : LegLine → LegLine) → ((l : LegLine) → (change l).ssrc ≡ l.ssrc) → (k : ℕ) (legs : List LegLine) → All (λ l. l.ssrc < 2 ^ 32) legs → All (λ l. l.ssrc < 2 ^ 32) (change_leg change k legs)
@@ -68,6 +69,7 @@ more above (Mtu m) f n = record { legs_fit = f.legs_fit; mixer_fits = f.mixer_fi
 more above (Mixer x) f n = record { legs_fit = f.legs_fit; mixer_fits = λ m e. subst (λ (y : MixerLine). y.ssrc < 2 ^ 32) (some_same x m e) n }
 more above (Plan p) f n = record { legs_fit = f.legs_fit; mixer_fits = f.mixer_fits }
 more above (Follows k) f n = record { legs_fit = changed with_follow (λ l. refl) k above.legs f.legs_fit; mixer_fits = f.mixer_fits }
+more above (Longs k) f n = record { legs_fit = changed with_long (λ l. refl) k above.legs f.legs_fit; mixer_fits = f.mixer_fits }
 more above (Serves s) f n = record { legs_fit = f.legs_fit; mixer_fits = f.mixer_fits }
 
 -- ---- legs and the mixer
@@ -123,6 +125,7 @@ entry_fits form above n = record {
   each_mtu = λ ws x e. tt;
   each_follow = λ q ws x e. tt;
   each_counts = λ ws x e. tt;
+  each_long = λ ws x e. tt;
   each_service = λ q word ws x e. tt;
 }
 

@@ -5,8 +5,8 @@ use Rattle.std.specs.Str.{chars, is_utf8}
 use Rattle.std.specs.Char.{encode_utf8}
 use Rattle.std.specs.Fmt.{digits}
 use Rattle.wire_spec.specs.Rtp.{rtp, rtp_of_header}
-use Rattle.wire_spec.specs.Red.{red, headers_at, texts_at}
-use Rattle.wire_spec.specs.Text.{text_of, text_of_short}
+use Rattle.wire_spec.specs.Red.{headers_at, red, red_within, texts_at, texts_within}
+use Rattle.wire_spec.specs.Text.{short_within, text_of, text_of_short, text_within}
 use Rattle.wire_spec.specs.Dump.{dump, opening, dump_step, records, records_within, dump_written}
 use Rattle.view_spec.specs.Characters.{class_of}
 use Rattle.command_spec.specs.declared.requests.ReadRequest.{ReadRequest}
@@ -24,7 +24,7 @@ two_letters = dump_written (
     (900, 0x80 ∷ 0x64 ∷ 0x00 ∷ 0x03 ∷ 0x00 ∷ 0x00 ∷ 0x03 ∷ 0x84 ∷ 0x00 ∷ 0x00 ∷ 0x03 ∷ 0xE9 ∷ 0xE2 ∷ 0x09 ∷ 0x60 ∷ 0x01 ∷ 0xE2 ∷ 0x04 ∷ 0xB0 ∷ 0x00 ∷ 0x62 ∷ 0x42 ∷ []) ∷ [])
 
 each_when_it_came : transcript_view (asked 1001 1001) two_letters ≡ codes "0 A\n300 B\n"
-unfolding two_letters transcript_view escaped is_utf8 rtp rtp_of_header red headers_at texts_at text_of text_of_short dump opening dump_step records records_within class_of chars encode_utf8 digits
+unfolding two_letters transcript_view escaped is_utf8 rtp rtp_of_header red_within headers_at texts_within text_within short_within dump opening dump_step records records_within class_of chars encode_utf8 digits
 each_when_it_came = refl
 
 -- A mixer sends what Ann types, `H`, `e`, and `y` with a line break, and its second packet is lost.
@@ -37,7 +37,7 @@ one_lost = dump_written (
 
 -- what came behind the gap could be read once the gap was waited for
 late_behind_a_gap : transcript_view (asked 9000 1001) one_lost ≡ codes "0 H\n1600 e\n1600 y\\n\n"
-unfolding one_lost transcript_view escaped is_utf8 rtp rtp_of_header red headers_at texts_at text_of text_of_short dump opening dump_step records records_within class_of chars encode_utf8 digits
+unfolding one_lost transcript_view escaped is_utf8 rtp rtp_of_header red_within headers_at texts_within text_within short_within dump opening dump_step records records_within class_of chars encode_utf8 digits
 late_behind_a_gap = refl
 
 -- ---- the escapes

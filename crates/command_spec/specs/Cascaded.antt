@@ -10,7 +10,7 @@ use Rattle.stream_spec.specs.Still.{still, still_history}
 use Rattle.file_spec.specs.declared.conference_lines.Form.TheVariants.{Files}
 use Rattle.file_spec.specs.declared.conference_lines.LegLine.{LegLine}
 use Rattle.file_spec.specs.Conference.{conference_from}
-use Rattle.mixer_spec.specs.Setups.{AllStay, leg_at, ssrc_of}
+use Rattle.mixer_spec.specs.Setups.{AllStay, is_long, leg_at, ssrc_of}
 use Rattle.mixer_spec.specs.Headline.{Headline, HeadlineAt, Hop, all_sent, hears}
 use Rattle.mixer_spec.specs.Bridged.{IsConferenceMixed, IsPair, IsPart, before_shared, input_limit, shared_texts}
 use Rattle.mixer_spec.specs.Bridged as mixer
@@ -55,12 +55,12 @@ pub record IsHeardBehind (t : Trunk) (octets : List ℕ) (b : Bridge) (i ssrc : 
       → concat (heard_of b i) ≡ concat (texts (kept (still_history h) (places t.wait (still_history h) (still (came_of t octets))) ssrc))
   -- Then, where packets have no limit, the headline holds from the sender of that history to each aware terminal, cut at what the
   -- terminal shares of the leg.
-  pub headline : b.conference.mtu ≡ None → (j : ℕ) → IsPair (setup_of b) j i
+  pub headline : b.conference.mtu ≡ None → is_long (leg_at b.conference.legs i) ≡ false → (j : ℕ) → IsPair (setup_of b) j i
       → (h : History) → Lawful h → Come h (came_of t octets)
       → (cut : IsCutBehind b j i (hears (to_recording t octets ssrc h)))
       × HeadlineAt (to_recording t octets ssrc h) (onward_from b j i) cut.front [] cut.back
   -- Where nobody comes later or goes, it leaves nothing out.
-  pub headline_all : b.conference.mtu ≡ None → AllStay (setup_of b) → (j : ℕ) → IsPair (setup_of b) j i
+  pub headline_all : b.conference.mtu ≡ None → is_long (leg_at b.conference.legs i) ≡ false → AllStay (setup_of b) → (j : ℕ) → IsPair (setup_of b) j i
       → (h : History) → Lawful h → Come h (came_of t octets)
       → Headline (to_recording t octets ssrc h) (onward_from b j i) (all_sent (to_recording t octets ssrc h))
 
@@ -98,8 +98,8 @@ pub record IsCascaded (held after : Contents) (conference file : List ℕ) (ssrc
   pub cascaded : IsCascadedFrom held conference file ssrc octets bridge
   -- The conference is mixed as any is,
   pub seen : IsSeen after printed bridge
-  -- and of a leg behind the other mixer is heard what that heard of its SSRC.
-  pub behind : (i : ℕ) (leg : LegLine) → leg_at bridge.conference.legs i ≡ Some leg → is_on_trunk leg ≡ true
+  -- and of a leg behind the other mixer, not one of long texts, is heard what that heard of its SSRC.
+  pub behind : (i : ℕ) (leg : LegLine) → leg_at bridge.conference.legs i ≡ Some leg → is_on_trunk leg ≡ true → leg.long ≡ false
       → IsHeardBehind (trunk_of bridge.conference ssrc) octets bridge i leg.ssrc
 
 -- Whatever lies in the files, that is what `cascade` makes of them.

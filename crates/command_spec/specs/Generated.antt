@@ -101,6 +101,7 @@ leg i = record {
   generations = USUAL_GENERATIONS;
   stay = whole_stay;
   follow = false;
+  long = false;
 }
 
 -- the mixer's stream begins with 0

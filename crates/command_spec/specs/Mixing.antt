@@ -9,6 +9,7 @@ use Rattle.file_spec.specs.declared.conference_lines.Form.TheVariants.{Files}
 use Rattle.file_spec.specs.declared.conference_lines.LegLine.{LegLine}
 use Rattle.file_spec.specs.Conference.{Conference, conference_from}
 use Rattle.file_spec.specs.Lines as lines
+use Rattle.file_spec.specs.Primaries.{primary_limit}
 use Rattle.mixer_spec.specs.Setups.{setup, stream}
 use Rattle.mixer_spec.specs.Table.{Table, packets}
 use Rattle.mixer_spec.specs.Plain.{plain}
@@ -17,7 +18,7 @@ use Rattle.mixer_spec.specs.Bridged.{input_limit, leg_chunks}
 use Rattle.command_spec.specs.declared.faults.Refusal.TheVariants.{AtByte, AtLine, AfterTurns}
 use Rattle.command_spec.specs.Work.{Made, Steps, Reads, Refuses, Makes, and_prints}
 use Rattle.view_spec.specs.declared.tallies.Tally.{Tally}
-use Rattle.view_spec.specs.Tallies.{tally_at, tally_line}
+use Rattle.view_spec.specs.Tallies.{tally_in, tally_line}
 use Rattle.view_spec.specs.Seen.{Reception, Speaker, aware_seen, unaware_seen}
 
 -- ---- what is sent to a terminal
@@ -92,7 +93,7 @@ hears_of leg = record { ssrc = leg.ssrc; payload_types = leg.payload_types; wait
 
 -- what came of the leg i in its input
 abbrev pub leg_tally : Conference → List (List ℕ) → ℕ → LegLine → Tally
-leg_tally c inputs i leg = tally_at (hears_of leg) (dump (input_limit c) (input_at inputs i)).items
+leg_tally c inputs i leg = tally_in (primary_limit leg.long) (hears_of leg) (dump (input_limit c) (input_at inputs i)).items
 
 -- one line for each leg, in leg order
 abbrev pub counts_lines : Conference → List (List ℕ) → List ℕ

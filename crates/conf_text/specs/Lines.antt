@@ -11,13 +11,13 @@ use Rattle.conf_text.specs.declared.leg_lines.LegWords.{LegWords}
 use Rattle.conf_text.specs.declared.drafts.NewLeg.{NewLeg}
 use Rattle.conf_text.specs.declared.drafts.Draft.{Draft}
 use Rattle.conf_text.specs.declared.drafts.LineEntry.{LineEntry}
-use Rattle.conf_text.specs.declared.drafts.LineEntry.TheVariants.{Leg, Generations, Stays, Tick, Spacing, Wait, Turns, Relabel, Mtu, Mixer, Plan, Follows, Serves}
+use Rattle.conf_text.specs.declared.drafts.LineEntry.TheVariants.{Leg, Generations, Stays, Tick, Spacing, Wait, Turns, Relabel, Mtu, Mixer, Plan, Follows, Longs, Serves}
 
 abbrev pub above_of : Draft → conference.Above
 above_of d = record { legs = d.legs; generations = d.generations.items; stays = d.stays.items; tick = d.tick; spacing = d.spacing; wait = d.wait; turns = d.turns; relabel = d.relabel; mtu = d.mtu; mixer = d.mixer; plan = d.plan; service = d.service }
 
 abbrev pub leg_line : NewLeg → LegLine
-leg_line l = record { line = l.line; name = l.name; aware = l.aware; ssrc = l.ssrc; input = l.input.now; output = l.output.now; payload_types = l.payload_types; generations = USUAL_GENERATIONS; stay = conference.whole_stay; follow = false }
+leg_line l = record { line = l.line; name = l.name; aware = l.aware; ssrc = l.ssrc; input = l.input.now; output = l.output.now; payload_types = l.payload_types; generations = USUAL_GENERATIONS; stay = conference.whole_stay; follow = false; long = false }
 
 abbrev pub meaning : LineEntry → conference.Entry
 meaning (Leg l) = conference.Leg (leg_line l)
@@ -32,6 +32,7 @@ meaning (Mtu n) = conference.Mtu n
 meaning (Mixer m) = conference.Mixer m
 meaning (Plan p) = conference.Plan p
 meaning (Follows k) = conference.Follows k
+meaning (Longs k) = conference.Longs k
 meaning (Serves s) = conference.Serves s
 
 -- the lines so far with a line of this number that has these octets
@@ -66,4 +67,5 @@ MayFollow above (conference.Mtu n) = Unit {0}
 MayFollow above (conference.Mixer m) = Unit {0}
 MayFollow above (conference.Plan p) = Unit {0}
 MayFollow above (conference.Follows k) = k < length above.legs
+MayFollow above (conference.Longs k) = k < length above.legs
 MayFollow above (conference.Serves s) = Unit {0}

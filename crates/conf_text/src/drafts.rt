@@ -6,7 +6,7 @@ ghost use Rattle.file_spec.specs.Conference.{Leg, nothing, with_entry};
 use file_spec::limits::{MOST_LEGS, USUAL_GENERATIONS};
 use file_spec::{
     GenerationsLine, LegLine, Legs, MixerLine, Plan, PlanLine, Service, ServiceLine, Stay,
-    StayLine, set_follow, set_generations, set_stay,
+    StayLine, set_follow, set_generations, set_long, set_stay,
 };
 use rtt_base::{Name, NoMemory, Path, PayloadTypes};
 use std::alloc::Global;
@@ -39,6 +39,8 @@ pub(crate) enum LineEntry<'a> {
     Plan(PlanLine),
     /// The leg, counted from 0, that is followed.
     Follows(u8),
+    /// The leg, counted from 0, whose texts may be long.
+    Longs(u8),
     Serves(ServiceLine),
 }
 
@@ -113,6 +115,7 @@ impl Draft {
                 until: None,
             },
             follow: false,
+            long: false,
         })
     }
 
@@ -140,6 +143,7 @@ impl Draft {
             LineEntry::Mixer(line) => self.mixer = Some(line),
             LineEntry::Plan(line) => return self.plan.push(line),
             LineEntry::Follows(leg) => set_follow(&mut self.legs, usize::from(leg)),
+            LineEntry::Longs(leg) => set_long(&mut self.legs, usize::from(leg)),
             LineEntry::Serves(line) => self.service.add(line),
         }
         Ok(())

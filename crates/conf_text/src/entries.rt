@@ -7,6 +7,7 @@ use crate::ConfKind;
 use crate::drafts::{Draft, LineEntry};
 use crate::follow_lines::read_follow;
 use crate::leg_lines::{has_ssrc, read_leg};
+use crate::long_lines::read_long;
 use crate::plan_lines::read_plan;
 use crate::service_lines::{read_counts, read_service};
 use crate::stay_lines::{read_generations, read_stay};
@@ -112,6 +113,7 @@ fn read_counts_or_other<'a>(
 {
     match word {
         "counts" => Ok(LineEntry::Serves(read_counts(above, words)?)),
+        "long" => Ok(LineEntry::Longs(read_long(above, words)?)),
         other => read_of_form(form, above, other, words),
     }
 }

@@ -7,6 +7,7 @@ mod drafts;
 mod entries;
 mod follow_lines;
 mod leg_lines;
+mod long_lines;
 mod names;
 mod plan_lines;
 mod service_lines;

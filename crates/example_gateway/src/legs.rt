@@ -45,6 +45,7 @@ impl Leg {
             ssrc: line.ssrc,
             payload_types: line.payload_types,
             wait: u64::from(conference.wait),
+            long: line.long,
             cut: TextCut::within(conference.mtu),
         };
         Ok(Leg {

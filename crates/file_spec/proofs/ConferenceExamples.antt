@@ -22,8 +22,8 @@ usual legs mixer = record { legs = legs; tick = 100; spacing = 300; wait = 1000;
 two_legs_and_a_loss : conference_from Files (codes "mixer 9000 100 5000\n\n# who\n leg Ann aware 1001 ann.in ann.out\r\nleg Bob  unaware 1002 bob.in bob.out 96 97\ntick 20\nlose Bob 1")
     ≡ Ok (record (
     usual
-    (record { line = 4; name = codes "Ann"; aware = true; ssrc = 1001; input = codes "ann.in"; output = codes "ann.out"; payload_types = record { t140 = 98; red = 100 }; generations = 2; stay = record { from = 0; until = None }; follow = false }
-    ∷ record { line = 5; name = codes "Bob"; aware = false; ssrc = 1002; input = codes "bob.in"; output = codes "bob.out"; payload_types = record { t140 = 96; red = 97 }; generations = 2; stay = record { from = 0; until = None }; follow = false } ∷ [])
+    (record { line = 4; name = codes "Ann"; aware = true; ssrc = 1001; input = codes "ann.in"; output = codes "ann.out"; payload_types = record { t140 = 98; red = 100 }; generations = 2; stay = record { from = 0; until = None }; follow = false; long = false }
+    ∷ record { line = 5; name = codes "Bob"; aware = false; ssrc = 1002; input = codes "bob.in"; output = codes "bob.out"; payload_types = record { t140 = 96; red = 97 }; generations = 2; stay = record { from = 0; until = None }; follow = false; long = false } ∷ [])
     (record { ssrc = 9000; seq = 100; timestamp = 5000 })
     ) { tick = 20; plan = record { terminal = 1; packet = 1; what = what.Lose } ∷ [] })
 unfolding entry generations_of leg_of mixer_of plan_of stay_of stay_or_plan follow_or_service time_or_other is_utf8 chars encode_utf8
@@ -32,8 +32,8 @@ two_legs_and_a_loss = refl
 labelled_again : conference_from Links (codes "leg A aware 1 5004 h:1\nleg B unaware 2 5006 h:2\nrelabel 7000\nmixer 3 0 0")
     ≡ Ok (record (
     usual
-    (record { line = 1; name = codes "A"; aware = true; ssrc = 1; input = codes "5004"; output = codes "h:1"; payload_types = record { t140 = 98; red = 100 }; generations = 2; stay = record { from = 0; until = None }; follow = false }
-    ∷ record { line = 2; name = codes "B"; aware = false; ssrc = 2; input = codes "5006"; output = codes "h:2"; payload_types = record { t140 = 98; red = 100 }; generations = 2; stay = record { from = 0; until = None }; follow = false } ∷ [])
+    (record { line = 1; name = codes "A"; aware = true; ssrc = 1; input = codes "5004"; output = codes "h:1"; payload_types = record { t140 = 98; red = 100 }; generations = 2; stay = record { from = 0; until = None }; follow = false; long = false }
+    ∷ record { line = 2; name = codes "B"; aware = false; ssrc = 2; input = codes "5006"; output = codes "h:2"; payload_types = record { t140 = 98; red = 100 }; generations = 2; stay = record { from = 0; until = None }; follow = false; long = false } ∷ [])
     (record { ssrc = 3; seq = 0; timestamp = 0 })
     ) { relabel = Some 7000 })
 unfolding entry generations_of leg_of mixer_of plan_of stay_of stay_or_plan follow_or_service time_or_other is_utf8 chars encode_utf8
@@ -42,8 +42,8 @@ labelled_again = refl
 asked_of_links : conference_from Links (codes "gone 60000\nleg A aware 1 5004 h:1\noperator 06100 Word4Watch\nleg B unaware 2 5006 h:2\nmixer 3 0 0\nrecord calls/main\ncounts")
     ≡ Ok (record (
     usual
-    (record { line = 2; name = codes "A"; aware = true; ssrc = 1; input = codes "5004"; output = codes "h:1"; payload_types = record { t140 = 98; red = 100 }; generations = 2; stay = record { from = 0; until = None }; follow = false }
-    ∷ record { line = 4; name = codes "B"; aware = false; ssrc = 2; input = codes "5006"; output = codes "h:2"; payload_types = record { t140 = 98; red = 100 }; generations = 2; stay = record { from = 0; until = None }; follow = false } ∷ [])
+    (record { line = 2; name = codes "A"; aware = true; ssrc = 1; input = codes "5004"; output = codes "h:1"; payload_types = record { t140 = 98; red = 100 }; generations = 2; stay = record { from = 0; until = None }; follow = false; long = false }
+    ∷ record { line = 4; name = codes "B"; aware = false; ssrc = 2; input = codes "5006"; output = codes "h:2"; payload_types = record { t140 = 98; red = 100 }; generations = 2; stay = record { from = 0; until = None }; follow = false; long = false } ∷ [])
     (record { ssrc = 3; seq = 0; timestamp = 0 })
     ) { service = record { gone = Some 60000; operator = Some (record { port = 6100; word = codes "Word4Watch" }); recorded = Some (codes "calls/main"); counts = true } })
 unfolding entry generations_of leg_of mixer_of operator_of plan_of stay_of stay_or_plan follow_or_service time_or_other is_utf8 chars encode_utf8
@@ -51,16 +51,16 @@ asked_of_links = refl
 
 generations_and_stays : conference_from Files (codes "leg A aware 1 a.in a.out\nleg B aware 2 b.in b.out\ngens B 0\nstay A 300 900\nmixer 3 0 0")
     ≡ Ok (usual
-    (record { line = 1; name = codes "A"; aware = true; ssrc = 1; input = codes "a.in"; output = codes "a.out"; payload_types = record { t140 = 98; red = 100 }; generations = 2; stay = record { from = 300; until = Some 900 }; follow = false }
-    ∷ record { line = 2; name = codes "B"; aware = true; ssrc = 2; input = codes "b.in"; output = codes "b.out"; payload_types = record { t140 = 98; red = 100 }; generations = 0; stay = record { from = 0; until = None }; follow = false } ∷ [])
+    (record { line = 1; name = codes "A"; aware = true; ssrc = 1; input = codes "a.in"; output = codes "a.out"; payload_types = record { t140 = 98; red = 100 }; generations = 2; stay = record { from = 300; until = Some 900 }; follow = false; long = false }
+    ∷ record { line = 2; name = codes "B"; aware = true; ssrc = 2; input = codes "b.in"; output = codes "b.out"; payload_types = record { t140 = 98; red = 100 }; generations = 0; stay = record { from = 0; until = None }; follow = false; long = false } ∷ [])
     (record { ssrc = 3; seq = 0; timestamp = 0 }))
 unfolding entry generations_of leg_of mixer_of plan_of stay_of stay_or_plan follow_or_service time_or_other is_utf8 chars encode_utf8
 generations_and_stays = refl
 
 one_is_followed : conference_from Links (codes "leg A aware 1 5004 h:1\nfollow A\nleg B unaware 2 5006 h:2\nmixer 3 0 0")
     ≡ Ok (usual
-    (record { line = 1; name = codes "A"; aware = true; ssrc = 1; input = codes "5004"; output = codes "h:1"; payload_types = record { t140 = 98; red = 100 }; generations = 2; stay = record { from = 0; until = None }; follow = true }
-    ∷ record { line = 3; name = codes "B"; aware = false; ssrc = 2; input = codes "5006"; output = codes "h:2"; payload_types = record { t140 = 98; red = 100 }; generations = 2; stay = record { from = 0; until = None }; follow = false } ∷ [])
+    (record { line = 1; name = codes "A"; aware = true; ssrc = 1; input = codes "5004"; output = codes "h:1"; payload_types = record { t140 = 98; red = 100 }; generations = 2; stay = record { from = 0; until = None }; follow = true; long = false }
+    ∷ record { line = 3; name = codes "B"; aware = false; ssrc = 2; input = codes "5006"; output = codes "h:2"; payload_types = record { t140 = 98; red = 100 }; generations = 2; stay = record { from = 0; until = None }; follow = false; long = false } ∷ [])
     (record { ssrc = 3; seq = 0; timestamp = 0 }))
 unfolding entry leg_of mixer_of follow_of follow_or_service time_or_other is_utf8 chars encode_utf8
 one_is_followed = refl
@@ -159,14 +159,14 @@ faults_are_told = refl
 
 -- ---- many legs, by themselves
 someone : Stay → LegLine
-someone s = record { line = 0; name = []; aware = true; ssrc = 0; input = []; output = []; payload_types = usual_types; generations = 2; stay = s; follow = false }
+someone s = record { line = 0; name = []; aware = true; ssrc = 0; input = []; output = []; payload_types = usual_types; generations = 2; stay = s; follow = false; long = false }
 
 -- so many legs so far that stay without end
 with_legs : ℕ → Above
 with_legs n = record nothing { legs = replicate n (someone whole_stay) }
 
 new_one : LegLine
-new_one = record { line = 0; name = codes "A"; aware = true; ssrc = 1; input = codes "1"; output = codes "b"; payload_types = usual_types; generations = 2; stay = whole_stay; follow = false }
+new_one = record { line = 0; name = codes "A"; aware = true; ssrc = 1; input = codes "1"; output = codes "b"; payload_types = usual_types; generations = 2; stay = whole_stay; follow = false; long = false }
 
 the_65th_leg : (new_leg Files (with_legs 64) new_one ≡ Err Many) × (new_leg Files (with_legs 63) new_one ≡ Ok new_one)
 unfolding with_legs new_one someone

@@ -21,7 +21,7 @@ use Rattle.file_spec.specs.Steps.{unless}
 use Rattle.file_spec.specs.Lines.{Line, words, told, at_line, read_lines}
 use Rattle.file_spec.specs.Stays.{is_crowd}
 use Rattle.file_spec.specs.Services.{is_operator_word}
-use Rattle.file_spec.specs.Conference.{Above, Conference, Entry, Leg, Generations, Stays, Tick, Spacing, Wait, Turns, Relabel, Mtu, Mixer, Plan, Follows, Serves, says, time_or_other, stay_or_plan, follow_or_service, follow, counts, counts_or_other, of_form, service_word, operator, operator_of, prefix, port, is_same_port, nothing, with_entry, setting, mixer, leg, generations, stay, plan_word, entry, is_blank, and_line, whole, complete, conference_from, mixer_of, leg_of, new_leg, has_names, has_port, aware_of, whole_stay}
+use Rattle.file_spec.specs.Conference.{Above, Conference, Entry, Leg, Generations, Stays, Tick, Spacing, Wait, Turns, Relabel, Mtu, Mixer, Plan, Follows, Longs, Serves, says, time_or_other, stay_or_plan, follow_or_service, follow, long, counts, counts_or_other, of_form, service_word, operator, operator_of, prefix, port, is_same_port, nothing, with_entry, setting, mixer, leg, generations, stay, plan_word, entry, is_blank, and_line, whole, complete, conference_from, mixer_of, leg_of, new_leg, has_names, has_port, aware_of, whole_stay}
 use Rattle.rtt_base.proofs.Steps.{bind_ok}
 use Rattle.file_spec.proofs.Passed.{unless_ok, ok_or_ok}
 use Rattle.rtt_base.specs.declared.limits.TheConstants.{LONGEST_WAIT}
@@ -84,6 +84,7 @@ pub record LegRead (form : Form) (above : Above) (name ssrc input output : List 
   pub repeats : line.generations ≡ USUAL_GENERATIONS
   pub stays : line.stay ≡ whole_stay
   pub alone : line.follow ≡ false
+  pub brief : line.long ≡ false
   pub is : new_leg form above line ≡ Ok x
 
 pub leg_read : (form : Form) (above : Above) (n : ℕ) (name mode ssrc input output : List ℕ) (types : Option PayloadTypes) (x : LegLine) → leg_of form above n name mode ssrc input output types ≡ Ok x → LegRead form above name ssrc input output types x
@@ -95,7 +96,7 @@ leg_read form above n name mode ssrc input output types x e =
     let d = bind_ok (unless (not (has_port form input)) Number input) _ x c.2 in
     let f = bind_ok (ok_or types Number) _ x d.2 in
     record {
-      line = record { line = n; name = b.0; aware = a.0; ssrc = c.0; input = d.0; output = output; payload_types = f.0; generations = USUAL_GENERATIONS; stay = whole_stay; follow = false };
+      line = record { line = n; name = b.0; aware = a.0; ssrc = c.0; input = d.0; output = output; payload_types = f.0; generations = USUAL_GENERATIONS; stay = whole_stay; follow = false; long = false };
       names = b.1;
       source = c.1;
       comes = d.1;
@@ -103,6 +104,7 @@ leg_read form above n name mode ssrc input output types x e =
       repeats = refl;
       stays = refl;
       alone = refl;
+      brief = refl;
       is = f.2;
     }
 
@@ -143,6 +145,7 @@ pub record HoldsOf (P : Entry → Type 0) (form : Form) (above : Above) (n : ℕ
   pub each_follow : form ≡ Links → (ws : List (List ℕ)) (x : ℕ) → follow above ws ≡ Ok x → P (Follows x)
   pub each_service : form ≡ Links → (word : List ℕ) (ws : List (List ℕ)) (x : ServiceLine) → service_word above word ws ≡ Ok x → P (Serves x)
   pub each_counts : (ws : List (List ℕ)) (x : ServiceLine) → counts above ws ≡ Ok x → P (Serves x)
+  pub each_long : (ws : List (List ℕ)) (x : ℕ) → long above ws ≡ Ok x → P (Longs x)
   pub each_relabel : (ws : List (List ℕ)) (x : ℕ) → setting LEAST_RELABEL MOST_RELABEL above.relabel ws ≡ Ok x → P (Relabel x)
   pub each_mtu : (ws : List (List ℕ)) (x : ℕ) → setting LEAST_MTU MOST_MTU above.mtu ws ≡ Ok x → P (Mtu x)
 
@@ -168,11 +171,12 @@ module _ (P : Entry → Type 0) (form : Form) (above : Above) (n : ℕ) (h : Hol
   form_holds Links is word more e q = follow_or_service_holds is word more e q
 
   counts_holds : (word : List ℕ) (more : List (List ℕ)) (e : Entry) → counts_or_other form above word more ≡ Ok e → P e
-  counts_holds word more e q = go (bytes_eq word (codes "counts")) q
+  counts_holds word more e q = go (bytes_eq word (codes "counts")) (bytes_eq word (codes "long")) q
     where
-      go : (a : Bool) → (if a then says Serves (counts above more) else of_form form above word more) ≡ Ok e → P e
-      go true q = says_holds P Serves (counts above more) e (h.each_counts more) q
-      go false q = form_holds form refl word more e q
+      go : (a b : Bool) → (if a then says Serves (counts above more) else (if b then says Longs (long above more) else of_form form above word more)) ≡ Ok e → P e
+      go true b q = says_holds P Serves (counts above more) e (h.each_counts more) q
+      go false true q = says_holds P Longs (long above more) e (h.each_long more) q
+      go false false q = form_holds form refl word more e q
 
   time_holds : (word : List ℕ) (more : List (List ℕ)) (e : Entry) → time_or_other form above word more ≡ Ok e → P e
   unfolding time_or_other

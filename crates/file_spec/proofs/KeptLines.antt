@@ -31,7 +31,7 @@ use Rattle.file_spec.specs.Steps.{unless}
 use Rattle.file_spec.specs.Lines.{Line}
 use Rattle.file_spec.specs.Numbers.{number, most_ssrc, number_between, payload_type, payload_types}
 use Rattle.file_spec.specs.Stays.{IsStay, is_crowd}
-use Rattle.file_spec.specs.Conference.{Above, Conference, Entry, Leg, Generations, Stays, Tick, Spacing, Wait, Turns, Relabel, Mtu, Mixer, Plan, Follows, Serves, nothing, with_entry, change_leg, with_generations, with_stay, with_follow, setting, mixer, mixer_of, is_mixers, is_name, has_names, has_port, shares_own, shares_path, clashes, most_legs, new_leg, aware_of, whole_stay, usual_types, leg_of, leg, place_of, generations_of, generations, stay_of, stay, is_same_packet, plan_of, plan, delay_of, delay, plan_word, counts, service_word, operator, port, is_same_port, is_operators, and_line, whole, conference_from, prefix, is_path}
+use Rattle.file_spec.specs.Conference.{Above, Conference, Entry, Leg, Generations, Stays, Tick, Spacing, Wait, Turns, Relabel, Mtu, Mixer, Plan, Follows, Longs, Serves, nothing, with_entry, change_leg, with_generations, with_stay, with_follow, with_long, setting, mixer, mixer_of, is_mixers, is_name, has_names, has_port, shares_own, shares_path, clashes, most_legs, new_leg, aware_of, whole_stay, usual_types, leg_of, leg, place_of, generations_of, generations, stay_of, stay, is_same_packet, plan_of, plan, delay_of, delay, plan_word, counts, service_word, operator, port, is_same_port, is_operators, and_line, whole, conference_from, prefix, is_path}
 use Rattle.file_spec.specs.Sound.{IsBetween}
 use Rattle.file_spec.specs.Services.{with_service}
 use Rattle.file_spec.specs.Kept.{IsLeg, Differ, AreLegs, IsMixerFor, IsShort, IsTick, IsSpacing, IsWait, AreTurns, IsRelabel, IsMtu, IsGone, IsOperatorFor, IsServiceFor, Keeps, IsConference}
@@ -75,6 +75,7 @@ IsNew above (Mtu n) = IsMtu n
 IsNew above (Mixer m) = IsMixerFor above.legs m
 IsNew above (Plan p) = IsNewPlan above p
 IsNew above (Follows k) = Unit {0}
+IsNew above (Longs k) = Unit {0}
 IsNew above (Serves s) = IsNewService above s
 
 leg_more : (above : Above) (l : LegLine) → Keeps above → IsNewLeg above l → Keeps (with_entry above (Leg l))
@@ -216,6 +217,9 @@ stay_leaves s stays = record { name = λ l. refl; ssrc = λ l. refl; input = λ 
 follow_leaves : Leaves with_follow
 follow_leaves = record { name = λ l. refl; ssrc = λ l. refl; input = λ l. refl; output = λ l. refl; leg = λ l is. record { name = is.name; types = is.types; generations = is.generations; stay = is.stay } }
 
+long_leaves : Leaves with_long
+long_leaves = record { name = λ l. refl; ssrc = λ l. refl; input = λ l. refl; output = λ l. refl; leg = λ l is. record { name = is.name; types = is.types; generations = is.generations; stay = is.stay } }
+
 more : (above : Above) (said : Entry) → Keeps above → IsNew above said → Keeps (with_entry above said)
 more above (Leg l) k new = leg_more above l k new
 more above (Generations g) k new = changed above (with_generations g.generations) (generations_leave g.generations new) g.leg _ above.stays k
@@ -229,6 +233,7 @@ more above (Mtu n) k new = record { legs = k.legs; tick = k.tick; spacing = k.sp
 more above (Mixer x) k new = record { legs = k.legs; tick = k.tick; spacing = k.spacing; wait = k.wait; turns = k.turns; relabel = k.relabel; mtu = k.mtu; mixer = λ m e. subst (IsMixerFor above.legs) (some_same x m e) new; plan = k.plan; service = k.service }
 more above (Plan p) k new = plan_more above p k new
 more above (Follows n) k new = changed above with_follow follow_leaves n above.generations above.stays k
+more above (Longs n) k new = changed above with_long long_leaves n above.generations above.stays k
 more above (Serves s) k new = record { legs = k.legs; tick = k.tick; spacing = k.spacing; wait = k.wait; turns = k.turns; relabel = k.relabel; mtu = k.mtu; mixer = k.mixer; plan = k.plan; service = service_more above s k new }
 
 -- ---- tests of the lines above
@@ -426,7 +431,7 @@ plan_of_ok above name packet happens x short e =
     subst (IsNewPlan above) (u.1 ∙ v.1) (record { room = leb-false MOST_PLAN_LINES (length above.plan) u.0; terminal = at.0; delay = short c.0 (ok_or_ok happens Number c.0 c.1); others = others })
   where
     a_leg : LegLine
-    a_leg = record { line = 0; name = []; aware = false; ssrc = 0; input = []; output = []; payload_types = record { t140 = 0; red = 0 }; generations = 0; stay = whole_stay; follow = false }
+    a_leg = record { line = 0; name = []; aware = false; ssrc = 0; input = []; output = []; payload_types = record { t140 = 0; red = 0 }; generations = 0; stay = whole_stay; follow = false; long = false }
 
 plan_ok : (above : Above) (w : What) (ws : List (List ℕ)) (x : PlanLine) → IsShort w → plan above w ws ≡ Ok x → IsNewPlan above x
 plan_ok above w [] x short e = absurd (cc e)
@@ -510,6 +515,7 @@ entry_ok form above n = record {
   each_mtu = setting_ok LEAST_MTU MOST_MTU above.mtu;
   each_follow = λ q ws x e. tt;
   each_counts = counts_ok above;
+  each_long = λ ws x e. tt;
   each_service = λ q. service_ok above;
 }
 

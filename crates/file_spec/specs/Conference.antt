@@ -72,6 +72,7 @@ pub data Entry : Type 0 where
   Mixer : MixerLine → Entry
   Plan : PlanLine → Entry
   Follows : ℕ → Entry
+  Longs : ℕ → Entry
   Serves : ServiceLine → Entry
 
 abbrev pub nothing : Above
@@ -92,6 +93,9 @@ with_stay stay leg = record leg { stay = stay }
 abbrev pub with_follow : LegLine → LegLine
 with_follow leg = record leg { follow = true }
 
+abbrev pub with_long : LegLine → LegLine
+with_long leg = record leg { long = true }
+
 abbrev pub with_entry : Above → Entry → Above
 with_entry a (Leg l) = record a { legs = a.legs ++ l ∷ [] }
 with_entry a (Generations g) = record a { legs = change_leg (with_generations g.generations) g.leg a.legs; generations = a.generations ++ g.leg ∷ [] }
@@ -105,6 +109,7 @@ with_entry a (Mtu n) = record a { mtu = Some n }
 with_entry a (Mixer m) = record a { mixer = Some m }
 with_entry a (Plan p) = record a { plan = a.plan ++ p ∷ [] }
 with_entry a (Follows k) = record a { legs = change_leg with_follow k a.legs }
+with_entry a (Longs k) = record a { legs = change_leg with_long k a.legs }
 with_entry a (Serves s) = record a { service = with_service a.service s }
 
 -- ---- numbers, times and the mixer
@@ -205,7 +210,7 @@ leg_of form above n name mode ssrc input output types = do
   sender ← ok_or (number most_ssrc ssrc) Number
   from ← unless (not (has_port form input)) Number input
   payload_types ← ok_or types Number
-  new_leg form above (record { line = n; name = named; aware = aware; ssrc = sender; input = from; output = output; payload_types = payload_types; generations = USUAL_GENERATIONS; stay = whole_stay; follow = false })
+  new_leg form above (record { line = n; name = named; aware = aware; ssrc = sender; input = from; output = output; payload_types = payload_types; generations = USUAL_GENERATIONS; stay = whole_stay; follow = false; long = false })
 
 abbrev pub usual_types : PayloadTypes
 usual_types = record { t140 = USUAL_T140; red = USUAL_RED }
@@ -252,6 +257,16 @@ follow_of above name = place_of above name >>= unless (list_any (λ leg. bytes_e
 abbrev pub follow : Above → List (List ℕ) → Result ℕ ConfKind
 follow above (name ∷ []) = follow_of above name
 follow above _ = Err Count
+
+-- ---- whose texts may be long
+
+-- the place of a leg above that is not yet told to be so
+unfoldable pub long_of : Above → List ℕ → Result ℕ ConfKind
+long_of above name = place_of above name >>= unless (list_any (λ leg. bytes_eq leg.name name && leg.long) above.legs) Twice
+
+abbrev pub long : Above → List (List ℕ) → Result ℕ ConfKind
+long above (name ∷ []) = long_of above name
+long above _ = Err Count
 
 -- ---- what becomes of packets
 
@@ -342,11 +357,12 @@ abbrev pub of_form : Form → Above → List ℕ → List (List ℕ) → Result 
 of_form Files above word more = stay_or_plan above word more
 of_form Links above word more = follow_or_service above word more
 
--- the counts, which both forms have, or what one form alone has words for
+-- the counts and long texts, which both forms have, or what one form alone has words for
 abbrev pub counts_or_other : Form → Above → List ℕ → List (List ℕ) → Result Entry ConfKind
 counts_or_other form above word more =
     if bytes_eq word (codes "counts") then says Serves (counts above more)
-    else of_form form above word more
+    else (if bytes_eq word (codes "long") then says Longs (long above more)
+    else of_form form above word more)
 
 -- the times, and the most octets of a packet, one number each
 unfoldable pub time_or_other : Form → Above → List ℕ → List (List ℕ) → Result Entry ConfKind

@@ -11,3 +11,4 @@ pub mod Frames
 pub mod Conferences
 pub mod Changes
 pub mod Speakers
+pub mod Primaries

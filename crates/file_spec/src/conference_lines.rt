@@ -69,6 +69,8 @@ pub struct LegLine {
     pub stay: Stay,
     /// Whether whoever sends from its terminal is heard, also under another SSRC.
     pub follow: bool,
+    /// Whether its packets may have a primary text of more than 1023 octets.
+    pub long: bool,
 }
 
 /// How many redundant generations the terminal of a leg is sent. The leg is counted from 0.

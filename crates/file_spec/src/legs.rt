@@ -1,9 +1,11 @@
 //! The legs of a conference.
 ghost use Rattle.std.specs.Prelude.{◌≡◌, ◌<◌, length};
-ghost use Rattle.file_spec.specs.Conference.{change_leg, with_follow, with_generations, with_stay};
+ghost use Rattle.file_spec.specs.Conference.{change_leg, with_follow, with_generations, with_long, with_stay};
 ghost use Rattle.file_spec.specs.Changes.{with_name};
+ghost use Rattle.file_spec.specs.Primaries.{primary_limit};
 
 use crate::{LegLine, Stay};
+use rtt_base::limits::{MOST_PRIMARY_OCTETS, MOST_TEXT_OCTETS};
 use rtt_base::{GrowingList, Name};
 
 /// Legs in the file's order.
@@ -39,4 +41,23 @@ pub fn set_follow(legs: &mut Legs, leg: usize)
     ensures { legs.new ≡ change_leg with_follow leg legs.old }
 {
     legs.item_mut(leg).follow = true;
+}
+
+/// Tells that the packets of a leg may have long texts.
+pub fn set_long(legs: &mut Legs, leg: usize)
+    requires { leg < length legs.old }
+    ensures { legs.new ≡ change_leg with_long leg legs.old }
+{
+    legs.item_mut(leg).long = true;
+}
+
+/// The most octets of a primary text in the packets of a leg.
+pub fn primary_limit(long: bool) -> usize
+    ensures { result ≡ primary_limit long }
+{
+    if long {
+        MOST_PRIMARY_OCTETS
+    } else {
+        MOST_TEXT_OCTETS
+    }
 }

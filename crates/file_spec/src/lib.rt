@@ -25,7 +25,7 @@ pub use frame_kinds::FrameKind;
 pub use frames::{Frame, FrameRefusal};
 pub use kinds::ConfKind;
 pub use laws::{accepted_conferences_keep, crowds_are_seen};
-pub use legs::{Legs, set_follow, set_generations, set_name, set_stay};
+pub use legs::{Legs, primary_limit, set_follow, set_generations, set_long, set_name, set_stay};
 pub use names::{has_name, is_name_octet, name_of};
 pub use plans::{Plan, is_planned};
 pub use services::{OperatorLine, OperatorWord, RecordPrefix, Service, ServiceLine};

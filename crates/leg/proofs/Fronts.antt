@@ -21,6 +21,7 @@ use Rattle.receiver.proofs.Given.{ready_stamped}
 use Rattle.leg.specs.declared.legs.Leg.{Leg}
 use Rattle.stream_spec.specs.Fronts.{IsFront, AreFrom, is_packet_ready_by}
 use Rattle.leg.specs.Gives.{LegPast, came_of, chunks_of, Phase, Within, Behind, Stands}
+use Rattle.file_spec.specs.Primaries.{primary_limit}
 use Rattle.leg.proofs.Later.{all_later}
 use Rattle.stream_spec.proofs.Fronts.{front_is, chunks_front}
 
@@ -56,7 +57,7 @@ module _ {S : Type 0} (left : S → List ℕ) where
   came_later : (reader : DumpReader S) (past : LegPast) (story : Story) → Phase left reader past story
       → (more : List Arrival) × (came_of past ≡ more ++ story.past) × AreFrom story.moment more
   came_later reader past story (Within o r) =
-      let l = all_later past.settings.ssrc past.settings.payload_types (to_come left reader).items r.came in (
+      let l = all_later (primary_limit past.settings.long) past.settings.ssrc past.settings.payload_types (to_come left reader).items r.came in (
         l.more,
         sym r.same ∙ (l.is ∙ ap (λ (a : List Arrival). l.more ++ a) (sym r.told.arrivals)),
         λ a i. let q = l.times a i in omega (arith, r.told.moment),

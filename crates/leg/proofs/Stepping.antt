@@ -3,8 +3,8 @@ use Rattle.std.proofs.Common.{◌≡◌, ◌≢◌, ℕ, ◌+◌, ◌≤◌, ◌
 use Rattle.std.proofs.lemmas.Bool.{true≢false}
 use Rattle.std.proofs.lemmas.List.{append-nil}
 use Rattle.wire_spec.specs.Packets.{Arrival}
-use Rattle.wire_spec.specs.Dump.{Recording, with_item, arrivals_with, arrivals_after}
-use Rattle.wire_spec.specs.Text.{text_of}
+use Rattle.wire_spec.specs.Dump.{Recording, with_item, with_arrival}
+use Rattle.file_spec.specs.Primaries.{primary_limit}
 use Rattle.stream_spec.specs.Ready.{Chunk, chunks}
 use Rattle.reorder_buffer.specs.Stories.{Story, Given, ended}
 use Rattle.rtpdump_io.specs.declared.items.DumpFault.{DumpFault}
@@ -20,13 +20,13 @@ use Rattle.receiver.specs.declared.answers.PlainAnswer.{PlainAnswer}
 use Rattle.receiver.specs.declared.answers.PlainAnswer.TheVariants as answers
 use Rattle.receiver.specs.declared.settings.EarSettings.{EarSettings}
 use Rattle.receiver.specs.declared.ears.Ear.{Ear}
-use Rattle.receiver.specs.Hears.{IsGiving, Becomes, GivesChunk, GivesNone, GaveReady, AllReady, IsToldOf, IsReadyAtEnd, arrival_count, is_finished}
+use Rattle.receiver.specs.Hears.{IsGiving, Becomes, GivesChunk, GivesNone, GaveReady, AllReady, IsToldOf, IsReadyAtEnd, arrival_count, is_finished, text_for}
 use Rattle.receiver.specs.Cuts.{chunks_given}
 use Rattle.receiver.proofs.ReadyBy.{told_arrived}
 use Rattle.leg.specs.declared.legs.Leg.{Leg}
 use Rattle.leg.specs.Sound.{FewCame, EndsWith}
 use Rattle.leg.specs.Items.{after_item, GivesItem}
-use Rattle.leg.specs.Gives.{LegPast, gave_chunk, recording_of, chunks_of, IsRead, IsWhole, Phase, Within, Behind, Stands}
+use Rattle.leg.specs.Gives.{LegPast, gave_chunk, recording_of, chunks_of, IsRead, IsWhole, Phase, Within, Behind, Stands, came_after}
 
 -- what was heard where it lies is a plain packet
 pub one_is_plain : (a : PlainAnswer) → a ≡ answers.Chunk → a ≢ answers.NotPlain
@@ -98,14 +98,14 @@ module _ {S : Type 0} (left : S → List ℕ) where
   -- ---- what is read
   reads_on : (past : LegPast) (story : Story) (item : DumpItem) (out : List ℕ) (before rest : Recording) → IsRead past story before → before ≡ with_item (record_of item out) rest → is_end item ≡ false → IsRead past (after_item past.settings story item out) rest
   reads_on past story item out before rest r e n = record {
-    came = arrivals_with past.settings.ssrc past.settings.payload_types (record_of item out) r.came;
+    came = with_arrival (primary_limit past.settings.long) past.settings.ssrc past.settings.payload_types (record_of item out) r.came;
     told = told item n;
-    same = ap (λ (q : Recording). arrivals_after past.settings.ssrc past.settings.payload_types r.came q.items) (sym e) ∙ r.same;
+    same = ap (λ (q : Recording). came_after past.settings r.came q.items) (sym e) ∙ r.same;
     fault = ap (λ (q : Recording). q.fault) (sym e) ∙ r.fault;
   }
     where
-      told : (i : DumpItem) → is_end i ≡ false → IsToldOf (after_item past.settings story i out) (arrivals_with past.settings.ssrc past.settings.payload_types (record_of i out) r.came)
-      told (Packet at) e = told_arrived story r.came at (text_of out (Some past.settings.ssrc) past.settings.payload_types) r.told
+      told : (i : DumpItem) → is_end i ≡ false → IsToldOf (after_item past.settings story i out) (with_arrival (primary_limit past.settings.long) past.settings.ssrc past.settings.payload_types (record_of i out) r.came)
+      told (Packet at) e = told_arrived story r.came at (text_for past.settings out) r.told
       told (Rtcp at) e = r.told
       told (Cut at) e = r.told
       told (Large at) e = r.told
@@ -113,7 +113,7 @@ module _ {S : Type 0} (left : S → List ℕ) where
 
   reads_end : (past : LegPast) (story : Story) (before : Recording) → IsRead past story before → before ≡ nothing → IsReadyAtEnd past.settings story → IsWhole past (ended story)
   reads_end past story before r e d = record {
-    came = r.told.arrivals ∙ (ap (λ (q : Recording). arrivals_after past.settings.ssrc past.settings.payload_types r.came q.items) (sym e) ∙ r.same);
+    came = r.told.arrivals ∙ (ap (λ (q : Recording). came_after past.settings r.came q.items) (sym e) ∙ r.same);
     ready = d.chunks past.settings.ssrc;
     no_fault = sym r.fault ∙ ap (λ (q : Recording). q.fault) e;
   }

@@ -54,7 +54,8 @@ pub record AreChunks (s : Setup) (asked : ℕ → Asked) (chunks : ℕ → List 
 
 -- how a leg of a conference is heard
 abbrev pub heard_as : Conference → LegLine → EarSettings
-heard_as c l = record { ssrc = l.ssrc; payload_types = l.payload_types; wait = c.wait; cut = cut_within c.mtu }
+heard_as c l =
+    record { ssrc = l.ssrc; payload_types = l.payload_types; wait = c.wait; long = l.long; cut = cut_within c.mtu }
 
 -- of a conference whose inputs have these octets: each leg hears its stream in its input
 abbrev pub AreOfConference : Conference → (ℕ → List ℕ) → (ℕ → Asked) → Type 0

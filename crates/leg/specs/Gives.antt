@@ -1,7 +1,8 @@
 -- What a leg gives of its recording (profile).
 use Rattle.std.specs.Prelude.{◌≡◌, ℕ, Bool, true, false, None, Result, Ok, Err, List, [], ◌∷◌, ◌++◌}
 use Rattle.wire_spec.specs.Packets.{Arrival}
-use Rattle.wire_spec.specs.Dump.{Recording, dump, arrivals_after}
+use Rattle.wire_spec.specs.Dump.{Item, Recording, dump, arrivals_within}
+use Rattle.file_spec.specs.Primaries.{primary_limit}
 use Rattle.stream_spec.specs.Ready.{Chunk, chunks}
 use Rattle.reorder_buffer.specs.Stories.{Story}
 use Rattle.rtpdump_io.specs.declared.items.DumpFault.{DumpFault}
@@ -37,9 +38,14 @@ gave_chunk past c = record past { gave = past.gave ++ c ∷ [] }
 abbrev pub recording_of : LegPast → Recording
 recording_of past = dump past.limit past.octets
 
--- what comes of the recording, newest first
+-- what comes by these records behind others, newest first
+abbrev pub came_after : EarSettings → List Arrival → List Item → List Arrival
+came_after settings came items =
+    arrivals_within (primary_limit settings.long) settings.ssrc settings.payload_types came items
+
+-- what comes of the recording
 abbrev pub came_of : LegPast → List Arrival
-came_of past = arrivals_after past.settings.ssrc past.settings.payload_types [] (recording_of past).items
+came_of past = came_after past.settings [] (recording_of past).items
 
 -- what is handed out of all chunks of the recording, whose source is 0: whose they are is set by who mixes
 abbrev pub chunks_of : LegPast → List Chunk
@@ -60,7 +66,7 @@ is_last (Err fault) = true
 pub record IsRead (past : LegPast) (story : Story) (rest : Recording) : Type 0 where
   pub came : List Arrival
   pub told : IsToldOf story came
-  pub same : arrivals_after past.settings.ssrc past.settings.payload_types came rest.items ≡ came_of past
+  pub same : came_after past.settings came rest.items ≡ came_of past
   pub fault : rest.fault ≡ (recording_of past).fault
 
 -- the ear was told of the whole recording, and of its end

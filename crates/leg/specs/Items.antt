@@ -1,17 +1,16 @@
 -- What an ear is told of by a record of a recording.
 use Rattle.std.specs.Prelude.{ℕ, List, ◌++◌, Some}
 use Rattle.stream_spec.specs.Ready.{Chunk}
-use Rattle.wire_spec.specs.Text.{text_of}
 use Rattle.reorder_buffer.specs.Stories.{Story, ended}
 use Rattle.rtpdump_io.specs.declared.items.DumpItem.{DumpItem}
 use Rattle.rtpdump_io.specs.declared.items.DumpItem.TheVariants.{Packet, Rtcp, Cut, Large, End}
 use Rattle.receiver.specs.declared.settings.EarSettings.{EarSettings}
 use Rattle.receiver.specs.declared.ears.Ear.{Ear}
-use Rattle.receiver.specs.Hears.{Gave, GaveSome, told}
+use Rattle.receiver.specs.Hears.{Gave, GaveSome, text_for, told}
 
 -- a packet comes at its time, and the end lets the wait go by
 abbrev pub after_item : EarSettings → Story → DumpItem → List ℕ → Story
-after_item settings story (Packet at) octets = told story at (text_of octets (Some settings.ssrc) settings.payload_types)
+after_item settings story (Packet at) octets = told story at (text_for settings octets)
 after_item settings story (Rtcp at) octets = story
 after_item settings story (Cut at) octets = story
 after_item settings story (Large at) octets = story

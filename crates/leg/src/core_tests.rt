@@ -14,6 +14,7 @@ const ANN: EarSettings = EarSettings {
     ssrc: 1001,
     payload_types: PayloadTypes { t140: 98, red: 100 },
     wait: 1000,
+    long: false,
     cut: TextCut::Long,
 };
 

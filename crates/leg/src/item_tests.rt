@@ -122,6 +122,7 @@ fn ann(alloc: Global, second: &[u8], last: &[u8]) -> Result<LegInlet<SteadySourc
         ssrc: 1001,
         payload_types: PayloadTypes { t140: 98, red: 100 },
         wait: 1000,
+        long: false,
         cut: TextCut::Long,
     };
     match Leg::new(alloc, SteadySource::new(recording), settings) {
@@ -143,6 +144,7 @@ fn line(alloc: Global, from: u32, until: Option<u32>) -> Result<LegLine, NoMemor
         generations: 2,
         stay: Stay { from, until },
         follow: false,
+        long: false,
     })
 }
 

@@ -45,7 +45,8 @@ impl<S: Source> Leg<S> {
     /// A leg over a recording of at most 4194304 octets. The wait is at most 10000 milliseconds.
     pub fn new(alloc: Global, source: S, settings: EarSettings) -> Result<Leg<S>, LegLost<S>>
         requires { settings.wait ≤ LONGEST_WAIT }
-        ensures stands { S.tells → IfOk result (λ leg. Stands S.left leg (begins settings MOST_RECORDING_OCTETS (S.left source))) }
+        ensures stands { S.tells → IfOk result (λ leg.
+            Stands S.left leg (begins settings MOST_RECORDING_OCTETS (S.left source))) }
         ensures open { IfOk result (λ leg. is_over leg ≡ false) }
         ensures source { IfOk result (λ leg. source_of leg ≡ source) }
         ensures lost { IfErr result (λ lost. lost.source ≡ source) }
@@ -91,7 +92,8 @@ impl<S: Source> Leg<S> {
         ensures nearer { result ≡ Ok LegStep.More → unread self.new < unread self.old }
         ensures quiet { result ≡ Ok LegStep.More → is_quiet self.new ≡ true }
         ensures over { is_over self.new ≡ is_last result }
-        ensures read { IfErr result (λ fault. fault.kind ≡ DumpKind.Read → Rose (S.faults (source_of self.old)) (S.faults (source_of self.new))) }
+        ensures read { IfErr result (λ fault. fault.kind ≡ DumpKind.Read
+            → Rose (S.faults (source_of self.old)) (S.faults (source_of self.new))) }
         ensures calm { UnlessOfSource result (S.faults (source_of self.new) ≡ S.faults (source_of self.old)) }
         ensures never_falls { S.faults (source_of self.old) ≤ S.faults (source_of self.new) }
         ensures same_name { S.name (source_of self.new) ≡ S.name (source_of self.old) }
@@ -134,7 +136,8 @@ impl<S: Source> Leg<S> {
         ensures nearer { result ≡ Ok LegStep.More → unread self.new < unread self.old }
         ensures quiet { result ≡ Ok LegStep.More → is_quiet self.new ≡ true }
         ensures over { is_over self.new ≡ is_last result }
-        ensures read { IfErr result (λ fault. fault.kind ≡ DumpKind.Read → Rose (S.faults (source_of self.old)) (S.faults (source_of self.new))) }
+        ensures read { IfErr result (λ fault. fault.kind ≡ DumpKind.Read
+            → Rose (S.faults (source_of self.old)) (S.faults (source_of self.new))) }
         ensures calm { UnlessOfSource result (S.faults (source_of self.new) ≡ S.faults (source_of self.old)) }
         ensures never_falls { S.faults (source_of self.old) ≤ S.faults (source_of self.new) }
         ensures same_name { S.name (source_of self.new) ≡ S.name (source_of self.old) }

@@ -6,6 +6,7 @@ use Rattle.receiver.specs.declared.settings.EarSettings.{EarSettings}
 use Rattle.receiver.specs.Cuts.{is_cut, most_of}
 use Rattle.receiver.specs.Hears.{Gave, settings_of}
 use Rattle.live_leg.specs.declared.arrivals.Arrivals as arrivals
+use Rattle.file_spec.specs.Primaries.{primary_limit}
 use Rattle.live_spec.specs.Told.{all_by, untold}
 use Rattle.live_spec.specs.Tally.{untallied}
 use Rattle.live_leg.specs.declared.states.State.{State}
@@ -37,6 +38,7 @@ begun {A} {F} g leg gave cut knows tally idle came =
           gave = subst (λ (k : EarSettings). Gave leg.ear k k.ssrc (begun_story leg.settings.ear.wait) []) (sym own) gave;
           hears = record {
             payload_types = ap (λ (k : EarSettings). k.payload_types) own;
+            most = ap (λ (k : EarSettings). primary_limit k.long) own;
             wait = ap (λ (k : EarSettings). k.wait) own;
             cut = ap (λ (k : EarSettings). is_cut k.cut) own ∙ cut;
             piece = ap (λ (k : EarSettings). most_of k.cut) own;

@@ -12,6 +12,7 @@ use Rattle.receiver.specs.Hears.{Gave, GaveFront, GaveReady, GaveSome, GivesChun
 use Rattle.workers.specs.Giving.{GivesMore, items_by}
 use Rattle.live_leg.specs.declared.arrivals.Arrivals as arrivals
 use Rattle.stream_spec.specs.Links.{Takes, is_closed}
+use Rattle.file_spec.specs.Primaries.{primary_limit}
 use Rattle.live_spec.specs.Told.{Hearing, Told, all_by, all_former, all_told, last_chunks, ready_by, ready_until, taken_over, told_by}
 use Rattle.live_spec.specs.Tally.{tally_by}
 use Rattle.live_spec.proofs.Fronts.{all_good, ready_is}
@@ -423,7 +424,7 @@ module _ {A F : Type 0} (g : arrivals.Ghosts A F) where
       let ear : EarStands m.ear m.state moment l.packet.value h n.takes (items ++ x ∷ []) =
       first_heard lc mid m.ear m.state moment l.packet.value l.packet.value n.takes (items ++ x ∷ []) e.part v.at v.packet (unwrap_or l.senders.sender 0)
       (record e.story { given = gone.0 }) e.heard (subst (λ (k : EarSettings). Gave mid k k.ssrc (record e.story { given = gone.0 }) e.heard) (sym settings_is) gone.1)
-      (ap (λ (k : EarSettings). k.payload_types) settings_is ∙ e.hears.payload_types) (ap (λ (k : EarSettings). k.wait) settings_is ∙ e.hears.wait)
+      (ap (λ (k : EarSettings). k.payload_types) settings_is ∙ e.hears.payload_types) (ap (λ (k : EarSettings). primary_limit k.long) settings_is ∙ e.hears.most) (ap (λ (k : EarSettings). k.wait) settings_is ∙ e.hears.wait)
       (ap (λ (k : EarSettings). is_cut k.cut) settings_is ∙ e.hears.cut) (ap (λ (k : EarSettings). most_of k.cut) settings_is ∙ e.hears.piece)
       begins (ap (λ (o : Option ℕ). unwrap_or o 0) there) at v.reads v.over state texts in
       stands_more first l m items (x ∷ []) refl same n ear

@@ -5,7 +5,8 @@ use Rattle.std.specs.List.{list_any}
 use Rattle.rtt_base.specs.declared.text_packets.PayloadTypes.{PayloadTypes}
 use Rattle.wire_spec.specs.declared.faults.TextFault.{TextFault}
 use Rattle.wire_spec.specs.Packets.{Packet}
-use Rattle.wire_spec.specs.Text.{text_of}
+use Rattle.wire_spec.specs.Text.{text_within}
+use Rattle.file_spec.specs.Primaries.{primary_limit}
 use Rattle.live_spec.specs.Told.{Former, Hearing, Told, former_after, is_sender, known_senders, last_moment, quiet_time, taken_over, takes_over, told_packet, with_packet}
 use Rattle.live_leg.specs.declared.senders.Senders.{Senders}
 use Rattle.live_leg.specs.declared.senders.DatagramSender.{DatagramSender}
@@ -56,6 +57,7 @@ meets_sender old new t ssrc is n p e h d k =
     met old new t p Sender h d true (takes_over h d t p.ssrc) (sender_by old h d p ssrc true k e is) refl
     (record {
       payload_types = n.payload_types ∙ k.payload_types;
+      most = ap primary_limit n.long ∙ k.most;
       follow = n.follow ∙ k.follow;
       sender = n.sender ∙ k.sender;
       known = n.known ∙ k.known;
@@ -74,6 +76,7 @@ meets_other old new t ssrc sent is may over p e h d k =
     met old new t p sent h d false true (sender_by old h d p ssrc false k e is) (takes_by old h d t p ssrc true k e may)
     (record {
       payload_types = over.payload_types ∙ k.payload_types;
+      most = ap primary_limit over.long ∙ k.most;
       follow = over.follow ∙ k.follow;
       sender = over.sender ∙ ap (λ (x : ℕ). Some x) (sym e);
       known = over.known ∙ (ap (λ (o : Option ℕ). known_after o old.known.items) k.sender ∙ known_more d.sender d (max d.moment t) old.known.items k.known);
@@ -83,10 +86,11 @@ meets_other old new t ssrc sent is may over p e h d k =
     (over.sent_is ∙ ap over_from k.sender)
 
 -- who sends is the sender from now on
-pub takes_from : (old mid noted new : Senders) (t ssrc sender : ℕ) → old.sender ≡ Some sender → mid.payload_types ≡ old.payload_types → mid.follow ≡ old.follow → mid.sender ≡ Some ssrc → mid.known.items ≡ old.known.items → mid.moment ≡ old.moment
+pub takes_from : (old mid noted new : Senders) (t ssrc sender : ℕ) → old.sender ≡ Some sender → mid.payload_types ≡ old.payload_types → mid.long ≡ old.long → mid.follow ≡ old.follow → mid.sender ≡ Some ssrc → mid.known.items ≡ old.known.items → mid.moment ≡ old.moment
     → Notes mid noted t → Remembers noted new sender → TakesOver old new t ssrc Other
-takes_from old mid noted new t ssrc sender is payload_types follow now known moment n r = record {
+takes_from old mid noted new t ssrc sender is payload_types long follow now known moment n r = record {
   payload_types = r.payload_types ∙ (n.payload_types ∙ payload_types);
+  long = r.long ∙ (n.long ∙ long);
   follow = r.follow ∙ (n.follow ∙ follow);
   sender = r.sender ∙ (n.sender ∙ now);
   known = r.known ∙ (ap (remembered sender) (n.known ∙ known) ∙ ap (λ (o : Option ℕ). known_after o old.known.items) (sym is));
@@ -95,10 +99,11 @@ takes_from old mid noted new t ssrc sender is payload_types follow now known mom
   sent_is = ap over_from (sym is);
 }
 
-pub takes_first : (old mid new : Senders) (t ssrc : ℕ) → old.sender ≡ None → mid.payload_types ≡ old.payload_types → mid.follow ≡ old.follow → mid.sender ≡ Some ssrc → mid.known.items ≡ old.known.items → mid.moment ≡ old.moment
+pub takes_first : (old mid new : Senders) (t ssrc : ℕ) → old.sender ≡ None → mid.payload_types ≡ old.payload_types → mid.long ≡ old.long → mid.follow ≡ old.follow → mid.sender ≡ Some ssrc → mid.known.items ≡ old.known.items → mid.moment ≡ old.moment
     → Notes mid new t → TakesOver old new t ssrc First
-takes_first old mid new t ssrc is payload_types follow now known moment n = record {
+takes_first old mid new t ssrc is payload_types long follow now known moment n = record {
   payload_types = n.payload_types ∙ payload_types;
+  long = n.long ∙ long;
   follow = n.follow ∙ follow;
   sender = n.sender ∙ now;
   known = n.known ∙ (known ∙ ap (λ (o : Option ℕ). known_after o old.known.items) (sym is));
@@ -108,9 +113,10 @@ takes_first old mid new t ssrc is payload_types follow now known moment n = reco
 }
 
 -- ---- time
-pub passes_on : (old new : Senders) (t : ℕ) → new.payload_types ≡ old.payload_types → new.follow ≡ old.follow → new.sender ≡ old.sender → new.known.items ≡ old.known.items → new.moment ≡ max old.moment t → new.last ≡ old.last → Passes old new t
-passes_on old new t payload_types follow sender known moment last h d k = record {
+pub passes_on : (old new : Senders) (t : ℕ) → new.payload_types ≡ old.payload_types → new.long ≡ old.long → new.follow ≡ old.follow → new.sender ≡ old.sender → new.known.items ≡ old.known.items → new.moment ≡ max old.moment t → new.last ≡ old.last → Passes old new t
+passes_on old new t payload_types long follow sender known moment last h d k = record {
   payload_types = payload_types ∙ k.payload_types;
+  most = ap primary_limit long ∙ k.most;
   follow = follow ∙ k.follow;
   sender = sender ∙ k.sender;
   known = known ∙ k.known;
@@ -119,22 +125,22 @@ passes_on old new t payload_types follow sender known moment last h d k = record
 }
 
 -- ---- octets
-abbrev same_knows : (s u : Senders) (h : Hearing) (d : Told) → u.payload_types ≡ s.payload_types → u.follow ≡ s.follow → u.sender ≡ s.sender → u.known.items ≡ s.known.items → u.moment ≡ s.moment → u.last ≡ s.last → Knows s h d → Knows u h d
-same_knows s u h d a b c e f i k = record { payload_types = a ∙ k.payload_types; follow = b ∙ k.follow; sender = c ∙ k.sender; known = e ∙ k.known; moment = f ∙ k.moment; last = i ∙ k.last }
+abbrev same_knows : (s u : Senders) (h : Hearing) (d : Told) → u.payload_types ≡ s.payload_types → u.long ≡ s.long → u.follow ≡ s.follow → u.sender ≡ s.sender → u.known.items ≡ s.known.items → u.moment ≡ s.moment → u.last ≡ s.last → Knows s h d → Knows u h d
+same_knows s u h d a l b c e f i k = record { payload_types = a ∙ k.payload_types; most = ap primary_limit l ∙ k.most; follow = b ∙ k.follow; sender = c ∙ k.sender; known = e ∙ k.known; moment = f ∙ k.moment; last = i ∙ k.last }
 
-pub meets_text : (old read new : Senders) (t : ℕ) (octets : List ℕ) (p : Packet) (ssrc : ℕ) (sent : DatagramSender) → ((h : Hearing) (d : Told) → Knows old h d → Knows read h d)
-    → text_of octets None old.payload_types ≡ Ok p → p.ssrc ≡ ssrc → MeetsText read new t ssrc sent → Meets old new t octets sent
-meets_text old read new t octets p ssrc sent same reads who m h d k =
+pub meets_text : (old read new : Senders) (t most : ℕ) (octets : List ℕ) (p : Packet) (ssrc : ℕ) (sent : DatagramSender) → ((h : Hearing) (d : Told) → Knows old h d → Knows read h d)
+    → most ≡ primary_limit old.long → text_within most octets None old.payload_types ≡ Ok p → p.ssrc ≡ ssrc → MeetsText read new t ssrc sent → Meets old new t octets sent
+meets_text old read new t most octets p ssrc sent same limit reads who m h d k =
     let one = m p who h d (same h d k) in
-    let e : text_of octets None h.payload_types ≡ Ok p = ap (λ (payload_types : PayloadTypes). text_of octets None payload_types) (sym k.payload_types) ∙ reads in
+    let e : text_within h.most octets None h.payload_types ≡ Ok p = (λ i. text_within ((sym k.most ∙ sym limit) i) octets None (sym k.payload_types i)) ∙ reads in
     record {
       knows = subst (λ (r : Result Packet TextFault). Knows new h (told_packet h d t r)) (sym e) one.knows;
       sent_is = one.sent_is ∙ ap (sent_of h d t) (sym e);
     }
 
-pub meets_none : (old new : Senders) (t : ℕ) (octets : List ℕ) (f : TextFault) → ((h : Hearing) (d : Told) → Knows old h d → Knows new h d) → text_of octets None old.payload_types ≡ Err f → Meets old new t octets Refused
-meets_none old new t octets f same reads h d k =
-    let e : text_of octets None h.payload_types ≡ Err f = ap (λ (payload_types : PayloadTypes). text_of octets None payload_types) (sym k.payload_types) ∙ reads in
+pub meets_none : (old new : Senders) (t most : ℕ) (octets : List ℕ) (f : TextFault) → ((h : Hearing) (d : Told) → Knows old h d → Knows new h d) → most ≡ primary_limit old.long → text_within most octets None old.payload_types ≡ Err f → Meets old new t octets Refused
+meets_none old new t most octets f same limit reads h d k =
+    let e : text_within h.most octets None h.payload_types ≡ Err f = (λ i. text_within ((sym k.most ∙ sym limit) i) octets None (sym k.payload_types i)) ∙ reads in
     record {
       knows = subst (λ (r : Result Packet TextFault). Knows new h (told_packet h d t r)) (sym e) (same h d k);
       sent_is = ap (sent_of h d t) (sym e);

@@ -10,7 +10,7 @@ use Rattle.link_io.specs.declared.ends.Came.TheVariants as came
 use Rattle.link_io.specs.declared.ends.LinkTake.{LinkTake}
 use Rattle.link_io.specs.Taking.{taken_of, closes, came_of}
 use Rattle.stream_spec.specs.Links.{Takes, is_closing}
-use Rattle.wire_spec.specs.Text.{text_of}
+use Rattle.wire_spec.specs.Text.{text_within}
 use Rattle.live_spec.specs.Told.{Hearing, all_by, last_chunks, ready_by, told_by}
 use Rattle.live_spec.specs.Tally.{tally_by}
 use Rattle.live_spec.proofs.Fronts.{came_closed}
@@ -91,7 +91,7 @@ module _ {A F : Type 0} (g : arrivals.Ghosts A F) where
 
       go : (c : Came) → Follows old new before after t c octets st h (told_by h takes) → IsGivingSome (closes c) (signal_of (came_of c octets)) h (record { at = t; came = came_of c octets } ∷ takes) items
           → PhaseAt st h (record { at = t; came = came_of c octets } ∷ takes) items
-      go came.Datagram f w = sent (sent_of h (told_by h takes) t (text_of octets None h.payload_types)) f.hears.1 w
+      go came.Datagram f w = sent (sent_of h (told_by h takes) t (text_within h.most octets None h.payload_types)) f.hears.1 w
       go came.Large f w = subst (λ (y : State). PhaseAt y h (record { at = t; came = came_of came.Large octets } ∷ takes) items) (sym f.hears.1) w
       go came.Quiet f w = subst (λ (y : State). PhaseAt y h (record { at = t; came = came_of came.Quiet octets } ∷ takes) items) (sym f.hears.1) w
       go came.Closed f w = subst (λ (y : State). PhaseAt y h (record { at = t; came = came_of came.Closed octets } ∷ takes) items) (sym f.hears.1) w

@@ -66,6 +66,6 @@ pub follows_closed : (old new : Ear) (senders : Senders) (taken : LinkTake) (oct
     → Becomes old new (λ settings story. ended story) → AllReady old → settings_of new ≡ settings_of old → HearsTaken old new senders senders taken octets Ending
 follows_closed old new senders taken octets is becomes all settings h d k =
     subst (λ (c : Came). Follows old new senders senders taken.at c octets Ending h d) (sym is) (record {
-      knows = record { payload_types = k.payload_types; follow = k.follow; sender = k.sender; known = k.known; moment = k.moment; last = k.last };
+      knows = record { payload_types = k.payload_types; most = k.most; follow = k.follow; sender = k.sender; known = k.known; moment = k.moment; last = k.last };
       hears = (record { becomes = becomes; all = all; settings = settings }, refl);
     })

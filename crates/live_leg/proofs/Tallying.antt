@@ -3,7 +3,7 @@ use Rattle.std.proofs.Common.{◌≡◌, ℕ, Bool, true, false, Option, Some, N
 use Rattle.std.specs.Prelude.{if◌then◌else◌}
 use Rattle.wire_spec.specs.declared.faults.TextFault.{TextFault}
 use Rattle.wire_spec.specs.Packets.{Packet}
-use Rattle.wire_spec.specs.Text.{text_of}
+use Rattle.wire_spec.specs.Text.{text_within}
 use Rattle.link_io.specs.declared.ends.Came.{Came}
 use Rattle.link_io.specs.declared.ends.Came.TheVariants as came
 use Rattle.link_io.specs.declared.ends.LinkTake.{LinkTake}
@@ -35,7 +35,7 @@ sent_as h d t (Ok p) y = go (is_sender d.sender p.ssrc) (takes_over h d t p.ssrc
 pub counts_datagram : (before after : Senders) (old new : LegTally) (taken : LinkTake) (octets : List ℕ) (sent : DatagramSender) → taken.came ≡ came.Datagram → Meets before after taken.at octets sent
     → CountsWith (counts_sent sent) old new → CountsTaken before old new taken octets
 counts_datagram before after old new taken octets sent is meets counts h d k =
-    let r = text_of octets None h.payload_types in
+    let r = text_within h.most octets None h.payload_types in
     subst (λ (c : Came). CountsWith (tally_came h d taken.at (came_of c octets)) old new) (sym is)
     (λ y now. subst (λ (z : Tally). IsTally new z) (ap (λ (x : DatagramSender). counts_sent x y) (meets h d k).sent_is ∙ sent_as h d taken.at r y) (counts y now))
 

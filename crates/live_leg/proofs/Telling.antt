@@ -5,7 +5,8 @@ use Rattle.std.proofs.lemmas.List.{append-nil}
 use Rattle.rtt_base.specs.declared.text_packets.PayloadTypes.{PayloadTypes}
 use Rattle.wire_spec.specs.declared.faults.TextFault.{TextFault}
 use Rattle.wire_spec.specs.Packets.{Arrival, Packet}
-use Rattle.wire_spec.specs.Text.{text_of}
+use Rattle.wire_spec.specs.Text.{text_within}
+use Rattle.file_spec.specs.Primaries.{primary_limit}
 use Rattle.stream_spec.specs.Fronts.{is_ready_by}
 use Rattle.stream_spec.specs.Ready.{Chunk}
 use Rattle.receiver.specs.Cuts.{is_cut, most_of}
@@ -37,20 +38,19 @@ sender_there None x e = absurd (true≢false (sym e))
 sender_there (Some s) x e = ap (λ (n : ℕ). Some n) (sym (eqb_true x s e))
 
 -- a packet that is read is read by an ear that is asked for its SSRC
-pub read_here : (octets : List ℕ) (payload_types : PayloadTypes) (p : Packet) (settings : EarSettings) → settings.payload_types ≡ payload_types → settings.ssrc ≡ p.ssrc → text_of octets None payload_types ≡ Ok p → text_for settings octets ≡ Ok p
-read_here octets payload_types p settings e s r =
-    ap (λ (x : ℕ). text_of octets (Some x) settings.payload_types) s ∙ (ap (λ (x : PayloadTypes). text_of octets (Some p.ssrc) x) e ∙ own_asked octets payload_types p r)
+pub read_here : (most : ℕ) (octets : List ℕ) (payload_types : PayloadTypes) (p : Packet) (settings : EarSettings) → settings.payload_types ≡ payload_types → primary_limit settings.long ≡ most → settings.ssrc ≡ p.ssrc → text_within most octets None payload_types ≡ Ok p → text_for settings octets ≡ Ok p
+read_here most octets payload_types p settings e l s r = (λ i. text_within (l i) octets (Some (s i)) (e i)) ∙ own_asked most octets payload_types p r
 
 -- an ear that hears the first packet of its sender, and nothing before
 pub first_heard : {F : Type 0} (lc : LegSettings) (old new : Ear) (state : State) (moment : ℕ) (packet octets : List ℕ) (takes : Takes) (items : List (Item F)) (d : Told) (t : ℕ) (p : Packet) (ssrc : ℕ)
-    (story : Story) (heard : List Chunk) → Gave old (settings_of old) (settings_of old).ssrc story heard → (settings_of old).payload_types ≡ lc.ear.payload_types → (settings_of old).wait ≡ lc.ear.wait → is_cut (settings_of old).cut ≡ true → most_of (settings_of old).cut ≡ most_of lc.ear.cut
-    → BeginsWith old new ssrc moment octets → ssrc ≡ p.ssrc → moment ≡ max d.moment t → text_of octets None lc.ear.payload_types ≡ Ok p → told_by (hearing_of lc) takes ≡ taken_over d t p → state ≡ Giving
+    (story : Story) (heard : List Chunk) → Gave old (settings_of old) (settings_of old).ssrc story heard → (settings_of old).payload_types ≡ lc.ear.payload_types → primary_limit (settings_of old).long ≡ primary_limit lc.ear.long → (settings_of old).wait ≡ lc.ear.wait → is_cut (settings_of old).cut ≡ true → most_of (settings_of old).cut ≡ most_of lc.ear.cut
+    → BeginsWith old new ssrc moment octets → ssrc ≡ p.ssrc → moment ≡ max d.moment t → text_within (primary_limit lc.ear.long) octets None lc.ear.payload_types ≡ Ok p → told_by (hearing_of lc) takes ≡ taken_over d t p → state ≡ Giving
     → texts_in 0 items ≡ all_former (hearing_of lc) (taken_over d t p).before
     → EarStands new state moment packet (hearing_of lc) takes items
-first_heard lc old new state moment packet octets takes items d t p ssrc story heard gave payload_types wait cut piece b same at reads is stands texts = subst (λ (st : State). EarStands new st moment packet (hearing_of lc) takes items) (sym stands) (
+first_heard lc old new state moment packet octets takes items d t p ssrc story heard gave payload_types most wait cut piece b same at reads is stands texts = subst (λ (st : State). EarStands new st moment packet (hearing_of lc) takes items) (sym stands) (
     let settings = settings_of old in
     let mine : EarSettings = record settings { ssrc = ssrc } in
-    let here = read_here octets lc.ear.payload_types p mine payload_types same reads in
+    let here = read_here (primary_limit lc.ear.long) octets lc.ear.payload_types p mine payload_types most same reads in
     let h = hearing_of lc in
     let now : Story = came (begun settings.wait) moment p in
     let time : max 0 moment ≡ max d.moment t = (let z : max 0 moment ≡ moment = omega arith in z ∙ at) in
@@ -62,6 +62,7 @@ first_heard lc old new state moment packet octets takes items d t p ssrc story h
           (subst (λ (r : Result Packet TextFault). Gave new mine ssrc (told (begun settings.wait) moment r) []) here (b.begins settings settings.ssrc story heard gave));
       hears = record {
         payload_types = ap (λ (k : EarSettings). k.payload_types) b.settings ∙ payload_types;
+        most = ap (λ (k : EarSettings). primary_limit k.long) b.settings ∙ most;
         wait = ap (λ (k : EarSettings). k.wait) b.settings ∙ wait;
         cut = ap (λ (k : EarSettings). is_cut k.cut) b.settings ∙ cut;
         piece = ap (λ (k : EarSettings). most_of k.cut) b.settings ∙ piece;
@@ -136,6 +137,7 @@ module _ {F : Type 0} (lc : LegSettings) (takes : Takes) (items : List (Item F))
     gave = subst (λ (k : EarSettings). Gave m k k.ssrc story s.heard) (sym settings) gave;
     hears = record {
       payload_types = ap (λ (k : EarSettings). k.payload_types) settings ∙ s.hears.payload_types;
+      most = ap (λ (k : EarSettings). primary_limit k.long) settings ∙ s.hears.most;
       wait = ap (λ (k : EarSettings). k.wait) settings ∙ s.hears.wait;
       cut = ap (λ (k : EarSettings). is_cut k.cut) settings ∙ s.hears.cut;
       piece = ap (λ (k : EarSettings). most_of k.cut) settings ∙ s.hears.piece;
@@ -155,7 +157,7 @@ module _ {F : Type 0} (lc : LegSettings) (takes : Takes) (items : List (Item F))
     story = ended s.story;
     heard = s.heard;
     gave = subst (λ (k : EarSettings). Gave m k k.ssrc (ended s.story) s.heard) (sym ends.settings) (ends.becomes.gave (settings_of l) (settings_of l).ssrc s.story s.heard s.gave);
-    hears = subst (λ (k : EarSettings). IsEarOf (hearing_of lc) (record d { closed = true }) k) (sym ends.settings) (record { payload_types = hears_now.payload_types; wait = hears_now.wait; cut = hears_now.cut; piece = hears_now.piece; sender = hears_now.sender });
+    hears = subst (λ (k : EarSettings). IsEarOf (hearing_of lc) (record d { closed = true }) k) (sym ends.settings) (record { payload_types = hears_now.payload_types; most = hears_now.most; wait = hears_now.wait; cut = hears_now.cut; piece = hears_now.piece; sender = hears_now.sender });
     past = past_now;
     at_moment = λ q. absurd (true≢false (sym q));
     all = λ _. subst (λ (k : EarSettings). ready_chunks k k.ssrc (ended s.story) ≡ story_chunks k k.ssrc (ended s.story)) (sym ends.settings)
@@ -165,7 +167,7 @@ module _ {F : Type 0} (lc : LegSettings) (takes : Takes) (items : List (Item F))
   }
 
   -- or since one took over from it
-  parts : (p : Packet) (x : ℕ) → d.sender ≡ Some x → moment ≡ max d.moment t → text_of octets None lc.ear.payload_types ≡ Ok p → Ends l m
+  parts : (p : Packet) (x : ℕ) → d.sender ≡ Some x → moment ≡ max d.moment t → text_within (primary_limit lc.ear.long) octets None lc.ear.payload_types ≡ Ok p → Ends l m
       → told_by (hearing_of lc) (record { at = t; came = link.Datagram octets } ∷ takes) ≡ taken_over d t p
       → EarStands m Parting moment octets (hearing_of lc) (record { at = t; came = link.Datagram octets } ∷ takes) items
   parts p x there at reads ends is =
@@ -186,22 +188,22 @@ module _ {F : Type 0} (lc : LegSettings) (takes : Takes) (items : List (Item F))
       }
 
   -- one took over from nobody
-  begins : (next : Takes) (p : Packet) → d.sender ≡ None → ssrc ≡ p.ssrc → moment ≡ max d.moment t → text_of octets None lc.ear.payload_types ≡ Ok p → BeginsWith l m ssrc moment octets
+  begins : (next : Takes) (p : Packet) → d.sender ≡ None → ssrc ≡ p.ssrc → moment ≡ max d.moment t → text_within (primary_limit lc.ear.long) octets None lc.ear.payload_types ≡ Ok p → BeginsWith l m ssrc moment octets
       → told_by (hearing_of lc) next ≡ taken_over d t p → EarStands m Giving moment octets (hearing_of lc) next items
   begins next p none same at reads b is =
       let empty : s.heard ≡ [] = ready_part (hearing_of lc) takes s.heard open_still (sym texts_now ∙ ready)
       ∙ ap (λ (o : Option ℕ). filter (is_ready_by d.moment) (last_chunks (hearing_of lc) o d.past)) none in
-      first_heard lc l m Giving moment octets octets next items d t p ssrc s.story s.heard s.gave hears_now.payload_types hears_now.wait hears_now.cut hears_now.piece b same at reads is refl
+      first_heard lc l m Giving moment octets octets next items d t p ssrc s.story s.heard s.gave hears_now.payload_types hears_now.most hears_now.wait hears_now.cut hears_now.piece b same at reads is refl
       (texts_now ∙ (ap (λ cs. all_former (hearing_of lc) d.before ++ cs) empty
       ∙ (append-nil (all_former (hearing_of lc) d.before) ∙ ap (λ (o : Option ℕ). all_former (hearing_of lc) (former_after o d.past (max d.moment t) d.before)) (sym none))))
 
   -- a packet of the sender
-  hears_more : (next : Takes) (p : Packet) → is_sender d.sender p.ssrc ≡ true → moment ≡ max d.moment t → text_of octets None lc.ear.payload_types ≡ Ok p → HearsMore l m moment octets
+  hears_more : (next : Takes) (p : Packet) → is_sender d.sender p.ssrc ≡ true → moment ≡ max d.moment t → text_within (primary_limit lc.ear.long) octets None lc.ear.payload_types ≡ Ok p → HearsMore l m moment octets
       → told_by (hearing_of lc) next ≡ with_packet d t p → EarStands m Giving moment octets (hearing_of lc) next items
   hears_more next p is_one at reads b is =
       let there = sender_there d.sender p.ssrc is_one in
       let mine : (settings_of l).ssrc ≡ p.ssrc = subst (λ (o : Option ℕ). IsOf o (settings_of l).ssrc d.past) there hears_now.sender in
-      let here = read_here octets lc.ear.payload_types p (settings_of l) hears_now.payload_types mine reads in
+      let here = read_here (primary_limit lc.ear.long) octets lc.ear.payload_types p (settings_of l) hears_now.payload_types hears_now.most mine reads in
       let time : max s.story.moment moment ≡ max d.moment t = (let n = moment_now in omega (arith, n, at)) in
       goes_on next (with_packet d t p) (came s.story moment p) refl
       (subst (λ (r : Result Packet TextFault). Gave m (settings_of l) (settings_of l).ssrc (told s.story moment r) s.heard) here (b.becomes.gave (settings_of l) (settings_of l).ssrc s.story s.heard s.gave))
@@ -213,7 +215,7 @@ module _ {F : Type 0} (lc : LegSettings) (takes : Takes) (items : List (Item F))
   abbrev next_takes : Takes
   next_takes = record { at = t; came = link.Datagram octets } ∷ takes
 
-  datagram : (r : Result Packet TextFault) (st : State) → text_of octets None lc.ear.payload_types ≡ r → told_by (hearing_of lc) (record { at = t; came = link.Datagram octets } ∷ takes) ≡ told_packet (hearing_of lc) d t r
+  datagram : (r : Result Packet TextFault) (st : State) → text_within (primary_limit lc.ear.long) octets None lc.ear.payload_types ≡ r → told_by (hearing_of lc) (record { at = t; came = link.Datagram octets } ∷ takes) ≡ told_packet (hearing_of lc) d t r
       → ((p : Packet) → r ≡ Ok p → (told_packet (hearing_of lc) d t r).sender ≡ Some p.ssrc → ssrc ≡ p.ssrc)
       → moment ≡ (told_packet (hearing_of lc) d t r).moment
       → HearsSent (sent_of (hearing_of lc) d t r) l m ssrc moment octets → st ≡ state_of_sent (sent_of (hearing_of lc) d t r)
@@ -246,7 +248,7 @@ pub told_more : {F : Type 0} (lc : LegSettings) (takes : Takes) (items : List (I
 told_more lc takes items l m octets first old before after t came.Datagram st s o ready f =
     let h = hearing_of lc in
     let d = told_by h takes in
-    datagram lc takes items l m first octets old s o ready after.moment (unwrap_or after.sender 0) t (text_of octets None lc.ear.payload_types) st refl refl
+    datagram lc takes items l m first octets old s o ready after.moment (unwrap_or after.sender 0) t (text_within (primary_limit lc.ear.long) octets None lc.ear.payload_types) st refl refl
     (λ p e q. ap (λ (x : Option ℕ). unwrap_or x 0) (f.knows.sender ∙ q)) f.knows.moment f.hears.0 f.hears.1
 told_more lc takes items l m octets first old before after t came.Large st s o ready f =
     let next : Takes = record { at = t; came = link.Large } ∷ takes in

@@ -2,7 +2,8 @@
 use Rattle.std.specs.Prelude.{◌≡◌, ℕ, ◌∷◌, max, take, Option, None, Some, List, Result, Ok, Err, if◌then◌else◌}
 use Rattle.wire_spec.specs.declared.faults.TextFault.{TextFault}
 use Rattle.wire_spec.specs.Packets.{Packet}
-use Rattle.wire_spec.specs.Text.{text_of}
+use Rattle.wire_spec.specs.Text.{text_within}
+use Rattle.file_spec.specs.Primaries.{primary_limit}
 use Rattle.live_spec.specs.Told.{Hearing, Told, is_sender, known_senders, last_moment, takes_over, told_moment, told_packet, untold}
 use Rattle.live_leg.specs.declared.senders.Senders.{Senders}
 use Rattle.live_leg.specs.declared.senders.DatagramSender.{DatagramSender}
@@ -11,6 +12,7 @@ use Rattle.live_leg.specs.declared.senders.DatagramSender.TheVariants.{Refused, 
 -- What is kept of a leg that is heard so, and of which that was told.
 pub record Knows (s : Senders) (h : Hearing) (d : Told) : Type 0 where
   pub payload_types : s.payload_types ≡ h.payload_types
+  pub most : primary_limit s.long ≡ h.most
   pub follow : s.follow ≡ h.follow
   pub sender : s.sender ≡ d.sender
   pub known : s.known.items ≡ known_senders d.before
@@ -47,7 +49,7 @@ MeetsText old new t ssrc sent = (p : Packet) → p.ssrc ≡ ssrc → (h : Hearin
 
 abbrev pub Meets : Senders → Senders → ℕ → List ℕ → DatagramSender → Type 0
 Meets old new t octets sent = (h : Hearing) (d : Told) → Knows old h d
-    → IsMet old new t (λ g. text_of octets None g.payload_types) sent h d
+    → IsMet old new t (λ g. text_within g.most octets None g.payload_types) sent h d
 
 -- ---- inside
 -- one more sender before: the last 64 are known
@@ -61,6 +63,7 @@ known_after (Some sender) known = remembered sender known
 -- a packet of the sender comes at the moment t
 pub record Notes (old new : Senders) (t : ℕ) : Type 0 where
   pub payload_types : new.payload_types ≡ old.payload_types
+  pub long : new.long ≡ old.long
   pub follow : new.follow ≡ old.follow
   pub sender : new.sender ≡ old.sender
   pub known : new.known.items ≡ old.known.items
@@ -70,6 +73,7 @@ pub record Notes (old new : Senders) (t : ℕ) : Type 0 where
 -- the sender of before is known
 pub record Remembers (old new : Senders) (ssrc : ℕ) : Type 0 where
   pub payload_types : new.payload_types ≡ old.payload_types
+  pub long : new.long ≡ old.long
   pub follow : new.follow ≡ old.follow
   pub sender : new.sender ≡ old.sender
   pub known : new.known.items ≡ remembered ssrc old.known.items
@@ -79,6 +83,7 @@ pub record Remembers (old new : Senders) (ssrc : ℕ) : Type 0 where
 -- one with this SSRC takes over at the moment t
 pub record TakesOver (old new : Senders) (t ssrc : ℕ) (sent : DatagramSender) : Type 0 where
   pub payload_types : new.payload_types ≡ old.payload_types
+  pub long : new.long ≡ old.long
   pub follow : new.follow ≡ old.follow
   pub sender : new.sender ≡ Some ssrc
   pub known : new.known.items ≡ known_after old.sender old.known.items

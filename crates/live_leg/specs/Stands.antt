@@ -5,7 +5,7 @@ use Rattle.stream_spec.specs.Fronts.{IsFront}
 use Rattle.stream_spec.specs.Ready.{Chunk}
 use Rattle.reorder_buffer.specs.Stories.{Story}
 use Rattle.wire_spec.specs.Packets.{Packet}
-use Rattle.wire_spec.specs.Text.{text_of}
+use Rattle.wire_spec.specs.Text.{text_within}
 use Rattle.receiver.specs.declared.ears.Ear.{Ear}
 use Rattle.receiver.specs.Hears.{Gave, arrival_count, settings_of, ready_chunks, story_chunks}
 use Rattle.stream_spec.specs.Links.{Taken, Takes, Datagram, is_closed, is_closing}
@@ -90,7 +90,7 @@ pub record IsTakenOver (h : Hearing) (takes : Takes) (octets : List ℕ) (part :
   pub takes_are : takes ≡ record { at = at; came = Datagram octets } ∷ past
   pub part_is : part ≡ told_by h past
   pub packet : Packet
-  pub reads : text_of octets None h.payload_types ≡ Ok packet
+  pub reads : text_within h.most octets None h.payload_types ≡ Ok packet
   pub over : told_by h takes ≡ taken_over part at packet
   pub ssrc : ℕ
   pub sender : part.sender ≡ Some ssrc

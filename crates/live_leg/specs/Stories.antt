@@ -7,6 +7,7 @@ use Rattle.receiver.specs.declared.settings.EarSettings.{EarSettings}
 use Rattle.receiver.specs.declared.ears.Ear.{Ear}
 use Rattle.receiver.specs.Cuts.{is_cut, most_of}
 use Rattle.receiver.specs.Hears.{AllReady, Becomes, Gave, settings_of, told, text_for}
+use Rattle.file_spec.specs.Primaries.{primary_limit}
 use Rattle.live_spec.specs.Told.{Hearing, Told}
 use Rattle.live_leg.specs.declared.settings.LegSettings.{LegSettings}
 use Rattle.live_leg.specs.declared.senders.DatagramSender.{DatagramSender}
@@ -16,7 +17,15 @@ use Rattle.live_leg.specs.declared.states.State.TheVariants.{Giving, Parting}
 
 -- what is heard of a leg that is asked for this, its texts with the source 0: whose they are is set by who mixes
 abbrev pub hearing_of : LegSettings → Hearing
-hearing_of settings = record { leg = 0; ssrc = settings.ear.ssrc; payload_types = settings.ear.payload_types; wait = settings.ear.wait; follow = settings.follow; piece = most_of settings.ear.cut }
+hearing_of settings = record {
+  leg = 0;
+  ssrc = settings.ear.ssrc;
+  payload_types = settings.ear.payload_types;
+  most = primary_limit settings.ear.long;
+  wait = settings.ear.wait;
+  follow = settings.follow;
+  piece = most_of settings.ear.cut;
+}
 
 -- ---- what an ear is told
 -- a packet of the sender came at `now`
@@ -67,6 +76,7 @@ IsOf (Some s) ssrc past = ssrc ≡ s
 -- an ear asked for this hears the sender
 pub record IsEarOf (h : Hearing) (d : Told) (settings : EarSettings) : Type 0 where
   pub payload_types : settings.payload_types ≡ h.payload_types
+  pub most : primary_limit settings.long ≡ h.most
   pub wait : settings.wait ≡ h.wait
   pub cut : is_cut settings.cut ≡ true
   pub piece : most_of settings.cut ≡ h.piece

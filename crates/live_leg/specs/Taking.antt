@@ -1,6 +1,6 @@
 -- What a take of a link tells a leg (profile).
 use Rattle.std.specs.Prelude.{◌≡◌, ℕ, None, List, unwrap_or}
-use Rattle.wire_spec.specs.Text.{text_of}
+use Rattle.wire_spec.specs.Text.{text_within}
 use Rattle.receiver.specs.declared.ears.Ear.{Ear}
 use Rattle.link_io.specs.declared.ends.Came.{Came}
 use Rattle.link_io.specs.declared.ends.Came.TheVariants.{Datagram, Large, Quiet, Closed}
@@ -24,7 +24,7 @@ HearsCame Closed sent old new after t octets state = Ends old new × (state ≡ 
 -- Of a leg that is heard so, and of which that was told before.
 pub record Follows (old new : Ear) (before after : Senders) (t : ℕ) (c : Came) (octets : List ℕ) (state : State) (h : Hearing) (d : Told) : Type 0 where
   pub knows : Knows after h (told_came h d t (came_of c octets))
-  pub hears : HearsCame c (sent_of h d t (text_of octets None h.payload_types)) old new after t octets state
+  pub hears : HearsCame c (sent_of h d t (text_within h.most octets None h.payload_types)) old new after t octets state
 
 abbrev pub HearsTaken : (old new : Ear) → Senders → Senders → LinkTake → List ℕ → State → Type 0
 HearsTaken old new before after taken octets state = (h : Hearing) (d : Told) → Knows before h d

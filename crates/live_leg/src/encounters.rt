@@ -9,7 +9,8 @@ ghost use Rattle.rtt_base.specs.declared.limits.TheConstants.{END_OF_MOMENTS};
 use crate::senders::{DatagramSender, MOST_KNOWN, Senders};
 use crate::settings::LegSettings;
 use arrayvec::ArrayVec;
-use rtp_text::read_text;
+use file_spec::primary_limit;
+use rtp_text::read_text_within;
 use rtt_base::{NoMemory, TextPacket};
 use std::alloc::Global;
 
@@ -37,6 +38,7 @@ impl Senders {
         };
         Ok(Senders {
             payload_types: settings.ear.payload_types,
+            long: settings.ear.long,
             follow: settings.follow,
             sender: first_sender(settings),
             known: ArrayVec::new(),
@@ -154,7 +156,13 @@ impl Senders {
         requires { now < END_OF_MOMENTS }
         ensures { Meets self.old self.new now octets.now result }
     {
-        match read_text(octets, None, self.payload_types, &mut self.packet) {
+        match read_text_within(
+            primary_limit(self.long),
+            octets,
+            None,
+            self.payload_types,
+            &mut self.packet,
+        ) {
             Ok(()) => {
                 let ssrc = self.packet.ssrc;
                 self.meet_text(now, ssrc)

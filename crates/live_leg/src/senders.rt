@@ -27,6 +27,8 @@ pub(crate) enum DatagramSender {
 #[derive(Drop)]
 pub(crate) struct Senders {
     pub(crate) payload_types: PayloadTypes,
+    /// Whether a primary text may have more than 1023 octets.
+    pub(crate) long: bool,
     pub(crate) follow: bool,
     /// The SSRC of the sender.
     pub(crate) sender: Option<u32>,

@@ -12,6 +12,7 @@ const EAR: EarSettings = EarSettings {
     ssrc: 1001,
     payload_types: PayloadTypes { t140: 98, red: 100 },
     wait: 1000,
+    long: false,
     cut: TextCut::Long,
 };
 

@@ -6,7 +6,7 @@ use Rattle.std.proofs.lemmas.List.{append-nil, map-append}
 use Rattle.std.proofs.lemmas.List.Elements.{filter-append}
 use Rattle.wire_spec.specs.declared.faults.TextFault.{TextFault}
 use Rattle.wire_spec.specs.Packets.{Arrival, Packet}
-use Rattle.wire_spec.specs.Text.{text_of}
+use Rattle.wire_spec.specs.Text.{text_within}
 use Rattle.stream_spec.specs.Lists.{In}
 use Rattle.stream_spec.specs.Numbering.{Falling, Numbered, numbered}
 use Rattle.stream_spec.specs.Hearing.{marker}
@@ -240,7 +240,7 @@ goes_text h d t (Ok p) g = go (is_sender d.sender p.ssrc) (takes_over h d t p.ss
     go false false = goes_same h d g
 
 goes_came : (h : Hearing) (d : Told) (t : ℕ) (came : Came) → Good d → Goes h d (told_came h d t came)
-goes_came h d t (Datagram octets) g = goes_text h d t (text_of octets None h.payload_types) g
+goes_came h d t (Datagram octets) g = goes_text h d t (text_within h.most octets None h.payload_types) g
 goes_came h d t Large g = goes_moment h d t g
 goes_came h d t Quiet g = goes_moment h d t g
 goes_came h d t Closed g = goes_closed h d g
@@ -256,7 +256,7 @@ text_closed h d t (Ok p) = go (is_sender d.sender p.ssrc) (takes_over h d t p.ss
     go false false = refl
 
 pub came_closed : (h : Hearing) (d : Told) (t : ℕ) (came : Came) → (told_came h d t came).closed ≡ (is_closing came || d.closed)
-came_closed h d t (Datagram octets) = text_closed h d t (text_of octets None h.payload_types)
+came_closed h d t (Datagram octets) = text_closed h d t (text_within h.most octets None h.payload_types)
 came_closed h d t Large = refl
 came_closed h d t Quiet = refl
 came_closed h d t Closed = refl

@@ -8,7 +8,7 @@ use Rattle.rtt_base.specs.declared.text_packets.PayloadTypes.{PayloadTypes}
 use Rattle.wire_spec.specs.declared.faults.TextFault.{TextFault}
 use Rattle.wire_spec.specs.Packets.{Packet, Arrival}
 use Rattle.wire_spec.specs.Rtp.{rtp}
-use Rattle.wire_spec.specs.Text.{text_of, text_of_short}
+use Rattle.wire_spec.specs.Text.{short_within, text_of, text_of_short, text_within}
 use Rattle.wire_spec.specs.Dump.{Whole, Rtcp, Item, Recording, latest, arrived, arrivals_with, arrivals_after, arrivals}
 use Rattle.stream_spec.specs.Ready.{chunks}
 use Rattle.stream_spec.specs.Still.{still}
@@ -50,7 +50,7 @@ module _ (ssrc : ℕ) (payload_types : PayloadTypes) where
 
   -- no octets are none
   nothing_is_none : (octets : List ℕ) → eqb (length octets) 0 ≡ true → IsNone octets
-  unfolding text_of text_of_short rtp
+  unfolding text_within short_within rtp
   nothing_is_none [] e = λ t past. refl
   nothing_is_none (x ∷ octets) e =
       let none : length (x ∷ octets) ≡ 0 = (Decides-eqb (length (x ∷ octets)) 0).0 e in
@@ -75,9 +75,9 @@ with_text t (Ok p) past = record { time = t; packet = p } ∷ past
 with_text t (Err f) past = past
 
 -- the texts among entries, which stand newest first
-abbrev texts : ℕ → PayloadTypes → List Entry → List Arrival
-texts ssrc payload_types [] = []
-texts ssrc payload_types (e ∷ past) = with_text e.at (text_of e.octets (Some ssrc) payload_types) (texts ssrc payload_types past)
+abbrev texts : (most ssrc : ℕ) → PayloadTypes → List Entry → List Arrival
+texts most ssrc payload_types [] = []
+texts most ssrc payload_types (e ∷ past) = with_text e.at (text_within most e.octets (Some ssrc) payload_types) (texts most ssrc payload_types past)
 
 abbrev latest_entry : List Entry → ℕ
 latest_entry [] = 0
@@ -88,18 +88,18 @@ EntriesRise [] = Unit {0}
 EntriesRise (e ∷ past) = (latest_entry past ≤ e.at) × EntriesRise past
 
 -- none comes later than the last entry
-texts_before : (ssrc : ℕ) (payload_types : PayloadTypes) (past : List Entry) → EntriesRise past → latest (texts ssrc payload_types past) ≤ latest_entry past
+texts_before : (ssrc : ℕ) (payload_types : PayloadTypes) (past : List Entry) → EntriesRise past → latest (texts 1023 ssrc payload_types past) ≤ latest_entry past
 texts_before ssrc payload_types [] r = omega arith
 texts_before ssrc payload_types (e ∷ past) r = go (text_of e.octets (Some ssrc) payload_types) (texts_before ssrc payload_types past r.1)
   where
-    go : (q : Result Packet TextFault) → latest (texts ssrc payload_types past) ≤ latest_entry past → latest (with_text e.at q (texts ssrc payload_types past)) ≤ e.at
+    go : (q : Result Packet TextFault) → latest (texts 1023 ssrc payload_types past) ≤ latest_entry past → latest (with_text e.at q (texts 1023 ssrc payload_types past)) ≤ e.at
     go (Ok p) h = omega arith
     go (Err f) h = omega (arith, h, r.0)
 
 -- ---- what was told of its SSRC
 
 record IsTold (h : Hearing) (takes : Takes) : Type 0 where
-  texts_are : (plain_by h takes).past ≡ texts h.ssrc h.payload_types (datagrams takes)
+  texts_are : (plain_by h takes).past ≡ texts h.most h.ssrc h.payload_types (datagrams takes)
   early : (plain_by h takes).moment ≤ latest_take takes
 
 told_text : (d : Plain) (t : ℕ) (r : Result Packet TextFault) → d.moment ≤ t → ((plain_packet d t r).past ≡ with_text t r d.past) × ((plain_packet d t r).moment ≤ t)
@@ -114,9 +114,9 @@ told h (a ∷ takes) r = go a.came (told h takes r.1)
   where
     go : (c : Came) → IsTold h takes → IsTold h (record { at = a.at; came = c } ∷ takes)
     go (Datagram octets) m =
-        let one = told_text (plain_by h takes) a.at (text_of octets (Some h.ssrc) h.payload_types) (omega (arith, m.early, r.0)) in
+        let one = told_text (plain_by h takes) a.at (text_within h.most octets (Some h.ssrc) h.payload_types) (omega (arith, m.early, r.0)) in
         record {
-          texts_are = one.0 ∙ ap (λ (past : List Arrival). with_text a.at (text_of octets (Some h.ssrc) h.payload_types) past) m.texts_are;
+          texts_are = one.0 ∙ ap (λ (past : List Arrival). with_text a.at (text_within h.most octets (Some h.ssrc) h.payload_types) past) m.texts_are;
           early = one.1;
         }
     go Large m = record { texts_are = m.texts_are; early = omega (arith, m.early, r.0) }
@@ -181,7 +181,7 @@ module _ (start ssrc : ℕ) (payload_types : PayloadTypes) (given : AreGiven pay
 
   record IsOut (past : List Entry) (ps : Parts) : Type 0 where
     begun : ps.last.begins ≤ latest_entry past
-    are : out_of_all ps ≡ texts ssrc payload_types past
+    are : out_of_all ps ≡ texts 1023 ssrc payload_types past
 
   out_more_all : (past : List Entry) (e : Entry) (ps : Parts) → EntriesRise (e ∷ past) → IsOut past ps → IsOut (e ∷ past) (record { over = ps.over; last = with_entry ps.last e })
   out_more_all past e ps rise o =
@@ -241,6 +241,7 @@ files_heard start h takes a =
     let g = recorded_good start (datagrams takes) a.short in
     same_out start h.ssrc h.payload_types a.types (ps.last ∷ reverse ps.over) (g.last, all_reversed (IsGood start) ps.over g.over)
     ∙ (out_recorded start h.ssrc h.payload_types a.types (datagrams takes) d.rise).are
+    ∙ ap (λ (n : ℕ). texts n h.ssrc h.payload_types (datagrams takes)) (sym a.brief)
     ∙ sym (told h takes a.rise).texts_are
     ∙ sym (ap (λ (d : Told). d.past) (unfollowed_law h takes a.alone).told)
 

@@ -3,7 +3,7 @@ use Rattle.std.proofs.Common.{◌≡◌, ℕ, Bool, true, false, Option, Some, N
 use Rattle.std.specs.Prelude.{flat_map, unwrap_or, if◌then◌else◌}
 use Rattle.wire_spec.specs.declared.faults.TextFault.{TextFault}
 use Rattle.wire_spec.specs.Packets.{Arrival, Packet}
-use Rattle.wire_spec.specs.Text.{text_of}
+use Rattle.wire_spec.specs.Text.{text_within}
 use Rattle.stream_spec.specs.Hearing.{heard}
 use Rattle.stream_spec.specs.Still.{still}
 use Rattle.file_spec.specs.Conference.{Conference}
@@ -39,7 +39,7 @@ packet_begins h d t (Ok p) b = go (is_sender d.sender p.ssrc) (takes_over h d t 
     go false false e = b
 
 came_begins : (h : Hearing) (d : Told) (t : ℕ) (came : Came) → Begins d → Begins (told_came h d t came)
-came_begins h d t (Datagram octets) b = packet_begins h d t (text_of octets None h.payload_types) b
+came_begins h d t (Datagram octets) b = packet_begins h d t (text_within h.most octets None h.payload_types) b
 came_begins h d t Large b = b
 came_begins h d t Quiet b = b
 came_begins h d t Closed b = b

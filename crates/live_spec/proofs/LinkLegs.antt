@@ -11,7 +11,7 @@ use Rattle.rtt_base.specs.Steps.{◌>>=◌}
 use Rattle.file_spec.specs.Steps.{unless}
 use Rattle.file_spec.specs.Lines.{Line}
 use Rattle.file_spec.specs.Numbers.{payload_types}
-use Rattle.file_spec.specs.Conference.{Above, Conference, Entry, Generations, Leg, Mixer, Plan, Relabel, Mtu, Follows, Serves, Spacing, Stays, Tick, Turns, Wait, and_line, change_leg, clashes, conference_from, has_port, is_mixers, is_operators, leg, leg_of, most_legs, new_leg, port, shares_own, shares_path, usual_types, whole_stay, with_entry, with_follow, with_generations}
+use Rattle.file_spec.specs.Conference.{Above, Conference, Entry, Generations, Leg, Mixer, Plan, Relabel, Mtu, Follows, Longs, Serves, Spacing, Stays, Tick, Turns, Wait, and_line, change_leg, clashes, conference_from, has_port, is_mixers, is_operators, leg, leg_of, most_legs, new_leg, port, shares_own, shares_path, usual_types, whole_stay, with_entry, with_follow, with_generations, with_long}
 use Rattle.rtt_base.proofs.Steps.{bind_ok}
 use Rattle.file_spec.proofs.Passed.{unless_ok}
 use Rattle.file_spec.proofs.EachLine.{HoldsOf, leg_read, entry_holds, line_adds, lines_of, completed}
@@ -35,6 +35,7 @@ Fits above (Relabel n) = Unit {0}
 Fits above (Mtu n) = Unit {0}
 Fits above (Plan p) = Unit {0}
 Fits above (Follows k) = Unit {0}
+Fits above (Longs k) = Unit {0}
 Fits above (Serves s) = Unit {0}
 
 -- ---- legs
@@ -83,6 +84,7 @@ entry_fits above n = record {
   each_mtu = λ ws x e. tt;
   each_follow = λ q ws x e. tt;
   each_counts = λ ws x e. tt;
+  each_long = λ ws x e. tt;
   each_service = λ q word ws x e. tt;
 }
 
@@ -107,6 +109,7 @@ module _ (Fit : List LegLine → Type 0) (none : Fit []) (push : (above : List L
   more above (Mixer x) f n = f
   more above (Plan p) f n = f
   more above (Follows k) f n = changed with_follow (record { stay = λ l. refl; input = λ l. refl }) k above.legs f
+  more above (Longs k) f n = changed with_long (record { stay = λ l. refl; input = λ l. refl }) k above.legs f
   more above (Serves s) f n = f
 
   line_fits : (above later : Above) (line : Line) → and_line Links above line ≡ Ok later → Fit above.legs → Fit later.legs

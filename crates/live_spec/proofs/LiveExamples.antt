@@ -6,8 +6,8 @@ use Rattle.std.specs.Str.{is_utf8, chars}
 use Rattle.std.specs.Char.{encode_utf8}
 use Rattle.std.specs.Fmt.{digits}
 use Rattle.wire_spec.specs.Rtp.{rtp, rtp_of_header}
-use Rattle.wire_spec.specs.Red.{headers_at, texts_at, red}
-use Rattle.wire_spec.specs.Text.{text_of_short, text_of}
+use Rattle.wire_spec.specs.Red.{headers_at, red, red_within, texts_at, texts_within}
+use Rattle.wire_spec.specs.Text.{short_within, text_of, text_of_short, text_within}
 use Rattle.file_spec.specs.declared.conference_lines.Form.TheVariants.{Links}
 use Rattle.file_spec.specs.declared.conference_lines.LegLine.{LegLine}
 use Rattle.file_spec.specs.Services.{no_service}
@@ -35,10 +35,10 @@ abbrev legs : List ℕ
 legs = codes "leg Ann aware 1001 5004 127.0.0.1:6004\nleg Bob aware 1002 5006 127.0.0.1:6006\nmixer 9000 100 5000\n"
 
 abbrev ann : LegLine
-ann = record { line = 1; name = codes "Ann"; aware = true; ssrc = 1001; input = codes "5004"; output = codes "127.0.0.1:6004"; payload_types = types; generations = 2; stay = for_good; follow = false }
+ann = record { line = 1; name = codes "Ann"; aware = true; ssrc = 1001; input = codes "5004"; output = codes "127.0.0.1:6004"; payload_types = types; generations = 2; stay = for_good; follow = false; long = false }
 
 abbrev bob : LegLine
-bob = record { line = 2; name = codes "Bob"; aware = true; ssrc = 1002; input = codes "5006"; output = codes "127.0.0.1:6006"; payload_types = types; generations = 2; stay = for_good; follow = false }
+bob = record { line = 2; name = codes "Bob"; aware = true; ssrc = 1002; input = codes "5006"; output = codes "127.0.0.1:6006"; payload_types = types; generations = 2; stay = for_good; follow = false; long = false }
 
 abbrev call : ℕ → Conference
 call turns = record { legs = ann ∷ bob ∷ []; tick = 100; spacing = 300; wait = 1000; turns = turns; relabel = None; mtu = None; mixer = record { ssrc = 9000; seq = 100; timestamp = 5000 }; plan = []; service = no_service }
@@ -93,15 +93,15 @@ abbrev shows : List ℕ → ℕ → End → List ℕ
 shows line came end = (view (codes "Ann") (codes "Bob") [] 0 ++ (view (codes "Bob") (codes "Ann") line came ++ [])) ++ end_line end
 
 closed_is_printed : shows (codes "A") 3 Closed ≡ live_printed (call 5000000) to_the_end (to_bob (first ∷ second ∷ third ∷ [])) Closed
-unfolding is_utf8 chars encode_utf8 text_of text_of_short rtp rtp_of_header red headers_at texts_at shown class_of
+unfolding is_utf8 chars encode_utf8 text_within short_within rtp rtp_of_header red_within headers_at texts_within shown class_of
 closed_is_printed = refl
 
 nothing_is_printed : shows [] 0 Done ≡ live_printed (call 1) quiet (to_bob []) Done
-unfolding is_utf8 chars encode_utf8 text_of text_of_short rtp rtp_of_header red headers_at texts_at shown class_of
+unfolding is_utf8 chars encode_utf8 text_within short_within rtp rtp_of_header red_within headers_at texts_within shown class_of
 nothing_is_printed = refl
 
 letter_is_printed : shows (codes "A") 1 Done ≡ live_printed (call 1) one_letter (to_bob (first ∷ [])) Done
-unfolding is_utf8 chars encode_utf8 text_of text_of_short rtp rtp_of_header red headers_at texts_at shown class_of
+unfolding is_utf8 chars encode_utf8 text_within short_within rtp rtp_of_header red_within headers_at texts_within shown class_of
 letter_is_printed = refl
 
 -- ---- the runs
@@ -184,11 +184,11 @@ closed_seated (suc zero) low = refl
 closed_seated (suc (suc i)) low = absurd (omega (arith, low))
 
 all_taken : AreTaken offered
-unfolding is_utf8 chars encode_utf8 text_of text_of_short rtp rtp_of_header red headers_at texts_at
+unfolding is_utf8 chars encode_utf8 text_within short_within rtp rtp_of_header red_within headers_at texts_within
 all_taken = (refl, refl)
 
 closed_live : AreLive (setup long) (hearing_at long) to_the_end (chunks_live long to_the_end) (heard_each 7) (turned offered)
-unfolding is_utf8 chars encode_utf8 text_of text_of_short rtp rtp_of_header red headers_at texts_at
+unfolding is_utf8 chars encode_utf8 text_within short_within rtp rtp_of_header red_within headers_at texts_within
 closed_live = (
   closed_turn (drop 1 (turned offered)) (heard_each 7) 2 1 refl refl refl refl (omega arith) (omega arith) refl refl all_taken refl,
   (
@@ -213,17 +213,17 @@ closed_live = (
 )
 
 packets_to_bob : first ∷ second ∷ third ∷ [] ≡ given_to long (closed_after (turned offered)) 1 bob
-unfolding is_utf8 chars encode_utf8 text_of text_of_short rtp rtp_of_header red headers_at texts_at
+unfolding is_utf8 chars encode_utf8 text_within short_within rtp rtp_of_header red_within headers_at texts_within
 packets_to_bob = refl
 
 closed_gives : (j : ℕ) (leg : LegLine) → leg_at long.legs j ≡ Some leg → to_bob (first ∷ second ∷ third ∷ []) j ≡ given_to long (closed_after (turned offered)) j leg
-unfolding is_utf8 chars encode_utf8 text_of text_of_short rtp rtp_of_header red headers_at texts_at
+unfolding is_utf8 chars encode_utf8 text_within short_within rtp rtp_of_header red_within headers_at texts_within
 closed_gives zero leg e = let is : ann ≡ leg = cc e in ap (λ l. given_to long (closed_after (turned offered)) 0 l) is
 closed_gives (suc zero) leg e = let is : bob ≡ leg = cc e in packets_to_bob ∙ ap (λ l. given_to long (closed_after (turned offered)) 1 l) is
 closed_gives (suc (suc j)) leg e = absurd (cc e)
 
 closed_idle : is_idle (setup long) (closed_after (turned offered)) ≡ true
-unfolding is_utf8 chars encode_utf8 text_of text_of_short rtp rtp_of_header red headers_at texts_at
+unfolding is_utf8 chars encode_utf8 text_within short_within rtp rtp_of_header red_within headers_at texts_within
 closed_idle = refl
 
 closed_drained : (j : ℕ) → j < 2 → IsDrained long to_the_end (closed_after (turned offered)) j
@@ -247,12 +247,12 @@ live_closed = record {
 
 -- by `watch`, behind the same lines: of Ann one octet, of Bob none
 watch_closed : board_lines long (chunks_live long to_the_end) ≡ board_line ann 1 ++ (board_line bob 0 ++ [])
-unfolding is_utf8 chars encode_utf8 text_of text_of_short rtp rtp_of_header red headers_at texts_at
+unfolding is_utf8 chars encode_utf8 text_within short_within rtp rtp_of_header red_within headers_at texts_within
 watch_closed = refl
 
 -- of Ann's link one datagram came, of Bob's none
 long_counts : counts_lines long to_the_end ≡ codes "-- Ann came 1 text 1 refused 0 foreign 0 senders 1\n-- Bob came 0 text 0 refused 0 foreign 0 senders 0\n"
-unfolding digits tally_heard tally_unheard is_utf8 chars encode_utf8 text_of text_of_short rtp rtp_of_header red headers_at texts_at
+unfolding digits tally_heard tally_unheard is_utf8 chars encode_utf8 text_within short_within rtp rtp_of_header red_within headers_at texts_within
 long_counts = refl
 
 -- so it keeps what is promised
@@ -299,15 +299,15 @@ live_done = done_at_once quiet [] (shows [] 0 Done) (table_after 1 quiet (Turn 0
 
 -- ---- one turn, and a letter before it
 letter_ready : taken_of 1 one_letter offered 0 ≡ ready_by (hearing_at short 0) (one_letter 0)
-unfolding is_utf8 chars encode_utf8 text_of text_of_short rtp rtp_of_header red headers_at texts_at
+unfolding is_utf8 chars encode_utf8 text_within short_within rtp rtp_of_header red_within headers_at texts_within
 letter_ready = refl
 
 none_ready : taken_of 1 one_letter offered 1 ≡ ready_by (hearing_at short 1) (one_letter 1)
-unfolding is_utf8 chars encode_utf8 text_of text_of_short rtp rtp_of_header red headers_at texts_at
+unfolding is_utf8 chars encode_utf8 text_within short_within rtp rtp_of_header red_within headers_at texts_within
 none_ready = refl
 
 letter_seats : (is_seated (table_after 1 one_letter offered).seats 0 ≡ true) × (is_seated (table_after 1 one_letter offered).seats 1 ≡ true)
-unfolding is_utf8 chars encode_utf8 text_of text_of_short rtp rtp_of_header red headers_at texts_at
+unfolding is_utf8 chars encode_utf8 text_within short_within rtp rtp_of_header red_within headers_at texts_within
 letter_seats = (refl, refl)
 
 letter_turn : AllMayTurn (setup short) (hearing_at short) one_letter (chunks_live short one_letter) offered (at_last []) (at_last (heard 2 1 ∷ []))
@@ -324,11 +324,11 @@ letter_seated (suc zero) low = refl
 letter_seated (suc (suc i)) low = absurd (omega (arith, low))
 
 letter_to_bob : first ∷ [] ≡ given_to short (table_after 1 one_letter (Turn 0 ∷ offered)) 1 bob
-unfolding is_utf8 chars encode_utf8 text_of text_of_short rtp rtp_of_header red headers_at texts_at
+unfolding is_utf8 chars encode_utf8 text_within short_within rtp rtp_of_header red_within headers_at texts_within
 letter_to_bob = refl
 
 letter_gives : (j : ℕ) (leg : LegLine) → leg_at short.legs j ≡ Some leg → to_bob (first ∷ []) j ≡ given_to short (table_after 1 one_letter (Turn 0 ∷ offered)) j leg
-unfolding is_utf8 chars encode_utf8 text_of text_of_short rtp rtp_of_header red headers_at texts_at
+unfolding is_utf8 chars encode_utf8 text_within short_within rtp rtp_of_header red_within headers_at texts_within
 letter_gives zero leg e = let is : ann ≡ leg = cc e in ap (λ l. given_to short (table_after 1 one_letter (Turn 0 ∷ offered)) 0 l) is
 letter_gives (suc zero) leg e = let is : bob ≡ leg = cc e in letter_to_bob ∙ ap (λ l. given_to short (table_after 1 one_letter (Turn 0 ∷ offered)) 1 l) is
 letter_gives (suc (suc j)) leg e = absurd (cc e)

@@ -4,7 +4,7 @@ use Rattle.std.specs.Prelude.{Result, Ok, Err, max, if◌then◌else◌}
 use Rattle.std.proofs.lemmas.List.{append-nil}
 use Rattle.wire_spec.specs.declared.faults.TextFault.{TextFault}
 use Rattle.wire_spec.specs.Packets.{Arrival, Packet}
-use Rattle.wire_spec.specs.Text.{text_of}
+use Rattle.wire_spec.specs.Text.{text_within}
 use Rattle.stream_spec.specs.Fronts.{IsFront}
 use Rattle.stream_spec.specs.Links.{Came, Closed, Datagram, Large, Quiet, Takes}
 use Rattle.live_spec.specs.Told.{Former, Hearing, Told, all_former, former_after, former_chunks, is_sender, last_chunks, taken_over, takes_over, told_by, told_came, told_packet, with_packet}
@@ -57,7 +57,7 @@ text_formers h d t (Ok p) = go (is_sender d.sender p.ssrc) (takes_over h d t p.s
 
 -- ---- takes
 came_senders : (h : Hearing) (d : Told) (t : ℕ) (came : Came) → AreSenders d → AreSenders (told_came h d t came)
-came_senders h d t (Datagram octets) s = text_senders h d t (text_of octets None h.payload_types) s
+came_senders h d t (Datagram octets) s = text_senders h d t (text_within h.most octets None h.payload_types) s
 came_senders h d t Large s = record { own = s.own; former = s.former }
 came_senders h d t Quiet s = record { own = s.own; former = s.former }
 came_senders h d t Closed s = record { own = s.own; former = s.former }
@@ -67,7 +67,7 @@ senders_law h [] = record { own = λ ssrc q a i. absurd i; former = tt }
 senders_law h (a ∷ past) = came_senders h (told_by h past) a.at a.came (senders_law h past)
 
 came_formers : (h : Hearing) (d : Told) (t : ℕ) (came : Came) → IsFront (all_former h d.before) (all_former h (told_came h d t came).before)
-came_formers h d t (Datagram octets) = text_formers h d t (text_of octets None h.payload_types)
+came_formers h d t (Datagram octets) = text_formers h d t (text_within h.most octets None h.payload_types)
 came_formers h d t Large = ([], sym (append-nil (all_former h d.before)))
 came_formers h d t Quiet = ([], sym (append-nil (all_former h d.before)))
 came_formers h d t Closed = ([], sym (append-nil (all_former h d.before)))

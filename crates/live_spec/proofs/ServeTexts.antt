@@ -4,7 +4,7 @@ use Rattle.std.specs.Prelude.{map, max, if◌then◌else◌}
 use Rattle.rtt_base.specs.declared.text_packets.PayloadTypes.{PayloadTypes}
 use Rattle.wire_spec.specs.declared.faults.TextFault.{TextFault}
 use Rattle.wire_spec.specs.Packets.{AreTextArrivals, Arrival, IsTextPacket, Packet}
-use Rattle.wire_spec.specs.Text.{text_of}
+use Rattle.wire_spec.specs.Text.{text_within}
 use Rattle.wire_spec.specs.Dump.{arrived, sent_item}
 use Rattle.stream_spec.specs.Hearing.{marker}
 use Rattle.stream_spec.specs.Ready.{Chunk, chunk, chunks}
@@ -14,7 +14,7 @@ use Rattle.stream_spec.proofs.Still.{texts_still}
 use Rattle.mixer_spec.specs.Laws.{AllTexts, AreTexts}
 use Rattle.mixer_spec.proofs.Chunks.{texts_law}
 use Rattle.mixer_spec.proofs.Heard.{chunks_law}
-use Rattle.mixer_spec.proofs.Recordings.{recordings_law}
+use Rattle.mixer_spec.proofs.Recordings.{arrivals_are_texts}
 use Rattle.stream_spec.specs.Links.{Came, Datagram, Large, Quiet, Closed, Takes}
 use Rattle.live_spec.specs.Told.{Former, Hearing, Told, all_former, all_told, former_after, former_chunks, is_sender, last_chunks, ready_until, sender_chunks, taken_over, takes_over, told_by, told_came, told_packet, with_packet}
 use Rattle.live_spec.specs.Live.{live_chunks}
@@ -34,8 +34,8 @@ abbrev IsText : Result Packet TextFault → Type 0
 IsText r = (p : Packet) → r ≡ Ok p → IsTextPacket p
 
 -- what is read is a text
-read_text : (octets : List ℕ) (payload_types : PayloadTypes) → IsText (text_of octets None payload_types)
-read_text octets payload_types p e = (subst (λ (r : Result Packet TextFault). AreTextArrivals (arrived 0 r [])) (own_asked octets payload_types p e) (recordings_law (sent_item (0, octets) ∷ []) p.ssrc payload_types).0).0
+read_text : (most : ℕ) (octets : List ℕ) (payload_types : PayloadTypes) → IsText (text_within most octets None payload_types)
+read_text most octets payload_types p e = (subst (λ (r : Result Packet TextFault). AreTextArrivals (arrived 0 r [])) (own_asked most octets payload_types p e) (arrivals_are_texts most (sent_item (0, octets) ∷ []) p.ssrc payload_types)).0
 
 former_texts : (sender : Option ℕ) (past : List Arrival) (m : ℕ) (before : List Former) → AreTextArrivals past → FormerTexts before → FormerTexts (former_after sender past m before)
 former_texts None past m before a b = b
@@ -51,7 +51,7 @@ packet_texts h d t (Ok p) one a = go (is_sender d.sender p.ssrc) (takes_over h d
     go false false = a
 
 came_texts : (h : Hearing) (d : Told) (t : ℕ) (came : Came) → ToldTexts d → ToldTexts (told_came h d t came)
-came_texts h d t (Datagram octets) a = packet_texts h d t (text_of octets None h.payload_types) (read_text octets h.payload_types) a
+came_texts h d t (Datagram octets) a = packet_texts h d t (text_within h.most octets None h.payload_types) (read_text h.most octets h.payload_types) a
 came_texts h d t Large a = record { past = a.past; before = a.before }
 came_texts h d t Quiet a = record { past = a.past; before = a.before }
 came_texts h d t Closed a = record { past = a.past; before = a.before }

@@ -3,7 +3,7 @@ use Rattle.std.proofs.Common.{◌≡◌, ◌≤◌, ◌⊎◌, ◌+◌, ℕ, Boo
 use Rattle.std.specs.Prelude.{suc, max, length, if◌then◌else◌}
 use Rattle.wire_spec.specs.declared.faults.TextFault.{TextFault}
 use Rattle.wire_spec.specs.Packets.{Packet, Arrival}
-use Rattle.wire_spec.specs.Text.{text_of}
+use Rattle.wire_spec.specs.Text.{text_within}
 use Rattle.stream_spec.specs.Links.{Came, Datagram, Large, Quiet, Closed, Takes}
 use Rattle.live_spec.specs.Told.{Former, Hearing, Told, former_after, is_sender, taken_over, takes_over, told_by, told_came, told_packet, with_packet}
 use Rattle.view_spec.specs.declared.tallies.Tally.{Tally}
@@ -104,7 +104,7 @@ sums_of : (h : Hearing) (d : Told) (y : Tally) (n m : ℕ) → n ≡ m → Sums 
 sums_of h d y n m e s = record { came = s.came ∙ e; parts = s.parts; text = s.text; senders = s.senders; begun = s.begun; followed = s.followed }
 
 came_sums : (h : Hearing) (d : Told) (t : ℕ) (came : Came) (y : Tally) (n : ℕ) → Sums h d y n → Sums h (told_came h d t came) (tally_came h d t came y) ((if is_datagram came then 1 else 0) + n)
-came_sums h d t (Datagram octets) y n s = sums_of h _ _ (suc n) (1 + n) (omega arith) (packet_sums h d t (text_of octets None h.payload_types) y n s)
+came_sums h d t (Datagram octets) y n s = sums_of h _ _ (suc n) (1 + n) (omega arith) (packet_sums h d t (text_within h.most octets None h.payload_types) y n s)
 came_sums h d t Large y n s =
     let w = refused_sums h d y n s in
     record { came = w.came ∙ omega arith; parts = w.parts; text = w.text; senders = w.senders; begun = w.begun; followed = w.followed }

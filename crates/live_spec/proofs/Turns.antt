@@ -8,6 +8,7 @@ use Rattle.stream_spec.specs.History.{Placed}
 use Rattle.stream_spec.specs.Kept.{Marker, Block, Rising, blocks_in, text_of, texts}
 use Rattle.stream_spec.proofs.Blocks.{blocks_in_append, in_blocks_in, l2_rises, rising_append}
 use Rattle.stream_spec.proofs.Lists.{in_append, in_left, in_right}
+use Rattle.mixer_spec.proofs.TwoHops.{short_block}
 use Rattle.mixer_spec.specs.Laws.{PartsAt}
 use Rattle.mixer_spec.specs.Headline.{Hop, IsBlock, IsHop, hears, told, used}
 use Rattle.mixer_spec.proofs.OneHop.{absent_lost, block_is, lost_absent, one_hop, places_of}
@@ -109,7 +110,7 @@ turn_same n (p ∷ before) last x y h k q = go (λ u v. turn_same (n + length p.
     go f (inr h) (inl k) = let l = below y k in let m = one_from (n + length p.sent.entries) before last x h in absurd (omega (arith, l, m, q))
 
 one_fits : (n : ℕ) (p : Hop) → IsHop p → (x k : Placed) → x ≡ later n k → IsBlock p k → length x.text ≤ 8192
-one_fits n p ip x k e b = let t = (ip.lawful.text k b.sent).0 in let s : length x.text ≡ length k.text = ap (λ (z : Placed). length z.text) e in omega (arith, t, s)
+one_fits n p ip x k e b = let t = short_block p ip k b in let s : length x.text ≡ length k.text = ap (λ (z : Placed). length z.text) e in omega (arith, t, s)
 
 pub turn_fits : (n : ℕ) (before : List Hop) (last : Hop) (x : Placed) → AreHops before last → HoldsOfOne IsBlock n before last x → length x.text ≤ 8192
 turn_fits n [] last x a h = one_fits n last a.last x h.0 h.1 h.2

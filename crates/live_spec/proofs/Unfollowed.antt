@@ -5,7 +5,7 @@ use Rattle.std.proofs.lemmas.Bool.{eq-eqb, false≢true}
 use Rattle.rtt_base.specs.declared.text_packets.PayloadTypes.{PayloadTypes}
 use Rattle.wire_spec.specs.declared.faults.TextFault.{TextFault}
 use Rattle.wire_spec.specs.Packets.{Packet, Arrival}
-use Rattle.wire_spec.specs.Text.{text_of}
+use Rattle.wire_spec.specs.Text.{text_within}
 use Rattle.stream_spec.specs.Links.{Came, Datagram, Large, Quiet, Closed, Takes}
 use Rattle.live_spec.specs.Told.{Hearing, Told, all_by, all_told, heard_told, ready_told, sender_chunks, sender_texts, told_by, told_came, told_packet}
 use Rattle.live_spec.specs.ToldLaws.{IsPlain, Plain, Unfollowed, plain_by, plain_came, plain_packet}
@@ -20,17 +20,17 @@ record Same (ssrc : ℕ) (d : Told) (p : Plain) : Type 0 where
   closed : d.closed ≡ p.closed
 
 abbrev plain : Hearing → Hearing
-plain h = record { leg = h.leg; ssrc = h.ssrc; payload_types = h.payload_types; wait = h.wait; follow = false; piece = h.piece }
+plain h = record { leg = h.leg; ssrc = h.ssrc; payload_types = h.payload_types; most = h.most; wait = h.wait; follow = false; piece = h.piece }
 
 -- a packet is read alike where its SSRC is asked for
 record Alike (ssrc : ℕ) (any own : Result Packet TextFault) : Type 0 where
   mine : (p : Packet) → any ≡ Ok p → p.ssrc ≡ ssrc → own ≡ Ok p
   back : (p : Packet) → own ≡ Ok p → (any ≡ Ok p) × (p.ssrc ≡ ssrc)
 
-alike : (octets : List ℕ) (ssrc : ℕ) (payload_types : PayloadTypes) → Alike ssrc (text_of octets None payload_types) (text_of octets (Some ssrc) payload_types)
-alike octets ssrc payload_types = record {
-  mine = λ p e q. subst (λ (s : ℕ). text_of octets (Some s) payload_types ≡ Ok p) q (own_asked octets payload_types p e);
-  back = λ p e. any_asked octets ssrc payload_types p e;
+alike : (most : ℕ) (octets : List ℕ) (ssrc : ℕ) (payload_types : PayloadTypes) → Alike ssrc (text_within most octets None payload_types) (text_within most octets (Some ssrc) payload_types)
+alike most octets ssrc payload_types = record {
+  mine = λ p e q. subst (λ (s : ℕ). text_within most octets (Some s) payload_types ≡ Ok p) q (own_asked most octets payload_types p e);
+  back = λ p e. any_asked most octets ssrc payload_types p e;
 }
 
 -- of a told state whose sender has this SSRC
@@ -72,7 +72,7 @@ same_packet h d p t any own a s =
     subst (λ (x : Told). Same h.ssrc (told_packet (plain h) x t any) (plain_packet p t own)) e (one_packet h p.past p.moment p.closed t any own a)
 
 same_came : (h : Hearing) (d : Told) (p : Plain) (t : ℕ) (came : Came) → Same h.ssrc d p → Same h.ssrc (told_came (plain h) d t came) (plain_came h p t came)
-same_came h d p t (Datagram octets) s = same_packet h d p t (text_of octets None h.payload_types) (text_of octets (Some h.ssrc) h.payload_types) (alike octets h.ssrc h.payload_types) s
+same_came h d p t (Datagram octets) s = same_packet h d p t (text_within h.most octets None h.payload_types) (text_within h.most octets (Some h.ssrc) h.payload_types) (alike h.most octets h.ssrc h.payload_types) s
 same_came h d p t Large s = record { before = s.before; sender = s.sender; past = s.past; moment = ap (λ n. max n t) s.moment; closed = s.closed }
 same_came h d p t Quiet s = record { before = s.before; sender = s.sender; past = s.past; moment = ap (λ n. max n t) s.moment; closed = s.closed }
 same_came h d p t Closed s = record { before = s.before; sender = s.sender; past = s.past; moment = s.moment; closed = refl }
@@ -96,7 +96,7 @@ plain_law h takes =
 
 pub unfollowed_law : Unfollowed
 unfollowed_law h takes e =
-    let same : plain h ≡ h = λ i. record { leg = h.leg; ssrc = h.ssrc; payload_types = h.payload_types; wait = h.wait; follow = sym e i; piece = h.piece } in
+    let same : plain h ≡ h = λ i. record { leg = h.leg; ssrc = h.ssrc; payload_types = h.payload_types; most = h.most; wait = h.wait; follow = sym e i; piece = h.piece } in
     subst (λ (x : Hearing). IsPlain x takes) same (plain_law h takes)
 
 -- the same by what was told

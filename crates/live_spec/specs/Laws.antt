@@ -1,7 +1,7 @@
 -- What holds of the recordings of a call.
 use Rattle.std.specs.Prelude.{◌≡◌, ℕ, ◌+◌, ◌-◌, ◌*◌, ◌^◌, ◌<◌, ◌≤◌, ◌==◌, false, None, Some, List, [], ◌∷◌, length, map, flat_map, reverse, take, if◌then◌else◌}
 use Rattle.std.specs.List.{AllByRecursion}
-use Rattle.rtt_base.specs.declared.limits.TheConstants.{MOST_PACKET_OCTETS}
+use Rattle.rtt_base.specs.declared.limits.TheConstants.{MOST_PACKET_OCTETS, MOST_TEXT_OCTETS}
 use Rattle.wire_spec.specs.declared.limits.TheConstants.{LAST_RECORD_MOMENT, MOST_RECORDING_OCTETS}
 use Rattle.wire_spec.specs.Dump.{What, Whole, Rtcp, Item, arrivals, dump, usual_limit}
 use Rattle.stream_spec.specs.Ready.{chunks}
@@ -75,10 +75,11 @@ abbrev pub NeverFall : Takes → Type 0
 NeverFall [] = Unit {0}
 NeverFall (a ∷ past) = (latest_take past ≤ a.at) × NeverFall past
 
--- Takes as a link gives them, at which a leg is heard that has payload types of text, and is not followed.
+-- Takes as a link gives them, at which a leg is heard that has payload types of text, is not followed and has no long texts.
 pub record AreTakesFor (h : Hearing) (takes : Takes) : Type 0 where
   pub types : AreGiven h.payload_types
   pub alone : h.follow ≡ false
+  pub brief : h.most ≡ MOST_TEXT_OCTETS
   pub short : AllByRecursion IsShort (datagrams takes)
   pub rise : NeverFall takes
 

@@ -9,7 +9,8 @@ use Rattle.wire_spec.specs.Dump.{Item, sent_item}
 use Rattle.stream_spec.specs.Ready.{Chunk}
 use Rattle.file_spec.specs.declared.conference_lines.LegLine.{LegLine}
 use Rattle.file_spec.specs.Conference.{Conference}
-use Rattle.mixer_spec.specs.Setups.{leg_at, setup, ssrc_of}
+use Rattle.file_spec.specs.Primaries.{primary_limit}
+use Rattle.mixer_spec.specs.Setups.{is_long, leg_at, setup, ssrc_of}
 use Rattle.mixer_spec.specs.Table.{Table, chunks_taken, is_idle, turned}
 use Rattle.mixer_spec.specs.Rooms.{piece_within}
 use Rattle.view_spec.specs.Seen.{aware_seen, unaware_seen}
@@ -38,7 +39,7 @@ is_followed (Some leg) = leg.follow
 
 -- how the leg i is heard
 abbrev pub hearing_at : Conference → ℕ → Hearing
-hearing_at c i = record { leg = i; ssrc = ssrc_of (leg_at c.legs i); payload_types = payload_types_of (leg_at c.legs i); wait = c.wait; follow = is_followed (leg_at c.legs i); piece = piece_within c.mtu }
+hearing_at c i = record { leg = i; ssrc = ssrc_of (leg_at c.legs i); payload_types = payload_types_of (leg_at c.legs i); most = primary_limit (is_long (leg_at c.legs i)); wait = c.wait; follow = is_followed (leg_at c.legs i); piece = piece_within c.mtu }
 
 abbrev pub told_live : Conference → (ℕ → Takes) → ℕ → Told
 told_live c takes i = told_by (hearing_at c i) (takes i)

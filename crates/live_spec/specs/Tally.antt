@@ -3,7 +3,7 @@
 use Rattle.std.specs.Prelude.{ℕ, suc, ◌-◌, ◌^◌, max, min, [], ◌∷◌, None, Result, Ok, Err, if◌then◌else◌}
 use Rattle.wire_spec.specs.declared.faults.TextFault.{TextFault}
 use Rattle.wire_spec.specs.Packets.{Packet}
-use Rattle.wire_spec.specs.Text.{text_of}
+use Rattle.wire_spec.specs.Text.{text_within}
 use Rattle.view_spec.specs.declared.tallies.Tally.{Tally}
 use Rattle.stream_spec.specs.Links.{Came, Datagram, Large, Quiet, Closed, Takes}
 use Rattle.live_spec.specs.Told.{Hearing, Told, is_sender, takes_over, told_by}
@@ -41,7 +41,7 @@ tally_packet h d t (Ok p) y = if is_sender d.sender p.ssrc then with_text y else
 tally_packet h d t (Err fault) y = with_refused y
 
 abbrev pub tally_came : Hearing → Told → ℕ → Came → Tally → Tally
-tally_came h d t (Datagram octets) y = tally_packet h d t (text_of octets None h.payload_types) y
+tally_came h d t (Datagram octets) y = tally_packet h d t (text_within h.most octets None h.payload_types) y
 tally_came h d t Large y = with_refused y
 tally_came h d t Quiet y = y
 tally_came h d t Closed y = y

@@ -6,7 +6,7 @@ use Rattle.std.specs.List.{list_any}
 use Rattle.rtt_base.specs.declared.text_packets.PayloadTypes.{PayloadTypes}
 use Rattle.wire_spec.specs.declared.faults.TextFault.{TextFault}
 use Rattle.wire_spec.specs.Packets.{Packet, Arrival}
-use Rattle.wire_spec.specs.Text.{text_of}
+use Rattle.wire_spec.specs.Text.{text_within}
 use Rattle.stream_spec.specs.Hearing.{heard, marker}
 use Rattle.stream_spec.specs.Ready.{Chunk, chunk, chunks}
 use Rattle.stream_spec.specs.Fronts.{is_ready_by}
@@ -15,11 +15,13 @@ use Rattle.mixer_spec.specs.Pieces.{chunks_cut, pieces}
 use Rattle.stream_spec.specs.Links.{Came, Datagram, Large, Quiet, Closed, Takes}
 
 -- Which packets of a leg are heard: those with these payload types, of this SSRC, or, where the leg is followed, of whoever sends.
--- A gap in their numbers is waited for so long, and texts are cut into pieces of at most `piece` octets.
+-- Their primary texts have at most `most` octets. A gap in their numbers is waited for so long, and texts are cut into pieces of
+-- at most `piece` octets.
 pub record Hearing : Type 0 where
   pub leg : ℕ
   pub ssrc : ℕ
   pub payload_types : PayloadTypes
+  pub most : ℕ
   pub wait : ℕ
   pub follow : Bool
   pub piece : ℕ
@@ -115,7 +117,7 @@ told_packet h d t (Ok p) =
 told_packet h d t (Err fault) = d
 
 abbrev pub told_came : Hearing → Told → ℕ → Came → Told
-told_came h d t (Datagram octets) = told_packet h d t (text_of octets None h.payload_types)
+told_came h d t (Datagram octets) = told_packet h d t (text_within h.most octets None h.payload_types)
 told_came h d t Large = told_moment d t
 told_came h d t Quiet = told_moment d t
 told_came h d t Closed = record d { closed = true }

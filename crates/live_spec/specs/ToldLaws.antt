@@ -2,7 +2,7 @@
 use Rattle.std.specs.Prelude.{◌≡◌, ℕ, Bool, true, false, Option, None, Some, List, [], ◌∷◌, ◌++◌, length, filter, flat_map, max, Result, Ok, Err, if◌then◌else◌}
 use Rattle.wire_spec.specs.declared.faults.TextFault.{TextFault}
 use Rattle.wire_spec.specs.Packets.{Packet, Arrival}
-use Rattle.wire_spec.specs.Text.{text_of}
+use Rattle.wire_spec.specs.Text.{text_within}
 use Rattle.stream_spec.specs.Lists.{In}
 use Rattle.stream_spec.specs.Hearing.{marker}
 use Rattle.stream_spec.specs.History.{History, Lawful, Come, places}
@@ -26,7 +26,7 @@ plain_packet d t (Ok p) = record { past = record { time = max d.moment t; packet
 plain_packet d t (Err fault) = d
 
 abbrev pub plain_came : Hearing → Plain → ℕ → Came → Plain
-plain_came h d t (Datagram octets) = plain_packet d t (text_of octets (Some h.ssrc) h.payload_types)
+plain_came h d t (Datagram octets) = plain_packet d t (text_within h.most octets (Some h.ssrc) h.payload_types)
 plain_came h d t Large = record d { moment = max d.moment t }
 plain_came h d t Quiet = record d { moment = max d.moment t }
 plain_came h d t Closed = record d { closed = true }

@@ -16,9 +16,10 @@ pub fn one_sender_is_heard()
     ensures unfollowed { UnfollowedHasOneSender }
 {}
 
-/// Of a leg that is followed a live call tells each aware terminal what each sender typed, one behind the other: blocks in order,
-/// each at most once. A block is absent only where every packet carrying it was lost or late on one hop, or where it is not given
-/// yet; and between packets that came a marker stands there.
+/// Of a leg that is followed a live call tells each aware terminal what each sender typed, one behind the other: in pieces of
+/// blocks, the octets in order, each at most once. A piece is absent only where every packet carrying its block on the first hop, or
+/// carrying the piece on the second, was lost or late, or where it is not given yet; and between packets that came a marker stands
+/// there.
 pub fn calls_tell_in_turn()
     ensures { CallsTellInTurn }
 {}

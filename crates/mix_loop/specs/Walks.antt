@@ -9,8 +9,8 @@ use Rattle.mixer_spec.specs.Calls.{turns_made}
 use Rattle.live_spec.specs.Live.{AllSeated, at_last}
 use Rattle.live_leg.specs.LinkLegs.{Item}
 use Rattle.mix_loop.specs.declared.live_ports.LivePort.{LivePort}
-use Rattle.mix_loop.specs.declared.live_turns.TurnsEnd.{TurnsEnd}
-use Rattle.mix_loop.specs.declared.live_turns.TurnsEnd.TheVariants.{Done, Closed, Faulted, Stopped}
+use Rattle.mix_loop.specs.declared.live_turns.LiveTurnsEnd.{LiveTurnsEnd}
+use Rattle.mix_loop.specs.declared.live_turns.LiveTurnsEnd.TheVariants.{Done, Closed, Faulted, Stopped}
 use Rattle.mix_loop.specs.Order.{SameTurns}
 use Rattle.mix_loop.specs.Handed.{AreLiveCalls, HasSignals, IsEnough, IsNext, is_blocked_after}
 use Rattle.mix_loop.specs.LivePorts.{Grew, PortAt, with_offers}
@@ -42,7 +42,7 @@ module _ {I : Type 0} where
   HasFailed leg ps = (p : LivePort I) × (slice_get ps leg ≡ Some p) × (p.failed ≡ true) × NoneFailedBelow leg ps
 
   -- where turns ended at the fault of a leg, it was popped, and none of a lower one
-  abbrev pub WasFaulted : {T : Type 0} → TurnsEnd T → List (LivePort I) → Type 0
+  abbrev pub WasFaulted : {T : Type 0} → LiveTurnsEnd T → List (LivePort I) → Type 0
   WasFaulted Done ps = Unit {0}
   WasFaulted Closed ps = Unit {0}
   WasFaulted (Faulted leg) ps = HasFailed leg ps
@@ -56,7 +56,7 @@ module _ {I : Type 0} where
   AllClosed ps = (j : ℕ) (p : LivePort I) → slice_get ps j ≡ Some p → is_spent p ≡ true
 
 -- where turns were stopped, the mixer could not send, for this reason
-abbrev pub WasStopped : {M T : Type 0} → (M → T → Type 0) → TurnsEnd T → M → Type 0
+abbrev pub WasStopped : {M T : Type 0} → (M → T → Type 0) → LiveTurnsEnd T → M → Type 0
 WasStopped unsent Done m = Unit {0}
 WasStopped unsent Closed m = Unit {0}
 WasStopped unsent (Faulted leg) m = Unit {0}
@@ -137,7 +137,7 @@ module _ {I : Type 0} (popped : I → List Item) where
     pub serving : IsServing stands s payload_types turns ps m
 
   -- how the turns ended, of a mixer that stands so then, or of which the last turn was not sent to its end
-  abbrev pub RanTo : {M T : Type 0} → TurnsEnd T
+  abbrev pub RanTo : {M T : Type 0} → LiveTurnsEnd T
       → (stands halts : M → Setup → (ℕ → PayloadTypes) → List Call → Type 0) → Setup → (ℕ → PayloadTypes) → ℕ
       → List (LivePort I) → M → Type 0
   RanTo Done stands halts s payload_types turns ps m = DoneTo stands s payload_types turns ps m
@@ -146,7 +146,7 @@ module _ {I : Type 0} (popped : I → List Item) where
   RanTo (Stopped why) stands halts s payload_types turns ps m = BrokenTo halts s payload_types turns ps m
 
   -- the turns were made, and ended so, of a mixer that stood so
-  abbrev pub Ran : {M T : Type 0} → TurnsEnd T
+  abbrev pub Ran : {M T : Type 0} → LiveTurnsEnd T
       → (stands then halts : M → Setup → (ℕ → PayloadTypes) → List Call → Type 0) → ℕ → List (LivePort I)
       → List (LivePort I) → M → M → Type 0
   Ran ended stands then halts turns ps ps' m m' =

@@ -1,8 +1,8 @@
 //! A lane of what gives answers, as where a leg's texts come from.
 use crate::answers::Answer;
+use crate::inlet_answers::hand_out;
 use crate::inlets::Inlet;
 use crate::items::Item;
-use crate::questions::hand_out;
 use rtt_base::Chunk;
 use rtt_io::Gate;
 use std::sync::Wait;

@@ -7,6 +7,7 @@ mod answers;
 mod call_laws;
 mod clocks;
 mod drains;
+mod inlet_answers;
 mod inlets;
 mod items;
 mod lanes;
@@ -23,7 +24,6 @@ mod plain_mix;
 mod pops;
 mod port_lists;
 mod ports;
-mod questions;
 mod turns;
 
 pub use answers::Answer;
@@ -33,17 +33,17 @@ pub use call_laws::{
 };
 pub use clocks::TurnClock;
 pub use drains::drain_all;
+pub use inlet_answers::{ask, copy_chunk};
 pub use inlets::Inlet;
 pub use items::{Item, TextsEnd};
 pub use live_laws::turns_may_begin;
 pub use live_port_lists::{live_inlets_of, ports_over};
 pub use live_ports::LivePort;
-pub use live_turns::{TurnsEnd, take_turns};
+pub use live_turns::{LiveTurnsEnd, take_turns};
 pub use mixers::MixerCalls;
 pub use plain_mix::{InletReturn, Room, mix_inlets};
 pub use pops::Consumer;
 pub use port_lists::{HasInlet, inlets_of};
-pub use questions::{ask, copy_chunk};
 pub use turns::MixEnd;
 
 #[cfg(test)]

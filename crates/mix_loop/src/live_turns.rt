@@ -16,7 +16,7 @@ use std::sync::Wait;
 
 /// How the turns of a live call ended.
 #[derive(Clone, Copy, Debug, PartialEq, Eq)]
-pub enum TurnsEnd<T> {
+pub enum LiveTurnsEnd<T> {
     /// All turns were made.
     Done,
     /// All links are closed, and nothing is left.
@@ -89,7 +89,7 @@ pub fn take_turns<I: Consumer, M: MixerCalls<Clock = C::Clock>, C: TurnClock, R:
     clock: &mut C,
     tick: u64,
     turns: u64,
-) -> TurnsEnd<M::Fault>
+) -> LiveTurnsEnd<M::Fault>
     requires at { AreAt ports.old }
     requires legs { M.legs mixer.old ≡ length ports.old }
     requires none { M.turns mixer.old ≡ 0 }
@@ -101,14 +101,17 @@ pub fn take_turns<I: Consumer, M: MixerCalls<Clock = C::Clock>, C: TurnClock, R:
     ensures at { AreAt ports.new }
     ensures grew { AllGrew I.popped I.began ports.old ports.new }
     ensures ran { Ran I.popped result M.stands
-        (StandsPaced C.tells tick (C.moment clock.old) (C.moment clock.new) (AreInTurn M.stands M.addresses (C.pauses clock.old)) M.stands)
-        (StandsPaced C.tells tick (C.moment clock.old) (C.moment clock.new) (AreInTurn M.stands M.addresses (C.pauses clock.old)) (HaltsThen M.halted))
+        (StandsPaced C.tells tick (C.moment clock.old) (C.moment clock.new)
+        (AreInTurn M.stands M.addresses (C.pauses clock.old)) M.stands)
+        (StandsPaced C.tells tick (C.moment clock.old) (C.moment clock.new)
+        (AreInTurn M.stands M.addresses (C.pauses clock.old)) (HaltsThen M.halted))
         turns ports.old ports.new mixer.old mixer.new }
     ensures addresses { ports_of (M.addresses mixer.new) ≡ ports_of (M.addresses mixer.old) }
     ensures faulted { WasFaulted result ports.new }
     ensures unsent { WasStopped M.unsent result mixer.new }
-    ensures pauses { result ≡ TurnsEnd.Done → IsPaused turns (C.pauses clock.old) (C.pauses clock.new) }
-    ensures paced { C.tells → result ≡ TurnsEnd.Done → IsPaced turns tick (C.moment clock.old) (C.moment clock.new) }
+    ensures pauses { result ≡ LiveTurnsEnd.Done → IsPaused turns (C.pauses clock.old) (C.pauses clock.new) }
+    ensures paced { C.tells → result ≡ LiveTurnsEnd.Done
+        → IsPaced turns tick (C.moment clock.old) (C.moment clock.new) }
     ensures passed { OnlyTimePassed C.TurnClock clock.old clock.new }
 {
     let began = clock.clock_now();
@@ -116,22 +119,22 @@ pub fn take_turns<I: Consumer, M: MixerCalls<Clock = C::Clock>, C: TurnClock, R:
     for k in 0..turns {
         gather_all(rt, ports, mixer, due);
         match first_failed(ports) {
-            Some(leg) => return TurnsEnd::Faulted(leg),
+            Some(leg) => return LiveTurnsEnd::Faulted(leg),
             None => {}
         }
         if is_over(ports, mixer) {
-            return TurnsEnd::Closed;
+            return LiveTurnsEnd::Closed;
         }
         let now = clock.clock_now();
         match mixer.turn(now, &clock.clock_beat()) {
             Ok(()) => {}
-            Err(fault) => return TurnsEnd::Stopped(fault),
+            Err(fault) => return LiveTurnsEnd::Stopped(fault),
         }
         due = next_tick(due, now, tick);
         clock.sleep_until(due);
     }
     if is_over(ports, mixer) {
-        return TurnsEnd::Closed;
+        return LiveTurnsEnd::Closed;
     }
-    TurnsEnd::Done
+    LiveTurnsEnd::Done
 }

@@ -4,7 +4,9 @@ ghost use Rattle.workers.specs.Lanes.{AreNew};
 ghost use Rattle.live_leg.specs.LinkLegs.{LegGave, LegStands};
 ghost use Rattle.mix_loop.specs.Walks.{AreAt};
 
-use crate::{LivePort, MixerCalls, TurnsEnd, drain_all, live_inlets_of, ports_over, take_turns};
+use crate::{
+    LivePort, LiveTurnsEnd, MixerCalls, drain_all, live_inlets_of, ports_over, take_turns,
+};
 use link_io::{Beat, Came, LinkIn, Links, MemIn, MemLinks, PlannedTake};
 use live_leg::{Leg, LegSettings, LinkItem, LinkLeg, PacedLink};
 use receiver::{EarSettings, TextCut};
@@ -124,7 +126,7 @@ type AnnPort = LivePort<AnnLane>;
 // How the turns of a call ended, how many there were, and how many texts were taken.
 #[derive(Clone, Copy, PartialEq)]
 struct TurnCount {
-    turned: TurnsEnd<NoMemory>,
+    turned: LiveTurnsEnd<NoMemory>,
     turns: u64,
     taken: u64,
     moments: [u64; 3],
@@ -138,7 +140,7 @@ fn turn_and_drain<R: Wait>(
     mixer: &mut CountMixer,
     world: &mut MemLinks,
     stop: &AtomicBool,
-) -> TurnsEnd<NoMemory>
+) -> LiveTurnsEnd<NoMemory>
     requires at { AreAt ports.old }
     requires legs { mixer.old.legs ≡ length ports.old }
     requires none { mixer.old.turns ≡ 0 }
@@ -167,6 +169,7 @@ const ANN: LegSettings = LegSettings {
         ssrc: 1001,
         payload_types: PayloadTypes { t140: 98, red: 100 },
         wait: 1000,
+        long: false,
         cut: TextCut::Long,
     },
     follow: false,
@@ -201,7 +204,7 @@ fn new_mixer(legs: usize) -> CountMixer
 }
 
 // What this mixer counted of turns that ended so.
-fn ran_of(turned: TurnsEnd<NoMemory>, mixer: CountMixer) -> TurnCount {
+fn ran_of(turned: LiveTurnsEnd<NoMemory>, mixer: CountMixer) -> TurnCount {
     let moments = mixer.moments;
     TurnCount {
         turned,
@@ -261,7 +264,7 @@ fn call<R: Threads + Wait>(
 #[test]
 fn a_call_ends_where_its_links_are_closed(rt: HostRuntime) -> Result<(), Fail> {
     let ran = call(&rt, rt.alloc(), 1, true)?;
-    assert!(rt; ran.turned == TurnsEnd::Closed);
+    assert!(rt; ran.turned == LiveTurnsEnd::Closed);
     assert!(rt; ran.taken == 1);
     Ok(())
 }
@@ -269,7 +272,7 @@ fn a_call_ends_where_its_links_are_closed(rt: HostRuntime) -> Result<(), Fail> {
 #[test]
 fn all_that_came_is_offered_before_the_first_turn(rt: HostRuntime) -> Result<(), Fail> {
     let ran = call(&rt, rt.alloc(), 20, true)?;
-    assert!(rt; ran.turned == TurnsEnd::Closed);
+    assert!(rt; ran.turned == LiveTurnsEnd::Closed);
     assert!(rt; ran.turns == 0);
     assert!(rt; ran.taken == 20);
     Ok(())
@@ -278,7 +281,7 @@ fn all_that_came_is_offered_before_the_first_turn(rt: HostRuntime) -> Result<(),
 #[test]
 fn a_silent_leg_ends_with_the_turns(rt: HostRuntime) -> Result<(), Fail> {
     let ran = call(&rt, rt.alloc(), 1, false)?;
-    assert!(rt; ran.turned == TurnsEnd::Done);
+    assert!(rt; ran.turned == LiveTurnsEnd::Done);
     assert!(rt; ran.turns == 5);
     assert!(rt; ran.taken == 1);
     Ok(())
@@ -287,7 +290,7 @@ fn a_silent_leg_ends_with_the_turns(rt: HostRuntime) -> Result<(), Fail> {
 #[test]
 fn a_flood_holds_no_turn_up(rt: HostRuntime) -> Result<(), Fail> {
     let ran = call(&rt, rt.alloc(), 1500, false)?;
-    assert!(rt; ran.turned == TurnsEnd::Done);
+    assert!(rt; ran.turned == LiveTurnsEnd::Done);
     assert!(rt; ran.turns == 5);
     assert!(rt; ran.taken == 1280);
     Ok(())
@@ -407,7 +410,7 @@ fn run_two<R: Abort + Threads + Wait + Sync>(
 #[test]
 fn a_call_is_the_same_whichever_leg_has_a_thread(rt: HostRuntime) -> Result<(), Fail> {
     let ran = run_two(&rt, rt.alloc(), (STACK, STACK))?;
-    assert!(rt; ran.turned == TurnsEnd::Done);
+    assert!(rt; ran.turned == LiveTurnsEnd::Done);
     assert!(rt; ran.first == 21);
     assert!(rt; run_two(&rt, rt.alloc(), (STACK, REFUSED))? == ran);
     assert!(rt; run_two(&rt, rt.alloc(), (REFUSED, STACK))? == ran);

@@ -10,8 +10,8 @@ use lib.Utf8.{encode}
 use Rattle.rtt_base.specs.declared.text_packets.PayloadTypes.{PayloadTypes}
 use Rattle.wire_spec.specs.Packets.{Packet, blocks_of}
 use Rattle.wire_spec.specs.Rtp.{rtp, rtp_of_header, rtp_written}
-use Rattle.wire_spec.specs.Red.{headers_at, texts_at, red, red_written}
-use Rattle.wire_spec.specs.Text.{text_of_short, text_of}
+use Rattle.wire_spec.specs.Red.{headers_at, red, red_within, red_written, texts_at, texts_within}
+use Rattle.wire_spec.specs.Text.{short_within, text_of, text_of_short, text_within}
 use Rattle.wire_spec.specs.Dump.{opening, dump_step, records_within, records, dump, dump_written}
 use Rattle.stream_spec.specs.History.{History, Placed, Lawful, Come, placed, places}
 use Rattle.stream_spec.specs.Kept.{ArePlaces}
@@ -58,13 +58,13 @@ abbrev pub for_good : Stay
 for_good = record { from = 0; until = None }
 
 abbrev ann_leg : LegLine
-ann_leg = record { line = 1; name = codes "Ann"; aware = true; ssrc = 1001; input = codes "ann.in"; output = codes "ann.out"; payload_types = types; generations = 2; stay = for_good; follow = false }
+ann_leg = record { line = 1; name = codes "Ann"; aware = true; ssrc = 1001; input = codes "ann.in"; output = codes "ann.out"; payload_types = types; generations = 2; stay = for_good; follow = false; long = false }
 
 abbrev bob_leg : LegLine
-bob_leg = record { line = 2; name = codes "Bob"; aware = true; ssrc = 1002; input = codes "bob.in"; output = codes "bob.out"; payload_types = types; generations = 2; stay = for_good; follow = false }
+bob_leg = record { line = 2; name = codes "Bob"; aware = true; ssrc = 1002; input = codes "bob.in"; output = codes "bob.out"; payload_types = types; generations = 2; stay = for_good; follow = false; long = false }
 
 abbrev cy_leg : LegLine
-cy_leg = record { line = 3; name = codes "Cy"; aware = false; ssrc = 1003; input = codes "cy.in"; output = codes "cy.out"; payload_types = types; generations = 2; stay = for_good; follow = false }
+cy_leg = record { line = 3; name = codes "Cy"; aware = false; ssrc = 1003; input = codes "cy.in"; output = codes "cy.out"; payload_types = types; generations = 2; stay = for_good; follow = false; long = false }
 
 abbrev call : Conference
 call = record {
@@ -151,7 +151,7 @@ near_each : NearEach ann came
 near_each = (inr (inr (inl refl)), ((omega arith, omega arith), (inr (inl refl), ((omega arith, omega arith), (inl refl, (tt, tt))))))
 
 came_is : came_of call inputs 0 ≡ come_from ann came
-unfolding text_of text_of_short rtp rtp_of_header red headers_at texts_at is_utf8 chars encode dump records records_within dump_step opening
+unfolding text_within short_within rtp rtp_of_header red_within headers_at texts_within is_utf8 chars encode dump records records_within dump_step opening
 came_is = refl
 
 is_sent : IsSentBy call inputs 0 ann
@@ -169,7 +169,7 @@ said zero = chunk 0 0 (codes "H") ∷ []
 said (suc i) = []
 
 chunks_are : (i : ℕ) → leg_chunks call inputs i ≡ said i
-unfolding text_of text_of_short rtp rtp_of_header red headers_at texts_at is_utf8 chars encode dump records records_within dump_step opening
+unfolding text_within short_within rtp rtp_of_header red_within headers_at texts_within is_utf8 chars encode dump records records_within dump_step opening
 chunks_are zero = refl
 chunks_are (suc zero) = refl
 chunks_are (suc (suc zero)) = refl

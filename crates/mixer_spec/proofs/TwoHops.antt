@@ -1,10 +1,11 @@
 -- What two hops tell of the source of the first, where the second carries pieces.
-use Rattle.std.proofs.Common.{◌≡◌, ℕ, ◌<◌, ◌≤◌, length-append, ◌⊎◌, inl, inr, List, [], ◌∷◌, ◌++◌, length, refl, ap, subst, sym, ◌∙◌, arith}
-use Rattle.std.specs.Prelude.{map}
+use Rattle.std.proofs.Common.{◌≡◌, ℕ, ◌<◌, ◌≤◌, length-append, ◌⊎◌, inl, inr, List, [], ◌∷◌, ◌++◌, length, refl, ap, subst, sym, ◌∙◌, arith, Bool, true, false, cond, ◌+◌, ◌*◌}
+use Rattle.std.specs.Prelude.{◌==◌, map}
 use Rattle.std.specs.List.{concat, flat_map}
 use Rattle.std.proofs.lemmas.Bool.{cases_eq, cases_lt}
 use Rattle.stream_spec.specs.Lists.{In}
-use Rattle.stream_spec.specs.History.{Placed}
+use Rattle.rtt_base.specs.declared.limits.TheConstants.{MOST_PACKET_OCTETS}
+use Rattle.stream_spec.specs.History.{Placed, texts_of, window}
 use Rattle.stream_spec.specs.Kept.{Item, Marker, Block, texts, blocks_in, Parts, Rising}
 use Rattle.stream_spec.specs.Carries.{Groups, CarriesFront}
 use Rattle.stream_spec.proofs.Lists.{in_left, in_right, in_append}
@@ -28,8 +29,12 @@ use Rattle.stream_spec.proofs.Gaps.{in_blocks as block_in}
 
 -- ---- entries
 -- a block of the first hop fits its addresses
-short_block : (p : Hop) → IsHop p → (x : Placed) → IsBlock p x → length x.text ≤ 8192
-short_block p ip x b = let t = (ip.lawful.text x b.sent).0 in omega (arith, t)
+pub short_block : (p : Hop) → IsHop p → (x : Placed) → IsBlock p x → length x.text ≤ 8192
+short_block p ip x b = go (x.source == p.sent.ssrc) (ip.lawful.sized x b.sent)
+  where
+    go : (c : Bool) → cond c 12 16 + (4 * x.generations + 1) + length (concat (texts_of (window p.sent x)) ++ x.text) ≤ MOST_PACKET_OCTETS → length x.text ≤ 8192
+    go true l = omega (arith, length-append (concat (texts_of (window p.sent x))) x.text, l)
+    go false l = omega (arith, length-append (concat (texts_of (window p.sent x))) x.text, l)
 
 pub headline_law : (cutting : List ℕ → List (List ℕ)) → IsCutting cutting → (p q : Hop) → IsHop p → IsHop q → (cut : Cut)
     → pieces_told cutting p ≡ cut.before ++ (cut.sent ++ (cut.waiting ++ cut.behind)) → Groups (map (λ (y : Placed). y.text) (text_entries q.sent q.source)) (texts cut.sent) []

@@ -9,7 +9,7 @@ use Rattle.stream_spec.specs.History.{History, Come}
 use Rattle.stream_spec.specs.Ready.{Chunk, chunks}
 use Rattle.stream_spec.specs.Still.{still}
 use Rattle.stream_spec.specs.Carries.{Carries, CarriesFront}
-use Rattle.mixer_spec.specs.Setups.{AllStay, IsAnother, IsSetup, Setup, leg_at, setup, ssrc_of}
+use Rattle.mixer_spec.specs.Setups.{AllStay, IsAnother, IsSetup, Setup, leg_at, setup, ssrc_of, is_long}
 use Rattle.mixer_spec.specs.Table.{Table, chunks_taken, shared}
 use Rattle.mixer_spec.specs.Core.{Event, after}
 use Rattle.mixer_spec.specs.Plain.{IsOverWith}
@@ -200,9 +200,10 @@ ConferenceIsPart =
     → (h : History)
     → SharedIsPart (cutting_of c) (setup c) table j i (hop_from c inputs i h) (leg_heard c inputs i)
 
--- Where packets have no limit each text is heard whole.
+-- Where packets have no limit, and a leg no long texts, each is heard whole.
 abbrev pub ConferenceHearsWhole : Type 0
 ConferenceHearsWhole =
     (c : Conference) (inputs : ℕ → List ℕ) (i : ℕ)
     → c.mtu ≡ None
+    → is_long (leg_at c.legs i) ≡ false
     → leg_heard c inputs i ≡ chunks c.wait i (still (came_of c inputs i)) (ssrc_of (leg_at c.legs i))

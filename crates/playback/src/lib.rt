@@ -3,14 +3,14 @@
 
 mod copies;
 mod fates;
+mod heard_texts;
 mod indexes;
 pub mod plan_laws;
 pub mod played_laws;
-mod receptions;
 mod sent_texts;
 
 pub use copies::{Arrival, arrivals};
-pub use receptions::{hears_as_sent, played};
+pub use heard_texts::{hears_as_sent, played};
 
 #[cfg(test)]
 mod tests;

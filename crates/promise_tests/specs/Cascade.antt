@@ -1,5 +1,5 @@
 -- What is concluded of a leg behind another mixer, from `IsCascaded` alone.
-use Rattle.std.specs.Prelude.{◌≡◌, ℕ, true, None, Some, List}
+use Rattle.std.specs.Prelude.{◌≡◌, ℕ, true, false, None, Some, List}
 use Rattle.file_spec.specs.declared.conference_lines.LegLine.{LegLine}
 use Rattle.stream_spec.specs.History.{History, Lawful, Come}
 use Rattle.mixer_spec.specs.Setups.{AllStay, leg_at}
@@ -17,12 +17,13 @@ pub record IsToldBehind (p q : Hop) (AllStaying : Type 0) : Type 0 where
   pub only : IsOnlyTyped p q
   pub whole : AllStaying → IsAllTyped p q
 
--- at each aware terminal j of each leg i behind the other mixer, of which the history h was sent, where packets have no limit
+-- at each aware terminal j of each leg i behind the other mixer, of which the history h was sent, where packets have no limit and
+-- the leg no long texts
 abbrev pub CascadesTellWhatWasTyped : Type 0
 CascadesTellWhatWasTyped =
     (held after : Contents) (conference file : List ℕ) (ssrc : ℕ) (printed : List ℕ) (c : IsCascaded held after conference file ssrc printed)
     → c.bridge.conference.mtu ≡ None
     → (j i : ℕ) → IsPair (setup_of c.bridge) j i
-    → (leg : LegLine) → leg_at c.bridge.conference.legs i ≡ Some leg → is_on_trunk leg ≡ true
+    → (leg : LegLine) → leg_at c.bridge.conference.legs i ≡ Some leg → is_on_trunk leg ≡ true → leg.long ≡ false
     → (h : History) → Lawful h → Come h (came_of (trunk_of c.bridge.conference ssrc) c.octets)
     → IsToldBehind (to_recording (trunk_of c.bridge.conference ssrc) c.octets leg.ssrc h) (onward_from c.bridge j i) (AllStay (setup_of c.bridge))

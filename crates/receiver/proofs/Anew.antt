@@ -29,7 +29,7 @@ begins old new ssrc is tracks stands latest heard settings source story gave g =
     let none : texts_left new ≡ [] = given_left new.settings.cut new.piece new.buffer.current heard in
     record {
       hears = record {
-        asked = is ∙ ap (λ (k : EarSettings). record { ssrc = ssrc; payload_types = k.payload_types; wait = k.wait; cut = k.cut }) g.hears.asked;
+        asked = is ∙ ap (λ (k : EarSettings). record { ssrc = ssrc; payload_types = k.payload_types; wait = k.wait; long = k.long; cut = k.cut }) g.hears.asked;
         wait = refl;
         tracks = subst (λ (w : ℕ). Tracks new.buffer (begun w)) g.hears.wait (tracks story g.hears.tracks);
         stands = stands;

@@ -6,7 +6,7 @@ use Rattle.std.proofs.lemmas.Grind.{not_there}
 use Rattle.std.proofs.lemmas.List.{map-append}
 use Rattle.wire_spec.specs.declared.faults.TextFault.{TextFault}
 use Rattle.wire_spec.specs.Packets.{Packet}
-use Rattle.wire_spec.specs.Text.{text_of}
+use Rattle.file_spec.specs.Primaries.{primary_limit}
 use Rattle.stream_spec.specs.Numbering.{Numbered}
 use Rattle.stream_spec.specs.Hearing.{AreHeardTexts, text_list}
 use Rattle.stream_spec.specs.Ready.{Chunk, chunk}
@@ -30,7 +30,7 @@ use Rattle.receiver.specs.PiecesLeft.{pieces_left}
 use Rattle.receiver.proofs.HandedOut.{given_append, pieces_given, one_dropped, one_given, texts_nil}
 use Rattle.receiver.specs.declared.settings.EarSettings.{EarSettings}
 use Rattle.receiver.specs.declared.ears.Ear.{Ear}
-use Rattle.receiver.specs.Hears.{Hears, Gave, GaveReady, IsGiving, GaveSome, told, arrival_count, is_quiet, texts_left, ready_packet, ready_packets, last_after}
+use Rattle.receiver.specs.Hears.{Hears, Gave, GaveReady, IsGiving, GaveSome, text_for, told, arrival_count, is_quiet, texts_left, ready_packet, ready_packets, last_after}
 use Rattle.receiver.specs.EarEach.{GatheredEach, HearsEach}
 use Rattle.receiver.proofs.Accepted.{accepted_text}
 use Rattle.receiver.proofs.Given.{above_given, given_fits, last_snoc, next_rises}
@@ -44,7 +44,7 @@ rises_at_once e now number p settings sources story next is h latest l =
 
 -- what it stands for behind the packet
 pub hears_at_once : (e m : Ear) (view : TextView) (now number ready : ℕ) (octets : List ℕ) → number ≡ next_number e.buffer (packet_in view).seq
-    → text_of octets (Some e.settings.ssrc) e.settings.payload_types ≡ Ok (packet_in view) → m.settings ≡ e.settings → buffer.GivesAtOnce e.buffer m.buffer now number ready
+    → text_for e.settings octets ≡ Ok (packet_in view) → m.settings ≡ e.settings → buffer.GivesAtOnce e.buffer m.buffer now number ready
     → TakesView e.receiver m.receiver number view → latest_number m.receiver ≡ Some number
     → (settings : EarSettings) (sources : List ℕ) (story : Story) → Hears e settings sources story → Hears m settings sources (gave (came story now (packet_in view)) (given_packet number ready (packet_in view)))
 hears_at_once e m view now number ready octets is x c gives takes latest settings sources story h =
@@ -58,19 +58,19 @@ hears_at_once e m view now number ready octets is x c gives takes latest setting
       tracks = gives p is story h.tracks;
       stands = rw more (takes sources (ready_packets story.given) ready h.stands);
       latest = latest ∙ sym (ap (last_after None) more ∙ last_snoc None (ready_packets story.given) u);
-      texts = (accepted_text octets (Some e.settings.ssrc) e.settings.payload_types p x, h.texts);
+      texts = (accepted_text (primary_limit e.settings.long) octets (Some e.settings.ssrc) e.settings.payload_types p x, h.texts);
     }
 
 -- what is heard of each source
 pub hears_plain : (e m : Ear) (view : TextView) (now number ready : ℕ) (octets : List ℕ) (texts more : List SourceText) → number ≡ next_number e.buffer (packet_in view).seq
-    → text_of octets (Some e.settings.ssrc) e.settings.payload_types ≡ Ok (packet_in view) → m.settings ≡ e.settings → buffer.GivesAtOnce e.buffer m.buffer now number ready → buffer.GaveReady m.buffer
+    → text_for e.settings octets ≡ Ok (packet_in view) → m.settings ≡ e.settings → buffer.GivesAtOnce e.buffer m.buffer now number ready → buffer.GaveReady m.buffer
     → TakesView e.receiver m.receiver number view → latest_number m.receiver ≡ Some number → HearsView e.receiver number view texts more → length more ≡ length texts
-    → (settings : EarSettings) (sources : List ℕ) (story : Story) → HearsEach e settings sources story texts → GatheredEach m settings sources (told story now (text_of octets (Some settings.ssrc) settings.payload_types)) 1 more
+    → (settings : EarSettings) (sources : List ℕ) (story : Story) → HearsEach e settings sources story texts → GatheredEach m settings sources (told story now (text_for settings octets)) 1 more
 hears_plain e m view now number ready octets texts more is x c gives all takes latest hears size settings sources story h =
     let p = packet_in view in
     let g : Given = given_packet number ready p in
     let u : Numbered = viewed_packet ready number view in
-    let same : text_of octets (Some settings.ssrc) settings.payload_types ≡ Ok p = sym (asked_same e.settings settings octets h.hears.asked) ∙ x in
+    let same : text_for settings octets ≡ Ok p = sym (asked_same e.settings settings octets h.hears.asked) ∙ x in
     let after = hears_at_once e m view now number ready octets is x c gives takes latest settings sources story h.hears in
     let whole : story.given ++ g ∷ [] ≡ ready_dues (came story now p) = all (gave (came story now p) g) after.tracks in
     let grown : ready_packets (story.given ++ g ∷ []) ≡ ready_packets story.given ++ u ∷ [] = map-append ready_packet story.given (g ∷ []) in
@@ -91,17 +91,17 @@ hears_plain e m view now number ready octets texts more is x c gives all takes l
 -- ---- an ear of one source
 -- what is given of it is its primary text
 pub gives_plain : (e m : Ear) (view : TextView) (now number ready : ℕ) (octets : List ℕ) → is_quiet e ≡ true → number ≡ next_number e.buffer (packet_in view).seq
-    → text_of octets (Some e.settings.ssrc) e.settings.payload_types ≡ Ok (packet_in view) → m.settings ≡ e.settings → m.piece ≡ e.piece → buffer.GivesAtOnce e.buffer m.buffer now number ready
+    → text_for e.settings octets ≡ Ok (packet_in view) → m.settings ≡ e.settings → m.piece ≡ e.piece → buffer.GivesAtOnce e.buffer m.buffer now number ready
     → TakesView e.receiver m.receiver number view → latest_number m.receiver ≡ Some number → HearsPrimary e.receiver number view
     → (more : List Chunk) → more ≡ map (chunk 0 ready) (texts_given e.settings.cut (text_list view.primary.now))
-    → (settings : EarSettings) (source : ℕ) (story : Story) (given : List Chunk) → Gave e settings source story given → GaveSome m settings source (told story now (text_of octets (Some settings.ssrc) settings.payload_types)) (given ++ more)
+    → (settings : EarSettings) (source : ℕ) (story : Story) (given : List Chunk) → Gave e settings source story given → GaveSome m settings source (told story now (text_for settings octets)) (given ++ more)
 gives_plain e m view now number ready octets quiet is x c q gives takes latest primary more are settings source story given gave_it =
     let p = packet_in view in
     let h = gave_it.hears in
     let g : Given = given_packet number ready p in
     let u : Numbered = viewed_packet ready number view in
     let us : List Numbered = ready_packets story.given in
-    let same : text_of octets (Some settings.ssrc) settings.payload_types ≡ Ok p = sym (asked_same e.settings settings octets h.asked) ∙ x in
+    let same : text_for settings octets ≡ Ok p = sym (asked_same e.settings settings octets h.asked) ∙ x in
     let after = hears_at_once e m view now number ready octets is x c gives takes latest settings (source ∷ []) story h in
     let above = above_given m.buffer (came story now p) g after.tracks in
     let added : text_list view.primary.now ≡ texts_added us u source = added_is us u source (text_list view.primary.now) above (primary source us ready h.stands) in
@@ -132,8 +132,8 @@ plain_ready e m quiet q all = gave_ready m m (starts m) (ap (λ (k : PieceCursor
 pub rises_there : (e : Ear) (now number : ℕ) (p : Packet) → IsNext e.buffer number → number ≡ next_number e.buffer p.seq → ∥ IsGiving e ∥₁ → ForSome (latest_number e.receiver) (λ latest. latest < number)
 rises_there e now number p next is there latest l = elim (cases_lt latest number) [ inl lt ↦ lt | inr ge ↦ absurd (not_there there (λ i. let r = rises_at_once e now number p i.0 (i.1 ∷ []) i.2 next is i.4.hears latest l in omega (arith, r, ge))) ]
 
-pub primary_utf8 : (settings : EarSettings) (octets : List ℕ) (view : TextView) → text_of octets (Some settings.ssrc) settings.payload_types ≡ Ok (packet_in view) → IsUtf8 view.primary.now
-primary_utf8 settings octets view x = (accepted_text octets (Some settings.ssrc) settings.payload_types (packet_in view) x).primary
+pub primary_utf8 : (settings : EarSettings) (octets : List ℕ) (view : TextView) → text_for settings octets ≡ Ok (packet_in view) → IsUtf8 view.primary.now
+primary_utf8 settings octets view x = (accepted_text (primary_limit settings.long) octets (Some settings.ssrc) settings.payload_types (packet_in view) x).primary
 
 -- the chunks of a text: none, or one
 pub texts_none : (cut : TextCut) (ready : ℕ) (t : List ℕ) → length t ≡ 0 → [] ≡ map (chunk 0 ready) (texts_given cut (text_list t))

@@ -2,7 +2,10 @@
 use Rattle.std.proofs.Common.{◌≡◌, ℕ, ◌+◌, ◌<◌, ◌≤◌, Option, Some, None, List, [], ◌∷◌, ◌++◌, refl, ap, sym, ◌∙◌, inl, inr, arith, length, map, length-append, append_assoc, subst}
 use Rattle.std.specs.Option.{ForSome}
 use Rattle.std.proofs.lemmas.List.{map-append, length-map}
-use Rattle.wire_spec.specs.Packets.{IsTextPacket, AreTextArrivals}
+use Rattle.rtt_base.specs.declared.limits.TheConstants.{MOST_TEXT_OCTETS}
+use Rattle.mixer_spec.specs.Laws.{AreShortArrivals}
+use Rattle.mixer_spec.proofs.HeardShort.{numbered_short}
+use Rattle.wire_spec.specs.Packets.{IsTextPacket, AreTextArrivals, Packet}
 use Rattle.stream_spec.specs.Lists.{In}
 use Rattle.stream_spec.specs.Numbering.{Numbered, RisingNumbers, numbered, used}
 use Rattle.stream_spec.specs.ChunksBy.{stamped}
@@ -62,17 +65,25 @@ next_rises s story g t latest e = above (ready_packets story.given) None (λ n q
     above (u ∷ us) last p q h = above us (Some u.number) (λ n k. let m : u.number ≡ n = cc in let l = q u (inl refl) in omega (arith, m)) (λ y i. q y (inr i)) h
 
 -- a packet that was given came
-pub given_text : (s : State) (story : Story) (g : Given) → Tracks s (gave story g) → AreTextArrivals story.past → IsTextPacket g.packet
-given_text s story g t texts =
+given_back : (story : Story) (g : Given) (us : List Numbered) → In g (map (due_at story.wait (numbered story.past)) us) → (u : Numbered) × In u us × (g.packet ≡ u.packet)
+given_back story g [] i = absurd i
+given_back story g (u ∷ us) (inl e) = (u, inl refl, ap (λ (h : Given). h.packet) e)
+given_back story g (u ∷ us) (inr i) = let r = given_back story g us i in (r.0, inr r.1, r.2)
+
+given_came : (s : State) (story : Story) (g : Given) → Tracks s (gave story g) → (u : Numbered) × In u (numbered story.past) × (g.packet ≡ u.packet)
+given_came s story g t =
     let f = fronts s (gave story g) t in
     let here : In g (dues (gave story g)) = subst (λ (gs : List Given). In g gs) (sym f.is) (in_left g (story.given ++ g ∷ []) f.rest (in_right g story.given (g ∷ []) (inl refl))) in
-    let u = back (used story.wait (numbered story.past)) here in
-    subst IsTextPacket (sym u.2) (numbered_texts story.past texts u.0 (used_in story.wait (numbered story.past) u.0 u.1))
-  where
-    back : (us : List Numbered) → In g (map (due_at story.wait (numbered story.past)) us) → (u : Numbered) × In u us × (g.packet ≡ u.packet)
-    back [] i = absurd i
-    back (u ∷ us) (inl e) = (u, inl refl, ap (λ (h : Given). h.packet) e)
-    back (u ∷ us) (inr i) = let r = back us i in (r.0, inr r.1, r.2)
+    let u = given_back story g (used story.wait (numbered story.past)) here in
+    (u.0, used_in story.wait (numbered story.past) u.0 u.1, u.2)
+
+pub given_text : (s : State) (story : Story) (g : Given) → Tracks s (gave story g) → AreTextArrivals story.past → IsTextPacket g.packet
+given_text s story g t texts = let u = given_came s story g t in subst IsTextPacket (sym u.2) (numbered_texts story.past texts u.0 u.1)
+
+-- and is no longer than those that came
+pub given_short : (s : State) (story : Story) (g : Given) → Tracks s (gave story g) → AreShortArrivals story.past → length g.packet.primary ≤ MOST_TEXT_OCTETS
+given_short s story g t short =
+    let u = given_came s story g t in subst (λ (p : Packet). length p.primary ≤ MOST_TEXT_OCTETS) (sym u.2) (numbered_short story.past short u.0 u.1).1
 
 -- ---- the last number
 pub last_snoc : (last : Option ℕ) (us : List Numbered) (u : Numbered) → last_after last (us ++ u ∷ []) ≡ Some u.number

@@ -10,7 +10,8 @@ use Rattle.std.proofs.lemmas.List.{drop_all, map-append, append_cancel_left}
 use Rattle.rtt_base.specs.declared.text_packets.TextPacket.{TextPacket}
 use Rattle.wire_spec.specs.declared.faults.TextFault.{TextFault}
 use Rattle.wire_spec.specs.Packets.{Packet, has_text}
-use Rattle.wire_spec.specs.Text.{text_of}
+use Rattle.wire_spec.specs.Text.{text_within}
+use Rattle.file_spec.specs.Primaries.{primary_limit}
 use Rattle.stream_spec.specs.Lists.{In}
 use Rattle.stream_spec.specs.Numbering.{Numbered}
 use Rattle.stream_spec.specs.Hearing.{heard_by, AreHeardTexts}
@@ -34,7 +35,7 @@ use Rattle.receiver.proofs.HandedOut.{given_append, pieces_given, pieces_nil, te
 use Rattle.receiver.proofs.Blockwise.{heard_left}
 use Rattle.receiver.specs.declared.settings.EarSettings.{EarSettings}
 use Rattle.receiver.specs.declared.ears.Ear.{Ear}
-use Rattle.receiver.specs.Hears.{told, arrival_count, is_finished, is_quiet, texts_left, ready_packet, ready_packets, last_after, Hears, Gave, IsGiving, GaveSome, Becomes, ready_chunks, story_chunks}
+use Rattle.receiver.specs.Hears.{text_for, told, arrival_count, is_finished, is_quiet, texts_left, ready_packet, ready_packets, last_after, Hears, Gave, IsGiving, GaveSome, Becomes, ready_chunks, story_chunks}
 use Rattle.stream_spec.proofs.HeardTexts.{added_utf8}
 use Rattle.receiver.proofs.Accepted.{accepted_text}
 use Rattle.receiver.proofs.Given.{fronts, above_given, given_text, last_snoc, next_rises}
@@ -95,31 +96,36 @@ told_given story now (Ok p) = refl
 told_given story now (Err f) = refl
 
 -- what is read for the ear is what is asked for
-pub asked_same : (a b : EarSettings) (octets : List ℕ) → a ≡ b → text_of octets (Some a.ssrc) a.payload_types ≡ text_of octets (Some b.ssrc) b.payload_types
-asked_same a b octets e = ap (λ (c : EarSettings). text_of octets (Some c.ssrc) c.payload_types) e
+pub asked_same : (a b : EarSettings) (octets : List ℕ) → a ≡ b → text_for a octets ≡ text_for b octets
+asked_same a b octets e = ap (λ (c : EarSettings). text_for c octets) e
 
-pub takes : (e : Ear) (t : State) (now : ℕ) (octets : List ℕ) (p : Packet) → is_quiet e ≡ true → text_of octets (Some e.settings.ssrc) e.settings.payload_types ≡ Ok p
+-- also by a limit that was computed
+pub asked_within : (settings : EarSettings) (octets : List ℕ) (most : ℕ) (r : Result Packet TextFault) → most ≡ primary_limit settings.long
+    → text_within most octets (Some settings.ssrc) settings.payload_types ≡ r → text_for settings octets ≡ r
+asked_within settings octets most r e x = ap (λ (n : ℕ). text_within n octets (Some settings.ssrc) settings.payload_types) (sym e) ∙ x
+
+pub takes : (e : Ear) (t : State) (now : ℕ) (octets : List ℕ) (p : Packet) → is_quiet e ≡ true → text_for e.settings octets ≡ Ok p
     → ((story : Story) → Tracks e.buffer story → Tracks t (came story now p))
-    → Becomes e (record e { buffer = t }) (λ settings story. told story now (text_of octets (Some settings.ssrc) settings.payload_types))
-takes e t now octets p quiet x k = becomes e t quiet (λ settings story. told story now (text_of octets (Some settings.ssrc) settings.payload_types))
+    → Becomes e (record e { buffer = t }) (λ settings story. told story now (text_for settings octets))
+takes e t now octets p quiet x k = becomes e t quiet (λ settings story. told story now (text_for settings octets))
     (λ settings sources story h.
-    let same : text_of octets (Some settings.ssrc) settings.payload_types ≡ Ok p = sym (asked_same e.settings settings octets h.asked) ∙ x in
+    let same : text_for settings octets ≡ Ok p = sym (asked_same e.settings settings octets h.asked) ∙ x in
     subst (λ r. Hears (record e { buffer = t }) settings sources (told story now r)) (sym same) (record {
       asked = h.asked;
       wait = h.wait;
       tracks = k story h.tracks;
       stands = h.stands;
       latest = h.latest;
-      texts = (accepted_text octets (Some e.settings.ssrc) e.settings.payload_types p x, h.texts);
+      texts = (accepted_text (primary_limit e.settings.long) octets (Some e.settings.ssrc) e.settings.payload_types p x, h.texts);
     }))
-    (λ settings story. told_given story now (text_of octets (Some settings.ssrc) settings.payload_types))
+    (λ settings story. told_given story now (text_for settings octets))
 
 -- what is refused changes nothing but the packet's place
-pub refuses : (e : Ear) (q : TextPacket) (now : ℕ) (octets : List ℕ) (f : TextFault) → is_quiet e ≡ true → text_of octets (Some e.settings.ssrc) e.settings.payload_types ≡ Err f
-    → Becomes e (record e { buffer = with_packet e.buffer q }) (λ settings story. told story now (text_of octets (Some settings.ssrc) settings.payload_types))
-refuses e q now octets f quiet x = becomes e (with_packet e.buffer q) quiet (λ settings story. told story now (text_of octets (Some settings.ssrc) settings.payload_types))
+pub refuses : (e : Ear) (q : TextPacket) (now : ℕ) (octets : List ℕ) (f : TextFault) → is_quiet e ≡ true → text_for e.settings octets ≡ Err f
+    → Becomes e (record e { buffer = with_packet e.buffer q }) (λ settings story. told story now (text_for settings octets))
+refuses e q now octets f quiet x = becomes e (with_packet e.buffer q) quiet (λ settings story. told story now (text_for settings octets))
     (λ settings sources story h.
-    let same : text_of octets (Some settings.ssrc) settings.payload_types ≡ Err f = sym (asked_same e.settings settings octets h.asked) ∙ x in
+    let same : text_for settings octets ≡ Err f = sym (asked_same e.settings settings octets h.asked) ∙ x in
     subst (λ r. Hears (record e { buffer = with_packet e.buffer q }) settings sources (told story now r)) (sym same) (record {
       asked = h.asked;
       wait = h.wait;
@@ -128,7 +134,7 @@ refuses e q now octets f quiet x = becomes e (with_packet e.buffer q) quiet (λ 
       latest = h.latest;
       texts = h.texts;
     }))
-    (λ settings story. told_given story now (text_of octets (Some settings.ssrc) settings.payload_types))
+    (λ settings story. told_given story now (text_for settings octets))
 
 -- each chunk is ready by the end
 pub end_chunks : (settings : EarSettings) (source : ℕ) (story : Story) → story.wait ≡ settings.wait → ready_dues (ended story) ≡ dues story → ready_chunks settings source (ended story) ≡ story_chunks settings source story

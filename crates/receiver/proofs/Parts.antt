@@ -6,8 +6,6 @@ use Rattle.std.specs.List.{concat}
 use Rattle.std.proofs.lemmas.List.Folds.{concat-append}
 use Rattle.std.proofs.Math.Seq.{take-suc}
 use Rattle.rtt_base.specs.declared.blocks.TextBlock.{TextBlock}
-use Rattle.wire_spec.specs.Packets.{redundant, primary_text}
-use Rattle.rtt_base.specs.declared.text_packets.TextPacket.{TextPacket}
 use Rattle.stream_spec.specs.Hearing.{text_list}
 use Rattle.stream_spec.specs.Lists.{In}
 use Rattle.stream_spec.proofs.Lists.{in_append}
@@ -15,8 +13,7 @@ use Rattle.receiver.specs.declared.receivers.LastPacket.{LastPacket}
 use Rattle.receiver.specs.declared.receivers.ListedSource.{ListedSource}
 use Rattle.receiver.specs.declared.receivers.Receiver.{Receiver}
 use Rattle.receiver.specs.Stands.{Stands, IsSeen}
-use Rattle.receiver.specs.Steps.{new_since, older_since, texts_since}
-use Rattle.rtp_text.proofs.Viewing.{redundant_is, primary_is}
+use Rattle.receiver.specs.Steps.{new_since, older_since}
 use Rattle.std.proofs.lemmas.List.{append-nil}
 use Rattle.stream_spec.proofs.Plain.{list_whole as concat_text}
 
@@ -71,11 +68,6 @@ take_all (suc n) (x ∷ xs) l = ap (λ ys. x ∷ ys) (take_all n xs (omega arith
 -- all seats are made
 pub all_seats : (items : List ListedSource) (sources : List ℕ) (n : ℕ) → map (λ y. y.source) items ≡ take n sources → length sources ≤ n → map (λ y. y.source) items ≡ sources
 all_seats items sources n e l = e ∙ take_all n sources l
-
-pub texts_are : (seen : Option LastPacket) (p : TextPacket) (rest : List TextBlock) (b : TextBlock) → p.blocks ≡ rest ++ b ∷ [] → older_since seen p.timestamp rest ++ text_list b.text ≡ texts_since seen p
-texts_are seen p rest b e =
-    ap (λ bs. older_since seen p.timestamp bs ++ text_list b.text) (sym (ap redundant e ∙ redundant_is rest b))
-    ∙ ap (λ t. older_since seen p.timestamp (redundant p.blocks) ++ text_list t) (sym (ap primary_text e ∙ primary_is rest b))
 
 -- ---- octets that are appended
 

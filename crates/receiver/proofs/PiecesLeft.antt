@@ -23,11 +23,11 @@ put_whole cut text out some short is =
     ∙ ap (λ (t : List ℕ). t ∷ text_pieces cut (drop (length t) text)) (sym is))
 
 -- or a front of it
-pub put_front : (cut : TextCut) (text out : List ℕ) (most end : ℕ) → most ≡ most_of cut → most < length text → length text < 1024 → end ≡ cut_at most text → end ≤ most → out ≡ take end text
+pub put_front : (cut : TextCut) (text out : List ℕ) (most end : ℕ) → most ≡ most_of cut → most < length text → end ≡ cut_at most text → end ≤ most → out ≡ take end text
     → text_pieces cut text ≡ out ∷ text_pieces cut (drop (length out) text)
-put_front cut text out most end value long few at within is =
+put_front cut text out most end value long at within is =
     let len : length out ≡ end = ap (λ (t : List ℕ). length t) is ∙ length-take-le end text (omega (arith, within, long)) in
-    piece_cut cut text (omega (arith, value, long)) few
+    piece_cut cut text (omega (arith, value, long))
     ∙ (ap (λ (n : ℕ). take n text ∷ text_pieces cut (drop n text)) (sym (at ∙ ap (λ (n : ℕ). cut_at n text) value))
     ∙ (λ i. sym is i ∷ text_pieces cut (drop (sym len i) text)))
 

@@ -84,19 +84,19 @@ plain_of seen missing v repeats few e none = record {
 -- ---- the packet of a view
 
 abbrev pub shown : TextView → TextPacket
-shown v = record { marker_bit = v.marker_bit; seq = v.seq; timestamp = v.timestamp; ssrc = v.ssrc; source = v.source; blocks = blocks_in v }
+shown v = record { marker_bit = v.marker_bit; seq = v.seq; timestamp = v.timestamp; ssrc = v.ssrc; source = v.source; older = older_in v; primary = v.primary.now }
 
 pub shown_is : (v : TextView) → packet_of (shown v) ≡ packet_in v
-shown_is v = rw (redundant_is (older_in v) (primary v.primary.now), primary_is (older_in v) (primary v.primary.now)) refl
+shown_is v = refl
 
 used_is : (time number : ℕ) (v : TextView) → used_packet time number (shown v) ≡ viewed_packet time number v
 used_is time number v = rw (shown_is v) refl
 
-plain_marked : (seen : Option LastPacket) (missing : ℕ) (v : TextView) → IsPlain seen missing v → is_marked_since seen missing (shown v).timestamp (redundant (shown v).blocks) ≡ false
-plain_marked seen missing v p = rw (redundant_is (older_in v) (primary v.primary.now)) p.unmarked
+plain_marked : (seen : Option LastPacket) (missing : ℕ) (v : TextView) → IsPlain seen missing v → is_marked_since seen missing (shown v).timestamp (shown v).older ≡ false
+plain_marked seen missing v p = p.unmarked
 
 plain_texts : (seen : Option LastPacket) (missing : ℕ) (v : TextView) → IsPlain seen missing v → texts_since seen (shown v) ≡ text_list v.primary.now
-plain_texts seen missing v p = rw (redundant_is (older_in v) (primary v.primary.now), primary_is (older_in v) (primary v.primary.now), p.repeated) refl
+plain_texts seen missing v p = rw (p.repeated) refl
 
 plain_told : (seen : Option LastPacket) (missing : ℕ) (v : TextView) → IsPlain seen missing v → concat (told_since seen missing (shown v)) ≡ v.primary.now
 plain_told seen missing v p = rw (plain_marked seen missing v p, plain_texts seen missing v p) (concat_text v.primary.now)
@@ -147,7 +147,7 @@ plain_primary r last number place v source us time s f small p kept =
     let within = (position-Some (λ (n : ℕ). n == v.source) sources place 0 there.position_is).0 in
     let zero : place ≡ 0 = omega (arith, within) in
     ap (λ (b : Numbered). heard_by (us ++ b ∷ []) source) (sym (used_is time number v))
-    ∙ (heard_at r (with_number r number) sources us time number (shown v) s f counts 0 (Some 0) (is_marked_since seen m v.timestamp (redundant (blocks_in v))) (texts_since seen (shown v)) (omega arith)
+    ∙ (heard_at r (with_number r number) sources us time number (shown v) s f counts 0 (Some 0) (is_marked_since seen m v.timestamp (older_in v)) (texts_since seen (shown v)) (omega arith)
     (ap Some (sym zero) ∙ sym there.position_is)
     (λ j q. (markers r (with_number r number) sources us time number (shown v) s f counts place p.own there, texts_there r (with_number r number) sources us time number (shown v) s f counts place p.own there))
     ∙ ap (λ ts. heard_by us source ++ ts) (rw (plain_marked seen m v one, plain_texts seen m v one) refl))

@@ -9,7 +9,7 @@ use Rattle.rtt_base.specs.declared.blocks.TextBlock.{TextBlock}
 use Rattle.rtt_base.specs.declared.text_packets.TextPacket.{TextPacket}
 use Rattle.rtt_base.specs.Timestamps.{is_after}
 use Rattle.std.proofs.lemmas.List.{length-map}
-use Rattle.wire_spec.specs.Packets.{redundant, primary_text, back}
+use Rattle.wire_spec.specs.Packets.{back}
 use Rattle.stream_spec.specs.Lists.{In}
 use Rattle.stream_spec.specs.Numbering.{Numbered, has_number, RisingNumbers}
 use Rattle.stream_spec.specs.Hearing.{missing, missing_between, missing_before, is_new, older_texts, text_list, marker, oldest_offset, first_number_of, before_it, adds_marker, adds_texts, heard_by}
@@ -94,7 +94,7 @@ older_same us b seen timestamp [] k = refl
 older_same us b seen timestamp (c ∷ cs) k = rw (new_same us b seen (back timestamp c.offset) k, older_same us b seen timestamp cs k) refl
 
 texts_same : (us : List Numbered) (time number : ℕ) (p : TextPacket) (seen : Option LastPacket) → IsSeen us p.source seen → texts_since seen p ≡ adds_texts us (used_packet time number p)
-texts_same us time number p seen k = ap (λ ts. ts ++ text_list (primary_text p.blocks)) (older_same us (used_packet time number p) seen p.timestamp (redundant p.blocks) k)
+texts_same us time number p seen k = ap (λ ts. ts ++ text_list p.primary) (older_same us (used_packet time number p) seen p.timestamp p.older k)
 
 missing_same : (us : List Numbered) (b : Numbered) (seen : Option LastPacket) (missing : ℕ) → RisingNumbers us → ((u : Numbered) → In u us → u.number < b.number) → IsCount (us ++ b ∷ []) (Some b.number) missing
     → IsSeen us b.packet.source seen → missing - missing_then seen ≡ missing_before (has_number us) (first_number_of us b) (before_it us b) b
@@ -128,10 +128,10 @@ missing_same us b (Some x) m r f c k =
         omega (arith, a, same, len, first, sum, own)
 
 markers_same : (us : List Numbered) (time number : ℕ) (p : TextPacket) (seen : Option LastPacket) (m : ℕ) → RisingNumbers us → ((u : Numbered) → In u us → u.number < number)
-    → IsCount (us ++ used_packet time number p ∷ []) (Some number) m → IsSeen us p.source seen → is_marked_since seen m p.timestamp (redundant p.blocks) ≡ adds_marker us (used_packet time number p)
+    → IsCount (us ++ used_packet time number p ∷ []) (Some number) m → IsSeen us p.source seen → is_marked_since seen m p.timestamp p.older ≡ adds_marker us (used_packet time number p)
 markers_same us time number p seen m r f c k =
     let b : Numbered = used_packet time number p in
-    rw (missing_same us (used_packet time number p) seen m r f c k, new_same us (used_packet time number p) seen (back p.timestamp (oldest_offset (redundant p.blocks))) k) refl
+    rw (missing_same us (used_packet time number p) seen m r f c k, new_same us (used_packet time number p) seen (back p.timestamp (oldest_offset p.older)) k) refl
 
 -- ---- places
 prefix_map : (s : ℕ) (items : List ListedSource) → prefix_len (λ l. not (l.source == s)) items ≡ prefix_len (λ n. not (n == s)) (map (λ l. l.source) items)
@@ -316,7 +316,7 @@ module _ (r next : Receiver) (sources : List ℕ) (us : List Numbered) (time num
       apart : (i j : ℕ) → i < length sources → j < length sources → i ≢ j → get_or sources i 0 ≡ get_or sources j 0 → ⊥
       apart i j li lj ne z = elim (cases_lt i j) [ inl lt ↦ s.differ i j 0 lt lj z | inr ge ↦ s.differ j i 0 (omega (arith, ne)) li (sym z) ]
 
-  pub markers : (place : ℕ) (l : ListedSource) → IsSeat place l → is_marked_since l.seen next.missing p.timestamp (redundant p.blocks) ≡ adds_marker us (used_packet time number p)
+  pub markers : (place : ℕ) (l : ListedSource) → IsSeat place l → is_marked_since l.seen next.missing p.timestamp p.older ≡ adds_marker us (used_packet time number p)
   markers place l t = markers_same us time number p l.seen next.missing s.rising above count (seen_there place l t)
 
   pub texts_there : (place : ℕ) (l : ListedSource) → IsSeat place l → texts_since l.seen p ≡ adds_texts us (used_packet time number p)
@@ -373,12 +373,12 @@ module _ (r next : Receiver) (sources : List ℕ) (us : List Numbered) (time num
 
   -- of a packet of a listed source, whose text is told more
   pub each_listed : (texts : List SourceText) (place : ℕ) (l : ListedSource) (x told : SourceText) → IsSeat place l → length texts ≡ length r.listed.items → x ≡ get_or texts place x → AreHeard sources us texts
-      → told.text ≡ x.text ++ concat (told_since l.seen next.missing p) → told.markers ≡ x.markers + one_if (is_marked_since l.seen next.missing p.timestamp (redundant p.blocks))
+      → told.text ≡ x.text ++ concat (told_since l.seen next.missing p) → told.markers ≡ x.markers + one_if (is_marked_since l.seen next.missing p.timestamp p.older)
       → AreHeard sources (us ++ used_packet time number p ∷ []) (set texts place told)
   each_listed texts place l x told t n at are text marker_is i d below = elim (cases_eq place i) [ inl q ↦ here q | inr ne ↦ there ne ]
     where
       m : Bool
-      m = is_marked_since l.seen next.missing p.timestamp (redundant p.blocks)
+      m = is_marked_since l.seen next.missing p.timestamp p.older
 
       within : place < length texts
       within = omega (arith, t.within, n)

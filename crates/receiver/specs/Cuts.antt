@@ -1,7 +1,6 @@
 -- What an ear of one source hands out of the texts that are heard (profile).
 use Rattle.std.specs.Prelude.{ℕ, Bool, true, false, Option, None, Some, List, filter, flat_map}
 use Rattle.rtt_base.specs.declared.limits.TheConstants.{MOST_TEXT_OCTETS}
-use Rattle.stream_spec.specs.Hearing.{text_list}
 use Rattle.stream_spec.specs.Ready.{Chunk}
 use Rattle.stream_spec.specs.Still.{is_blank, is_lively, is_lively_chunk}
 use Rattle.mixer_spec.specs.Pieces.{chunks_cut, pieces}
@@ -34,7 +33,7 @@ is_dropped Short text = is_blank text
 
 -- the pieces of a text
 abbrev pub text_pieces : TextCut → List ℕ → List (List ℕ)
-text_pieces Never text = text_list text
+text_pieces Never text = pieces MOST_TEXT_OCTETS text
 text_pieces Long text = pieces MOST_TEXT_OCTETS text
 text_pieces Short text = pieces MOST_PIECE_OCTETS text
 
@@ -47,12 +46,12 @@ chunks_in_pieces n cs = chunks_cut (pieces n) (filter is_lively_chunk cs)
 
 -- of the texts that are heard what is handed out
 abbrev pub texts_given : TextCut → List (List ℕ) → List (List ℕ)
-texts_given Never ts = ts
+texts_given Never ts = flat_map (pieces MOST_TEXT_OCTETS) ts
 texts_given Long ts = texts_in_pieces MOST_TEXT_OCTETS ts
 texts_given Short ts = texts_in_pieces MOST_PIECE_OCTETS ts
 
 -- each at its moment
 abbrev pub chunks_given : TextCut → List Chunk → List Chunk
-chunks_given Never cs = cs
+chunks_given Never cs = chunks_cut (pieces MOST_TEXT_OCTETS) cs
 chunks_given Long cs = chunks_in_pieces MOST_TEXT_OCTETS cs
 chunks_given Short cs = chunks_in_pieces MOST_PIECE_OCTETS cs

@@ -2,7 +2,8 @@
 use Rattle.std.specs.Prelude.{◌≡◌, ℕ, Bool, true, not, ◌&&◌, Option, None, Some, Result, Ok, Err, List, [], ◌∷◌, ◌++◌, filter, map}
 use Rattle.wire_spec.specs.declared.faults.TextFault.{TextFault}
 use Rattle.wire_spec.specs.Packets.{Packet, Arrival, AreTextArrivals}
-use Rattle.wire_spec.specs.Text.{text_of}
+use Rattle.wire_spec.specs.Text.{text_within}
+use Rattle.file_spec.specs.Primaries.{primary_limit}
 use Rattle.wire_spec.specs.Dump.{latest}
 use Rattle.stream_spec.specs.Numbering.{Numbered}
 use Rattle.stream_spec.specs.Hearing.{AreHeardTexts}
@@ -47,7 +48,7 @@ texts_left e = pieces_left e.settings.cut e.piece (buffer.current_of e.buffer)
 
 -- the packet of the stream that these octets are, or why they are none
 abbrev pub text_for : EarSettings → List ℕ → Result Packet TextFault
-text_for settings octets = text_of octets (Some settings.ssrc) settings.payload_types
+text_for settings octets = text_within (primary_limit settings.long) octets (Some settings.ssrc) settings.payload_types
 
 -- an octet string that is a packet of text comes at `now`; nothing else hands in a moment
 abbrev pub told : Story → ℕ → Result Packet TextFault → Story

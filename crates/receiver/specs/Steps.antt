@@ -3,7 +3,7 @@ use Rattle.std.specs.Prelude.{ℕ, ◌+◌, ◌-◌, Bool, true, Option, None, S
 use Rattle.rtt_base.specs.declared.blocks.TextBlock.{TextBlock}
 use Rattle.rtt_base.specs.declared.text_packets.TextPacket.{TextPacket}
 use Rattle.rtt_base.specs.Timestamps.{is_after}
-use Rattle.wire_spec.specs.Packets.{redundant, primary_text, back}
+use Rattle.wire_spec.specs.Packets.{back}
 use Rattle.stream_spec.specs.Hearing.{marker, text_list, oldest_offset}
 use Rattle.receiver.specs.declared.receivers.Receiver.{Receiver}
 use Rattle.receiver.specs.declared.receivers.LastPacket.{LastPacket}
@@ -37,14 +37,8 @@ older_since seen timestamp [] = []
 older_since seen timestamp (b ∷ bs) = new_since seen timestamp b ++ older_since seen timestamp bs
 
 abbrev pub texts_since : Option LastPacket → TextPacket → List (List ℕ)
-texts_since seen p = older_since seen p.timestamp (redundant p.blocks) ++ text_list (primary_text p.blocks)
-
--- the texts of blocks of which the last is the primary one: each that is new, and the last
-abbrev pub blocks_since : Option LastPacket → ℕ → List TextBlock → List (List ℕ)
-blocks_since seen timestamp [] = []
-blocks_since seen timestamp (b ∷ []) = text_list b.text
-blocks_since seen timestamp (b ∷ c ∷ bs) = new_since seen timestamp b ++ blocks_since seen timestamp (c ∷ bs)
+texts_since seen p = older_since seen p.timestamp p.older ++ text_list p.primary
 
 -- all that the packet gives
 abbrev pub told_since : Option LastPacket → ℕ → TextPacket → List (List ℕ)
-told_since seen missing p = (if is_marked_since seen missing p.timestamp (redundant p.blocks) then marker ∷ [] else []) ++ texts_since seen p
+told_since seen missing p = (if is_marked_since seen missing p.timestamp p.older then marker ∷ [] else []) ++ texts_since seen p

@@ -10,7 +10,7 @@ use rtt_base::limits::MOST_TEXT_OCTETS;
 /// How an ear of one source hands out the texts that it hears.
 #[derive(Clone, Copy, Debug, PartialEq, Eq)]
 pub enum TextCut {
-    /// Each as it is heard.
+    /// Each as it is heard; one of more than 1023 octets, which no leg without long texts has, in pieces of as many.
     Never,
     /// But for keep-alives (U+FEFF alone), and cut between characters into pieces of at most 1023 octets.
     Long,

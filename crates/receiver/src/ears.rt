@@ -11,8 +11,9 @@ ghost use Rattle.receiver.specs.EarPlain.{IsTextFor, HearsPlain, GivesPlain};
 ghost use Rattle.rtt_base.specs.declared.limits.TheConstants.{END_OF_MOMENTS, LONGEST_WAIT, MOST_ARRIVALS, MOST_SOURCES};
 
 use crate::{EarSettings, PieceCursor, PlainAnswer, Receiver, SourceText};
+use file_spec::primary_limit;
 use reorder_buffer::ReorderBuffer;
-use rtp_text::{read_text, view_text};
+use rtp_text::{read_text_within, view_text_within};
 use rtt_base::{Chunk, NoMemory};
 use std::alloc::Global;
 use wire_spec::TextFault;
@@ -99,7 +100,8 @@ impl Ear {
         ensures arrivals { arrival_count self.new ≤ arrival_count self.old + 1 }
         ensures finished { is_finished self.new ≡ is_finished self.old }
     {
-        match read_text(
+        match read_text_within(
+            primary_limit(self.settings.long),
             octets,
             Some(self.settings.ssrc),
             self.settings.payload_types,
@@ -219,7 +221,8 @@ impl Ear {
         ensures arrivals { OnOk result (arrival_count self.new ≤ arrival_count self.old + 1) }
         ensures finished { OnOk result (is_finished self.new ≡ is_finished self.old) }
     {
-        let Some(view) = view_text(
+        let Some(view) = view_text_within(
+            primary_limit(self.settings.long),
             octets,
             Some(self.settings.ssrc),
             self.settings.payload_types,
@@ -258,7 +261,8 @@ impl Ear {
         ensures arrivals { arrival_count self.new ≤ arrival_count self.old + 1 }
         ensures finished { is_finished self.new ≡ is_finished self.old }
     {
-        let Some(view) = view_text(
+        let Some(view) = view_text_within(
+            primary_limit(self.settings.long),
             octets,
             Some(self.settings.ssrc),
             self.settings.payload_types,

@@ -1,15 +1,16 @@
 //! What one packet gives, piece by piece.
-ghost use Rattle.std.specs.Prelude.{◌≡◌, ◌<◌, ◌≤◌, ◌∷◌, ◌++◌, ◌+◌, [], Bool, ℕ, drop, length};
+ghost use Rattle.std.specs.Prelude.{◌≡◌, ◌<◌, ◌≤◌, ◌∷◌, ◌++◌, ◌+◌, [], Bool, ℕ, drop, length, IfNone, IfSome};
 ghost use Rattle.rtt_base.specs.declared.text_packets.TextPacket.{TextPacket};
 ghost use Rattle.receiver.specs.declared.cuts.TextCut.{TextCut};
 ghost use Rattle.receiver.specs.Cuts.{is_dropped, text_pieces, texts_given};
 ghost use Rattle.receiver.specs.Pieces.{is_heard, left_of};
 ghost use Rattle.receiver.specs.PiecesLeft.{is_given, pieces_left, rest_of};
+ghost use Rattle.rtt_base.specs.declared.limits.TheConstants.{MOST_PRIMARY_OCTETS};
 
 use crate::cuts::TextCut;
 use crate::pieces::TextCursor;
 use crate::text_ends::cut_at;
-use rtt_base::{Text, TextPacket};
+use rtt_base::{Octets, PrimaryText, Text, TextPacket};
 
 /// What is still to be handed out of a packet that a receiver took.
 #[derive(Drop)]
@@ -17,14 +18,14 @@ pub struct PieceCursor {
     /// What is still to be heard of it.
     pub(crate) texts: TextCursor,
     /// The text that was cut last,
-    pub(crate) whole: Text,
+    pub(crate) whole: PrimaryText,
     /// and where in it the next piece begins.
     pub(crate) from: usize,
 }
 
-/// Puts a copy of this text, of at most 1023 octets, in place of what was there.
-fn write_over(place: &mut Text, text: &[u8])
-    requires { length text.now < 1024 }
+/// Puts a copy of this text in place of what was there.
+fn write_over<const MOST: usize>(place: &mut Octets<MOST>, text: &[u8])
+    requires { length text.now ≤ MOST }
     ensures { place.new ≡ text.now }
 {
     place.clear();
@@ -34,7 +35,6 @@ fn write_over(place: &mut Text, text: &[u8])
 /// Puts the first piece of this text in place of what is in `out`.
 fn put_piece(cut: TextCut, text: &[u8], out: &mut Text)
     requires some { 0 < length text.now }
-    requires few { length text.now < 1024 }
     ensures pieces { text_pieces cut text.now ≡ out.new ∷ text_pieces cut (drop (length out.new) text.now) }
     ensures within { length out.new ≤ length text.now }
 {
@@ -47,21 +47,21 @@ fn put_piece(cut: TextCut, text: &[u8], out: &mut Text)
     write_over(out, &text[..end]);
 }
 
-/// Puts the next text that is handed out in place of what is in `out`, and tells whether there was one. The packet is the one
-/// that the receiver took.
-fn next_text(texts: &mut TextCursor, cut: TextCut, packet: &TextPacket, out: &mut Text) -> bool
-    ensures some { result ≡ Bool.true
-        → texts_given cut (left_of texts.old packet.now) ≡ text_pieces cut out.new ++ texts_given cut (left_of texts.new packet.now) }
-    ensures text { result ≡ Bool.true → 0 < length out.new }
-    ensures none { result ≡ Bool.false → texts_given cut (left_of texts.old packet.now) ≡ [] }
-    ensures heard { result ≡ Bool.false → is_heard texts.new ≡ Bool.true }
+/// The next text that is handed out, where it lies. The packet is the one that the receiver took.
+fn next_text<'a>(texts: &mut TextCursor, cut: TextCut, packet: &'a TextPacket) -> Option<&'a [u8]>
+    ensures some { IfSome result (λ text. texts_given cut (left_of texts.old packet.now)
+        ≡ text_pieces cut text.now ++ texts_given cut (left_of texts.new packet.now)) }
+    ensures text { IfSome result (λ text. 0 < length text.now) }
+    ensures fits { IfSome result (λ text. length text.now ≤ MOST_PRIMARY_OCTETS) }
+    ensures none { IfNone result (texts_given cut (left_of texts.old packet.now) ≡ []) }
+    ensures heard { IfNone result (is_heard texts.new ≡ Bool.true) }
 {
-    while texts.next(packet, out) {
-        if !cut.drops(out.as_slice()) {
-            return true;
+    while let Some(text) = texts.next(packet) {
+        if !cut.drops(text) {
+            return Some(text);
         }
     }
-    false
+    None
 }
 
 impl PieceCursor {
@@ -71,7 +71,7 @@ impl PieceCursor {
     {
         PieceCursor {
             texts: TextCursor::none(),
-            whole: Text::new(),
+            whole: PrimaryText::new(),
             from: 0,
         }
     }
@@ -102,17 +102,19 @@ impl PieceCursor {
         self.from += out.len();
     }
 
-    /// Cuts this text, of which the first piece comes in its place.
-    fn cut(&mut self, cut: TextCut, out: &mut Text)
-        requires text { 0 < length out.old }
+    /// Cuts this text, and puts its first piece in place of what is in `out`.
+    fn cut(&mut self, cut: TextCut, text: &[u8], out: &mut Text)
+        requires text { 0 < length text.now }
+        requires fits { length text.now ≤ MOST_PRIMARY_OCTETS }
         requires none { length self.old.whole ≤ self.old.from }
-        ensures pieces { text_pieces cut out.old ≡ out.new ∷ rest_of cut self.new }
+        ensures pieces { text_pieces cut text.now ≡ out.new ∷ rest_of cut self.new }
         ensures texts { self.new.texts ≡ self.old.texts }
     {
-        if out.len() <= cut.most() {
+        if text.len() <= cut.most() {
+            write_over(out, text);
             return;
         }
-        write_over(&mut self.whole, out.as_slice());
+        write_over(&mut self.whole, text);
         self.from = 0;
         self.go_on(cut, out);
     }
@@ -129,10 +131,10 @@ impl PieceCursor {
             self.go_on(cut, out);
             return true;
         }
-        if !next_text(&mut self.texts, cut, packet, out) {
+        let Some(text) = next_text(&mut self.texts, cut, packet) else {
             return false;
-        }
-        self.cut(cut, out);
+        };
+        self.cut(cut, text, out);
         true
     }
 }

@@ -2,7 +2,6 @@
 ghost use Rattle.std.specs.Prelude.{◌≡◌, ◌≢◌, ◌≤◌, ◌<◌, ◌+◌, ◌^◌, ◌==◌, ℕ, Bool, List, [], ◌∷◌, ◌++◌, length, position, All, AllPairs, IfOk, IfSome, OnOk, IsTrue, if◌then◌else◌};
 ghost use Rattle.std.specs.List.{concat};
 ghost use Rattle.std.specs.Option.{ForSome};
-ghost use Rattle.wire_spec.specs.Packets.{redundant};
 ghost use Rattle.stream_spec.specs.Numbering.{Numbered};
 ghost use Rattle.stream_spec.specs.Hearing.{heard_by, marker, oldest_offset};
 ghost use Rattle.receiver.specs.Stands.{Stands, used_packet, latest_number};
@@ -93,12 +92,9 @@ fn place_of(listed: &[ListedSource], source: u32) -> Option<usize>
 
 /// Whether a marker stands before what the packet gives.
 fn puts_marker(seen: Option<LastPacket>, missing: u64, packet: &TextPacket) -> bool
-    ensures { result ≡ is_marked_since seen missing packet.now.timestamp (redundant packet.now.blocks) }
+    ensures { result ≡ is_marked_since seen missing packet.now.timestamp packet.now.older }
 {
-    match packet.blocks.as_slice().split_last() {
-        Some((_, older)) => is_marked(seen, missing, packet.timestamp, older),
-        None => is_marked(seen, missing, packet.timestamp, &[]),
-    }
+    is_marked(seen, missing, packet.timestamp, packet.older.as_slice())
 }
 
 /// Appends a text that a packet repeats. Few packets give one, so it is kept out of the way of the others.
@@ -171,16 +167,12 @@ fn tell_more(
 ) -> Result<(), NoMemory>
     requires { heard.old.markers + 1 < 2 ^ 64 }
     ensures text { OnOk result (heard.new.text ≡ heard.old.text ++ concat (told_since seen missing packet.now)) }
-    ensures markers { OnOk result (heard.new.markers ≡ heard.old.markers + one_if (is_marked_since seen missing packet.now.timestamp (redundant packet.now.blocks))) }
+    ensures markers { OnOk result (heard.new.markers ≡ heard.old.markers + one_if (is_marked_since seen missing packet.now.timestamp packet.now.older)) }
 {
-    match packet.blocks.as_slice().split_last() {
-        Some((primary, older)) => {
-            put_marker(is_marked(seen, missing, packet.timestamp, older), heard)?;
-            append_older(seen, packet.timestamp, older, &mut heard.text)?;
-            heard.text.append(primary.text.as_slice())
-        }
-        None => put_marker(is_marked(seen, missing, packet.timestamp, &[]), heard),
-    }
+    let older = packet.older.as_slice();
+    put_marker(is_marked(seen, missing, packet.timestamp, older), heard)?;
+    append_older(seen, packet.timestamp, older, &mut heard.text)?;
+    heard.text.append(packet.primary.as_slice())
 }
 
 /// Whether the redundant block of this header gives a text: it is new, and has one.
@@ -357,7 +349,7 @@ impl Receiver {
         let (timestamp, missing) = (packet.timestamp, self.missing);
         let kept = Some(LastPacket { timestamp, missing });
         self.listed[place].seen = kept;
-        let rest = packet.blocks.len();
+        let rest = packet.older.len() + 1;
         TextCursor { seen, marker, rest }
     }
 

@@ -10,5 +10,7 @@ pub struct EarSettings {
     pub ssrc: u32,
     pub payload_types: PayloadTypes,
     pub wait: u64,
+    /// Whether a primary text may have more than 1023 octets.
+    pub long: bool,
     pub cut: TextCut,
 }

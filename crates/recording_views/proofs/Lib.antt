@@ -5,7 +5,7 @@ pub mod Going
 pub mod Sizes
 mod ListExamples
 pub mod Escaping
-pub mod Printing
+pub mod Writing
 pub mod Unescaping
 pub mod Reading
 mod ScriptExamples

@@ -5,8 +5,8 @@ use Rattle.std.specs.Char.{encode_utf8}
 use Rattle.std.specs.Fmt.{digits}
 use Rattle.command_spec.specs.declared.requests.ReadRequest.{ReadRequest}
 use Rattle.wire_spec.specs.Rtp.{rtp, rtp_of_header}
-use Rattle.wire_spec.specs.Red.{red, headers_at, texts_at}
-use Rattle.wire_spec.specs.Text.{text_of, text_of_short}
+use Rattle.wire_spec.specs.Red.{headers_at, red, red_within, texts_at, texts_within}
+use Rattle.wire_spec.specs.Text.{short_within, text_of, text_of_short, text_within}
 use Rattle.wire_spec.specs.Dump.{dump, opening, dump_step, records, records_within}
 use Rattle.view_spec.specs.Characters.{class_of}
 use Rattle.view_spec.specs.Shown.{shown}
@@ -21,5 +21,5 @@ abbrev asked : ReadRequest
 asked = record { ssrc = 1001; source = 1001; payload_types = record { t140 = 98; red = 100 } }
 
 view_of_call : read_view asked call ≡ codes "| AB\n-- bells 0\n-- packets 4 used 4 refused 0 foreign 0\n"
-unfolding call read_view is_utf8 rtp rtp_of_header red headers_at texts_at text_of text_of_short dump opening dump_step records records_within shown class_of chars encode_utf8 digits text_view counts_line
+unfolding call read_view is_utf8 rtp rtp_of_header red_within headers_at texts_within text_within short_within dump opening dump_step records records_within shown class_of chars encode_utf8 digits text_view counts_line
 view_of_call = refl

@@ -6,8 +6,8 @@ use Rattle.std.specs.Char.{encode_utf8}
 use Rattle.std.specs.Fmt.{digits}
 use Rattle.std.proofs.lemmas.List.Elements.{All-nil, All-cons}
 use Rattle.wire_spec.specs.Rtp.{rtp, rtp_of_header}
-use Rattle.wire_spec.specs.Red.{red, headers_at, texts_at}
-use Rattle.wire_spec.specs.Text.{text_of, text_of_short}
+use Rattle.wire_spec.specs.Red.{headers_at, red, red_within, texts_at, texts_within}
+use Rattle.wire_spec.specs.Text.{short_within, text_of, text_of_short, text_within}
 use Rattle.wire_spec.specs.Dump.{dump, opening, dump_step, records, records_within, dump_written}
 use Rattle.stream_spec.specs.Ready.{Chunk, chunk}
 use Rattle.view_spec.specs.Characters.{class_of}
@@ -31,11 +31,11 @@ abbrev heard : List Chunk
 heard = chunk 0 0 (0x41 ∷ []) ∷ chunk 0 300 (0xE2 ∷ 0x80 ∷ 0xA8 ∷ []) ∷ []
 
 heard_is : chunks_read asked two_texts ≡ heard
-unfolding two_texts is_utf8 rtp rtp_of_header red headers_at texts_at text_of text_of_short dump opening dump_step records records_within chars encode_utf8
+unfolding two_texts is_utf8 rtp rtp_of_header red_within headers_at texts_within text_within short_within dump opening dump_step records records_within chars encode_utf8
 heard_is = refl
 
 printed_is : transcript_view asked two_texts ≡ codes "0 A\n300 \\n\n"
-unfolding two_texts transcript_view escaped is_utf8 rtp rtp_of_header red headers_at texts_at text_of text_of_short dump opening dump_step records records_within class_of chars encode_utf8 digits
+unfolding two_texts transcript_view escaped is_utf8 rtp rtp_of_header red_within headers_at texts_within text_within short_within dump opening dump_step records records_within class_of chars encode_utf8 digits
 printed_is = refl
 
 all_sayable : All IsSayable heard

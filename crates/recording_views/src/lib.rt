@@ -2,6 +2,7 @@
 #![tactic(auto)]
 
 mod escapes;
+mod heard_texts;
 pub mod laws;
 mod list_lines;
 mod lists;
@@ -9,8 +10,11 @@ mod reads;
 mod recordings;
 mod records;
 mod script_lines;
+mod text_writers;
 
 pub use escapes::append_escaped;
+pub use heard_texts::{ear_for, write_packet, write_rest, write_texts};
 pub use lists::list_records;
 pub use reads::hear_recording;
-pub use recordings::{ear_for, script_recording};
+pub use recordings::script_recording;
+pub use text_writers::TextWriter;

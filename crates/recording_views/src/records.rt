@@ -1,6 +1,6 @@
 //! The lines of records.
 ghost use Rattle.std.specs.Prelude.{◌≡◌, ◌+◌, ◌≤◌, ◌++◌, flat_map, length, decimal, Bool, None};
-ghost use Rattle.wire_spec.specs.Packets.{packet_of, blocks_of};
+ghost use Rattle.wire_spec.specs.Packets.{packet_of};
 ghost use Rattle.wire_spec.specs.Text.{text_of};
 ghost use Rattle.rtp_text.specs.Views.{IsView, blocks_in, packet_in};
 ghost use Rattle.command_spec.specs.Listing.{bit, block_length, packet_line, refused_line, sent_line, record_line};
@@ -21,7 +21,7 @@ fn digit_of(marker_bit: bool) -> &'static [u8]
     if marker_bit { b"1" } else { b"0" }
 }
 
-/// Writes the lengths of the blocks in front of the line, each behind a space.
+/// Writes the lengths of the redundant blocks in front of the line, each behind a space.
 fn write_lengths(line: &mut PrintLine, blocks: &[TextBlock])
     requires room { length line.old ≤ 100 }
     requires few { length blocks.now ≤ 9 }
@@ -67,7 +67,7 @@ struct Head {
 /// Writes a packet's numbers in front of the lengths of its blocks.
 #[inline(always)]
 fn write_head(line: &mut PrintLine, head: &Head)
-    requires { length line.old ≤ 100 }
+    requires { length line.old ≤ 120 }
     ensures { line.new ≡ head_line head.now ++ line.old }
 {
     line.prepend(b" texts");
@@ -86,12 +86,13 @@ fn write_head(line: &mut PrintLine, head: &Head)
 
 /// Writes the line of a packet, which came at `at`.
 fn write_packet(line: &mut PrintLine, at: u32, packet: &TextPacket)
-    requires { packet.now.blocks ≡ blocks_of (packet_of packet.now) }
     ensures { line.new ≡ packet_line at (packet_of packet.now) }
 {
     line.clear();
     line.prepend(b"\n");
-    write_lengths(line, packet.blocks.as_slice());
+    line.prepend_number(packet.primary.len() as u32);
+    line.prepend(b" ");
+    write_lengths(line, packet.older.as_slice());
     let head = Head {
         at,
         marker_bit: packet.marker_bit,

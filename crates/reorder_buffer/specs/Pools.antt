@@ -9,7 +9,7 @@ pub record Pool : Type 0 where
   pub current : ℕ
 
 abbrev pub no_packet : TextPacket
-no_packet = record { marker_bit = false; seq = 0; timestamp = 0; ssrc = 0; source = 0; blocks = [] }
+no_packet = record { marker_bit = false; seq = 0; timestamp = 0; ssrc = 0; source = 0; older = []; primary = [] }
 
 abbrev pub packet_at : List TextPacket → ℕ → TextPacket
 packet_at packets place = get_or packets place no_packet

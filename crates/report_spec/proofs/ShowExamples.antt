@@ -7,8 +7,8 @@ use Rattle.std.specs.Char.{encode_utf8}
 use Rattle.rtt_base.specs.declared.text_packets.PayloadTypes.{PayloadTypes}
 use Rattle.wire_spec.specs.SentPackets.{packet_written}
 use Rattle.wire_spec.specs.Rtp.{rtp, rtp_of_header}
-use Rattle.wire_spec.specs.Red.{headers_at, texts_at, red}
-use Rattle.wire_spec.specs.Text.{text_of_short, text_of}
+use Rattle.wire_spec.specs.Red.{headers_at, red, red_within, texts_at, texts_within}
+use Rattle.wire_spec.specs.Text.{short_within, text_of, text_of_short, text_within}
 use Rattle.wire_spec.specs.Dump.{opening, dump_step, records_within, records, dump, record_written, dump_written}
 use Rattle.wire_spec.specs.declared.faults.DumpKind.TheVariants.{NotDump}
 use Rattle.stream_spec.specs.Hearing.{marker}
@@ -77,40 +77,40 @@ in_march = 0 ∷ 0x4E ∷ 0x8E ∷ 0x14 ∷ 0 ∷ 0x13 ∷ 0x16 ∷ 0xB7 ∷ []
 -- ---- what is printed
 show_two : show_view types with_others
     ≡ codes "== 1001 from 0 to 900\n1001: AB\n-- 1001 bells 0\n-- packets 4 used 4 refused 0 foreign 0\n-- ssrc 7 type 0 packets 1\n-- rtcp 1\n-- whole\n"
-unfolding show_view start_of items_view stream_view stream_title pair_view other_lines end_line source_view counts_line digits text_of text_of_short rtp rtp_of_header red headers_at texts_at dump records records_within dump_step opening shown class_of is_utf8 chars encode_utf8
+unfolding show_view start_of items_view stream_view stream_title pair_view other_lines end_line source_view counts_line digits text_within short_within rtp rtp_of_header red_within headers_at texts_within dump records records_within dump_step opening shown class_of is_utf8 chars encode_utf8
 show_two = refl
 
 -- without its last 13 octets, which are of the fourth packet
 show_cut : show_view types (take 153 two_letters)
     ≡ codes "== 1001 from 0 to 600\n1001: AB\n-- 1001 bells 0\n-- packets 3 used 3 refused 0 foreign 0\n-- byte 136: EndsInside\n"
-unfolding show_view start_of items_view stream_view stream_title pair_view other_lines end_line source_view counts_line digits text_of text_of_short rtp rtp_of_header red headers_at texts_at dump records records_within dump_step opening shown class_of is_utf8 chars encode_utf8
+unfolding show_view start_of items_view stream_view stream_title pair_view other_lines end_line source_view counts_line digits text_within short_within rtp rtp_of_header red_within headers_at texts_within dump records records_within dump_step opening shown class_of is_utf8 chars encode_utf8
 show_cut = refl
 
 -- of those numbered 10, 13 and 12 the last comes 1400 ms behind the second: 11 was lost, and 12 is too late
 show_gaps : show_view types with_gaps
     ≡ codes "== 1001 from 0 to 1500 lost 1 late 1\n1001: a" ++ marker ++ codes "d\n-- 1001 bells 0\n-- packets 3 used 2 refused 0 foreign 0\n-- whole\n"
-unfolding show_view start_of items_view stream_view stream_title pair_view other_lines end_line source_view counts_line digits text_of text_of_short rtp rtp_of_header red headers_at texts_at dump records records_within dump_step opening shown class_of is_utf8 chars encode_utf8
+unfolding show_view start_of items_view stream_view stream_title pair_view other_lines end_line source_view counts_line digits text_within short_within rtp rtp_of_header red_within headers_at texts_within dump records records_within dump_step opening shown class_of is_utf8 chars encode_utf8
 show_gaps = refl
 
 -- one of three payloads is text, and then one of two
 show_noise : show_view types (dump_written noise) ≡ codes "-- ssrc 7 type 111 packets 3\n-- whole\n"
-unfolding show_view start_of items_view stream_view stream_title pair_view other_lines end_line source_view counts_line digits text_of text_of_short rtp rtp_of_header red headers_at texts_at dump records records_within dump_step opening shown class_of is_utf8 chars encode_utf8
+unfolding show_view start_of items_view stream_view stream_title pair_view other_lines end_line source_view counts_line digits text_within short_within rtp rtp_of_header red_within headers_at texts_within dump records records_within dump_step opening shown class_of is_utf8 chars encode_utf8
 show_noise = refl
 
 show_half : show_view types (dump_written (drop 1 noise)) ≡ codes "-- ssrc 7 type 111 packets 2 text\n-- whole\n"
-unfolding show_view start_of items_view stream_view stream_title pair_view other_lines end_line source_view counts_line digits text_of text_of_short rtp rtp_of_header red headers_at texts_at dump records records_within dump_step opening shown class_of is_utf8 chars encode_utf8
+unfolding show_view start_of items_view stream_view stream_title pair_view other_lines end_line source_view counts_line digits text_within short_within rtp rtp_of_header red_within headers_at texts_within dump records records_within dump_step opening shown class_of is_utf8 chars encode_utf8
 show_half = refl
 
 -- the start is the last line
 show_start : show_view types (head_alone in_march ++ of_sound)
     ≡ codes "-- ssrc 7 type 0 packets 1\n-- whole\n-- began 1970-03-01 14:03:01.250\n"
-unfolding show_view start_of began_line day_text time_text date_of items_view stream_view stream_title pair_view other_lines end_line source_view counts_line digits text_of text_of_short rtp rtp_of_header red headers_at texts_at dump records records_within dump_step opening shown class_of is_utf8 chars encode_utf8
+unfolding show_view start_of began_line day_text time_text date_of items_view stream_view stream_title pair_view other_lines end_line source_view counts_line digits text_within short_within rtp rtp_of_header red_within headers_at texts_within dump records records_within dump_step opening shown class_of is_utf8 chars encode_utf8
 show_start = refl
 
 -- also where the recording breaks off, behind that
 show_cut_start : show_view types (head_alone in_march ++ 0 ∷ [])
     ≡ codes "-- byte 44: EndsInside\n-- began 1970-03-01 14:03:01.250\n"
-unfolding show_view start_of began_line day_text time_text date_of items_view stream_view stream_title pair_view other_lines end_line source_view counts_line digits text_of text_of_short rtp rtp_of_header red headers_at texts_at dump records records_within dump_step opening shown class_of is_utf8 chars encode_utf8
+unfolding show_view start_of began_line day_text time_text date_of items_view stream_view stream_title pair_view other_lines end_line source_view counts_line digits text_within short_within rtp rtp_of_header red_within headers_at texts_within dump records records_within dump_step opening shown class_of is_utf8 chars encode_utf8
 show_cut_start = refl
 
 -- the first millisecond of 1970 is no start
@@ -121,7 +121,7 @@ show_no_start = refl
 -- with other payload types all are of one pair, which may be red with texts of type 98 inside
 show_types : show_view (record { t140 = 96; red = 97 }) two_letters
     ≡ codes "-- ssrc 1001 type 100 packets 4 red of 98\n-- whole\n"
-unfolding show_view start_of items_view stream_view stream_title pair_view other_lines end_line source_view counts_line digits text_of text_of_short rtp rtp_of_header red headers_at texts_at dump records records_within dump_step opening shown class_of is_utf8 chars encode_utf8
+unfolding show_view start_of items_view stream_view stream_title pair_view other_lines end_line source_view counts_line digits text_within short_within rtp rtp_of_header red_within headers_at texts_within dump records records_within dump_step opening shown class_of is_utf8 chars encode_utf8
 show_types = refl
 
 -- octets that don't begin as a recording does are refused, and no others

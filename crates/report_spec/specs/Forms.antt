@@ -98,7 +98,8 @@ time_word w =
     else (if bytes_eq w (codes "turns") then word.Turns
     else (if bytes_eq w (codes "relabel") then word.Relabel
     else (if bytes_eq w (codes "mtu") then word.Mtu
-    else (if bytes_eq w (codes "counts") then word.Counts else service_word w))))))
+    else (if bytes_eq w (codes "counts") then word.Counts
+    else (if bytes_eq w (codes "long") then word.Long else service_word w)))))))
 
 abbrev pub line_word : List ℕ → LineWord
 line_word w =

@@ -47,6 +47,7 @@ pub enum LineWord {
     Record,
     Follow,
     Counts,
+    Long,
     Lose,
     Delay,
     Twice,

@@ -3,19 +3,17 @@ use Rattle.std.proofs.Common.{◌≡◌, ℕ, zero, suc, ◌+◌, ◌-◌, ◌*�
 use Rattle.std.proofs.lemmas.List.{length_push, append-nil, drop-drop}
 use Rattle.std.proofs.lemmas.Bool.{lt-ltb, le-ltb, ne_eqb, false≢true}
 use Rattle.std.proofs.lemmas.Str.{IsUtf8-from_is_utf8, is_utf8-from_IsUtf8}
-use Rattle.std.specs.Prelude.{IsUtf8, IsTrue, ◌↔◌, IfOk, OnOk}
+use Rattle.std.specs.Prelude.{IsUtf8, IsTrue, ◌↔◌}
 use Rattle.std.specs.Str.{is_utf8}
 use Rattle.rtt_base.specs.declared.blocks.TextBlock.{TextBlock}
 use Rattle.wire_spec.specs.declared.headers.RedHeader.{RedHeader}
 use Rattle.wire_spec.specs.declared.faults.RedFault.{RedFault}
 use Rattle.wire_spec.specs.declared.faults.RedFault.TheVariants.{Cut, Many, Long, NotText}
-use Rattle.std.proofs.lemmas.Result.{IfOk-at_ok}
-use Rattle.wire_spec.specs.Packets.{HasPrimary}
 use Rattle.rtt_base.specs.Steps.{◌>>=◌}
 use Rattle.wire_spec.specs.Steps.{Gives}
-use Rattle.wire_spec.specs.Red.{Headers, header_of, header_at, headers_at, and_others, older_size, blocks_at, all_utf8, checked, texts_at, with_header}
+use Rattle.wire_spec.specs.Packets.{primary}
+use Rattle.wire_spec.specs.Red.{Headers, all_utf8, and_others, blocks_at, checked, header_at, header_of, headers_at, older_size, texts_within, with_header}
 use Rattle.rtp_text.specs.Reading.{headers_of, after_headers, after_blocks, after_block}
-use Rattle.rtt_base.specs.declared.limits.TheConstants.{MOST_TEXT_OCTETS}
 
 -- ---- blocks
 
@@ -38,17 +36,17 @@ pub after_none : (read : Result (List TextBlock) RedFault) → after_blocks [] r
 after_none (Ok bs) = refl
 after_none (Err e) = refl
 
-pub too_short : (hs : List RedHeader) (octets : List ℕ) → length octets < older_size hs → texts_at hs octets ≡ Err Cut
-unfolding texts_at
-too_short hs octets h = rw (lt-ltb _ _ h) refl
+pub too_short : (most : ℕ) (hs : List RedHeader) (octets : List ℕ) → length octets < older_size hs → texts_within most hs octets ≡ Err Cut
+unfolding texts_within
+too_short most hs octets h = rw (lt-ltb _ _ h) refl
 
-pub too_long : (hs : List RedHeader) (octets : List ℕ) → older_size hs ≤ length octets → older_size hs + MOST_TEXT_OCTETS < length octets → texts_at hs octets ≡ Err Long
-unfolding texts_at
-too_long hs octets h k = rw (le-ltb _ _ h, lt-ltb _ _ k) refl
+pub too_long : (most : ℕ) (hs : List RedHeader) (octets : List ℕ) → older_size hs ≤ length octets → older_size hs + most < length octets → texts_within most hs octets ≡ Err Long
+unfolding texts_within
+too_long most hs octets h k = rw (le-ltb _ _ h, lt-ltb _ _ k) refl
 
-pub texts_read : (hs : List RedHeader) (octets : List ℕ) → older_size hs ≤ length octets → length octets ≤ older_size hs + MOST_TEXT_OCTETS → texts_at hs octets ≡ checked (blocks_at hs octets)
-unfolding texts_at
-texts_read hs octets h k = rw (le-ltb _ _ h, le-ltb _ _ k) refl
+pub texts_read : (most : ℕ) (hs : List RedHeader) (octets : List ℕ) → older_size hs ≤ length octets → length octets ≤ older_size hs + most → texts_within most hs octets ≡ checked (blocks_at hs octets)
+unfolding texts_within
+texts_read most hs octets h k = rw (le-ltb _ _ h, le-ltb _ _ k) refl
 
 -- ---- headers
 
@@ -109,29 +107,6 @@ header_refused front full t140 octets total fault few e header so_far =
     let at = headers_end (8 - length front) t140 octets (Err fault) (same_header (length front) full t140 octets (Err fault) few e header) (inr (fault, refl)) in
     sym so_far ∙ ap (after_headers front) at
 
--- ---- texts that are read end with a primary block
-
-blocks_end : (hs : List RedHeader) (octets : List ℕ) → HasPrimary (blocks_at hs octets)
-blocks_end [] octets = refl
-blocks_end (h ∷ []) octets = refl
-blocks_end (h ∷ i ∷ hs) octets = ap (λ (bs : List TextBlock). record { offset = h.offset; text = take h.size octets } ∷ bs) (blocks_end (i ∷ hs) (drop h.size octets))
-
-either : (b : Bool) (r s : Result (List TextBlock) RedFault) → IfOk r HasPrimary → IfOk s HasPrimary → IfOk (cond b r s) HasPrimary
-either true r s p q = p
-either false r s p q = q
-
-texts_end : (hs : List RedHeader) (octets : List ℕ) → IfOk (texts_at hs octets) HasPrimary
-unfolding texts_at
-texts_end hs octets =
-    either (ltb (length octets) (older_size hs)) (Err Cut) _ tt
-    (either (ltb (older_size hs + MOST_TEXT_OCTETS) (length octets)) (Err Long) _ tt
-    (either (all_utf8 (blocks_at hs octets)) (Ok (blocks_at hs octets)) (Err NotText) (blocks_end hs octets) tt))
-
--- what was read of texts
-pub primary_read : {X : Type 0} (result : Result X RedFault) (hs : List RedHeader) (octets : List ℕ) (blocks : List TextBlock) → Gives (λ _. blocks) result (texts_at hs octets) → OnOk result (HasPrimary blocks)
-primary_read (Ok x) hs octets blocks e = IfOk-at_ok HasPrimary e (texts_end hs octets)
-primary_read (Err f) hs octets blocks e = tt
-
 -- ---- headers as they stand
 
 pub headers_cut : (n : ℕ) (octets : List ℕ) → 0 < n → headers_of n octets ≡ header_of octets ∷ headers_of (n - 1) (drop 4 octets)
@@ -188,6 +163,14 @@ block_fault n out heads rest h total f l q e so_far =
     ∙ (ap (λ (hs : List RedHeader). after_blocks out (checked (blocks_at hs rest))) (headers_cut n heads l)
     ∙ (ap (λ (x : RedHeader). after_blocks out (checked (blocks_at (x ∷ headers_of (n - 1) (drop 4 heads)) rest))) (sym q)
     ∙ no_block out (record { offset = h.offset; text = take h.size rest }) bs f (is_utf8 (take h.size rest)) (all_utf8 bs) e))
+
+-- behind the last header only the primary text is left
+pub primary_last : (n : ℕ) (out : List TextBlock) (heads rest : List ℕ) → n ≡ 0 → after_block out 0 rest ≡ after_blocks out (checked (blocks_at (headers_of n heads) rest))
+primary_last n out heads rest e = rw e (go (is_utf8 rest))
+  where
+    go : (u : Bool) → cond u (Ok (out ++ primary rest ∷ [])) (Err NotText) ≡ after_blocks out (cond (u && true) (Ok (primary rest ∷ [])) (Err NotText))
+    go true = refl
+    go false = refl
 
 -- what the next header takes of the texts
 pub next_size : (n : ℕ) (heads : List ℕ) (h : RedHeader) → 0 < n → h ≡ header_of heads → older_size (headers_of n heads) ≡ h.size + older_size (headers_of (n - 1) (drop 4 heads))

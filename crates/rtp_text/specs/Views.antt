@@ -3,11 +3,11 @@ use Rattle.std.specs.Prelude.{◌≡◌, ℕ, ◌*◌, ◌≤◌, List, [], ◌�
 use Rattle.std.specs.Str.{IsAscii}
 use Rattle.rtt_base.specs.declared.blocks.TextBlock.{TextBlock}
 use Rattle.rtt_base.specs.declared.text_packets.PayloadTypes.{PayloadTypes}
-use Rattle.rtt_base.specs.declared.limits.TheConstants.{MOST_TEXT_OCTETS}
+use Rattle.rtt_base.specs.declared.limits.TheConstants.{MOST_PRIMARY_OCTETS}
 use Rattle.wire_spec.specs.declared.headers.RedHeader.{RedHeader}
 use Rattle.wire_spec.specs.Packets.{Packet, primary}
 use Rattle.wire_spec.specs.Rtp.{Reading}
-use Rattle.wire_spec.specs.Red.{older_size, red}
+use Rattle.wire_spec.specs.Red.{older_size, red_within}
 use Rattle.wire_spec.specs.Text.{text_packet}
 use Rattle.rtp_text.specs.Reading.{headers_of}
 use Rattle.rtp_text.specs.declared.views.TextView.{TextView}
@@ -39,19 +39,19 @@ pub record IsView (v : TextView) : Type 0 where
   pub few : v.count ≤ 8
   pub headers : 4 * v.count ≤ length v.headers.now
   pub older : length v.older.now ≡ older_size (headers_in v)
-  pub primary : length v.primary.now ≤ MOST_TEXT_OCTETS
+  pub primary : length v.primary.now ≤ MOST_PRIMARY_OCTETS
   pub older_ascii : IsAscii v.older.now
   pub primary_ascii : IsAscii v.primary.now
 
--- texts that are cut into the redundant ones, of so many octets, and the primary one
-pub record IsCut (size : ℕ) (texts front back : List ℕ) : Type 0 where
+-- texts that are cut into the redundant ones, of so many octets, and the primary one, of at most so many
+pub record IsCut (most size : ℕ) (texts front back : List ℕ) : Type 0 where
   pub enough : size ≤ length texts
   pub older : front ≡ take size texts
   pub primary : back ≡ drop size texts
-  pub few : length back ≤ MOST_TEXT_OCTETS
+  pub few : length back ≤ most
   pub ascii : IsAscii texts
 
--- the packet that has this header and payload
-pub record IsPacketOf (r : Reading) (payload_types : PayloadTypes) (v : TextView) : Type 0 where
-  pub blocks : red r.payload r.pt payload_types ≡ Ok (blocks_in v)
+-- the packet that has this header and payload, where a primary text has at most so many octets
+pub record IsPacketOf (most : ℕ) (r : Reading) (payload_types : PayloadTypes) (v : TextView) : Type 0 where
+  pub blocks : red_within most r.payload r.pt payload_types ≡ Ok (blocks_in v)
   pub packet : text_packet r (blocks_in v) ≡ packet_in v

@@ -1,13 +1,14 @@
 //! Reading the blocks of a payload.
-ghost use Rattle.std.specs.Prelude.{◌≡◌, ◌+◌, ◌*◌, ◌^◌, ◌≤◌, ◌<◌, [], false, ◌↔◌, length, map, IfOk, IfSome, OnOk, OnErr, IsTrue, IsUtf8, All, Ok, None};
+ghost use Rattle.std.specs.Prelude.{◌≡◌, ◌+◌, ◌*◌, ◌^◌, ◌≤◌, ◌<◌, [], ◌∷◌, ◌++◌, false, ◌↔◌, List, length, map, IfOk, IfSome, OnErr, IsTrue, IsUtf8, All, Ok, None};
 ghost use Rattle.std.specs.Str.{is_utf8, IsAscii};
 ghost use Rattle.wire_spec.specs.Steps.{Gives};
-ghost use Rattle.wire_spec.specs.Packets.{HasPrimary};
-ghost use Rattle.wire_spec.specs.Red.{header_of, header_at, headers_at, older_size, blocks_at, checked, texts_at, red};
+ghost use Rattle.rtt_base.specs.declared.blocks.TextBlock.{TextBlock};
+ghost use Rattle.wire_spec.specs.Packets.{primary};
+ghost use Rattle.wire_spec.specs.Red.{header_of, header_at, headers_at, older_size, blocks_at, checked, texts_within, red_within};
+ghost use Rattle.rtt_base.specs.declared.limits.TheConstants.{MOST_PRIMARY_OCTETS};
 ghost use Rattle.rtp_text.specs.Reading.{IsSmall, headers_of, headers_view, after_blocks, after_block};
 
-use rtt_base::limits::MOST_TEXT_OCTETS;
-use rtt_base::{Blocks, PayloadTypes};
+use rtt_base::{Blocks, PayloadTypes, PrimaryText};
 use wire_spec::{RedFault, RedHeader};
 
 /// F, the bit of a header's first octet that tells a redundant header from the last.
@@ -116,20 +117,36 @@ fn append_block(offset: u16, text: &[u8], plain: bool, out: &mut Blocks) -> Resu
     Ok(())
 }
 
-/// Appends the blocks of so many headers, and the primary one with what is left. One test tells whether all texts are
-/// ASCII.
+/// Puts the primary text in place of what was there, where it is UTF-8. `plain`: it is known to be ASCII.
+#[inline(always)]
+fn put_primary(text: &[u8], plain: bool, out: &mut PrimaryText) -> Result<(), RedFault>
+    requires fits { length text.now ≤ MOST_PRIMARY_OCTETS }
+    requires plain { IsTrue plain → IsAscii text.now }
+    ensures { (front : List TextBlock) → Gives (λ _. front ++ primary out.new ∷ []) result (after_block front 0 text.now) }
+{
+    if !passes(text, plain) {
+        return Err(RedFault::NotText);
+    }
+    out.clear();
+    let _ = out.append(text);
+    Ok(())
+}
+
+/// Appends the redundant blocks of so many headers, and puts what is left in place of the primary text. One test tells
+/// whether all texts are ASCII.
 #[inline(always)]
 fn append_blocks(
     count: usize,
     headers: &[u8],
     texts: &[u8],
     out: &mut Blocks,
+    text: &mut PrimaryText,
 ) -> Result<(), RedFault>
     requires room { length out.old + count < 9 }
     requires headers { 4 * count ≤ length headers.now }
     requires there { older_size (headers_of count headers.now) ≤ length texts.now }
-    requires fits { length texts.now < older_size (headers_of count headers.now) + 1024 }
-    ensures { Gives (λ _. out.new) result (after_blocks out.old (checked (blocks_at (headers_of count headers.now) texts.now))) }
+    requires fits { length texts.now ≤ older_size (headers_of count headers.now) + MOST_PRIMARY_OCTETS }
+    ensures { Gives (λ _. out.new ++ primary text.new ∷ []) result (after_blocks out.old (checked (blocks_at (headers_of count headers.now) texts.now))) }
 {
     let plain = texts.is_ascii();
     let mut ahead = headers;
@@ -137,78 +154,88 @@ fn append_blocks(
     let mut left = count;
     while left > 0 {
         let header = redundant_header(ahead);
-        let (text, after) = rest.split_at(usize::from(header.size));
-        append_block(header.offset, text, plain, out)?;
+        let (block, after) = rest.split_at(usize::from(header.size));
+        append_block(header.offset, block, plain, out)?;
         ahead = &ahead[HEADER..];
         rest = after;
         left -= 1;
     }
-    append_block(0, rest, plain, out)
+    put_primary(rest, plain, text)
 }
 
-/// Reads the texts behind so many headers, whose texts have `older` octets. There is no block before.
+/// Reads the texts behind so many headers, whose texts have `older` octets. There is no block before. The primary text has
+/// at most `most` octets.
 #[inline(always)]
 fn read_texts(
+    most: usize,
     count: usize,
     headers: &[u8],
     older: usize,
     texts: &[u8],
     out: &mut Blocks,
+    text: &mut PrimaryText,
 ) -> Result<(), RedFault>
+    requires most { most ≤ MOST_PRIMARY_OCTETS }
     requires none { out.old ≡ [] }
     requires few { count ≤ 8 }
     requires headers { 4 * count ≤ length headers.now }
     requires older { older ≡ older_size (headers_of count headers.now) }
-    ensures exact { Gives (λ _. out.new) result (texts_at (headers_of count headers.now) texts.now) }
-    ensures primary { OnOk result (HasPrimary out.new) }
+    ensures { Gives (λ _. out.new ++ primary text.new ∷ []) result (texts_within most (headers_of count headers.now) texts.now) }
 {
     if texts.len() < older {
         return Err(RedFault::Cut);
     }
-    if texts.len() - older > MOST_TEXT_OCTETS {
+    if texts.len() - older > most {
         return Err(RedFault::Long);
     }
-    append_blocks(count, headers, texts, out)
+    append_blocks(count, headers, texts, out, text)
 }
 
 /// Reads the blocks behind those that were there.
-#[tactic(auto, unfolding(wire_spec::specs::Red::red))]
+#[tactic(auto, unfolding(wire_spec::specs::Red::red_within))]
 fn read_into(
+    most: usize,
     payload: &[u8],
     pt: u8,
     payload_types: PayloadTypes,
     out: &mut Blocks,
+    text: &mut PrimaryText,
 ) -> Result<(), RedFault>
-    requires { out.old ≡ [] }
-    ensures exact { Gives (λ _. out.new) result (red payload.now pt payload_types) }
-    ensures primary { OnOk result (HasPrimary out.new) }
+    requires most { most ≤ MOST_PRIMARY_OCTETS }
+    requires none { out.old ≡ [] }
+    ensures { Gives (λ _. out.new ++ primary text.new ∷ []) result (red_within most payload.now pt payload_types) }
 {
     if pt == payload_types.t140 {
-        return read_texts(0, &[], 0, payload, out);
+        return read_texts(most, 0, &[], 0, payload, out, text);
     }
     if pt != payload_types.red {
         return Err(RedFault::WrongType);
     }
     let (count, older, texts) = scan_headers(payload, payload_types.t140)?;
-    read_texts(count, payload, older, texts, out)
+    read_texts(most, count, payload, older, texts, out, text)
 }
 
-/// Reads the blocks of a payload of type `pt` in place of those that were there, with the first test that fails.
-/// After a refusal there are none. It takes no memory.
+/// Reads the redundant blocks and the primary text of a payload of type `pt` in place of those that were there, with the first
+/// test that fails. The primary text has at most `most` octets. After a refusal there are none. It takes no memory.
 pub fn read_blocks(
+    most: usize,
     payload: &[u8],
     pt: u8,
     payload_types: PayloadTypes,
     out: &mut Blocks,
+    text: &mut PrimaryText,
 ) -> Result<(), RedFault>
-    ensures exact { Gives (λ _. out.new) result (red payload.now pt payload_types) }
-    ensures primary { OnOk result (HasPrimary out.new) }
-    ensures err { OnErr result (out.new ≡ []) }
+    requires { most ≤ MOST_PRIMARY_OCTETS }
+    ensures exact { Gives (λ _. out.new ++ primary text.new ∷ []) result
+        (red_within most payload.now pt payload_types) }
+    ensures older { OnErr result (out.new ≡ []) }
+    ensures text { OnErr result (text.new ≡ []) }
 {
     out.clear();
-    let read = read_into(payload, pt, payload_types, out);
+    let read = read_into(most, payload, pt, payload_types, out, text);
     if read.is_err() {
         out.clear();
+        text.clear();
     }
     read
 }

@@ -15,5 +15,5 @@ pub use block_writers::{BlockView, OlderBlocks, TextHead, write_blocks, write_te
 pub use header_readers::read_rtp;
 pub use header_writers::{write_header, write_rtp};
 pub use headers::{RtpHead, RtpView};
-pub use packets::read_text;
-pub use views::{TextView, view_text};
+pub use packets::{read_text, read_text_within};
+pub use views::{TextView, view_text, view_text_within};

@@ -1,12 +1,13 @@
 //! Reading a whole packet of text.
-ghost use Rattle.std.specs.Prelude.{◌≡◌, ◌≤◌, ◌++◌, ◌∷◌, [], length, OnOk, OnErr};
+ghost use Rattle.std.specs.Prelude.{◌≡◌, ◌≤◌, [], length, OnErr};
 ghost use Rattle.wire_spec.specs.Steps.{Gives};
-ghost use Rattle.wire_spec.specs.Packets.{packet_of, blocks_of};
-ghost use Rattle.wire_spec.specs.Text.{accepted, text_of, text_of_short};
+ghost use Rattle.wire_spec.specs.Packets.{packet_of};
+ghost use Rattle.wire_spec.specs.Text.{accepted, text_of, text_within, short_within};
 ghost use Rattle.rtp_text.specs.Headers.{reading};
+ghost use Rattle.rtt_base.specs.declared.limits.TheConstants.{MOST_PRIMARY_OCTETS};
 
 use crate::{RtpView, read_blocks, read_rtp};
-use rtt_base::limits::MOST_PACKET_OCTETS;
+use rtt_base::limits::{MOST_PACKET_OCTETS, MOST_TEXT_OCTETS};
 use rtt_base::{PayloadTypes, TextPacket};
 use wire_spec::TextFault;
 
@@ -27,18 +28,27 @@ pub(crate) fn accept(view: RtpView<'_>, asked: Option<u32>) -> Result<RtpView<'_
 
 /// Reads a packet of at most 4224 octets, over blocks that may be there.
 fn read_short(
+    most: usize,
     bytes: &[u8],
     ssrc: Option<u32>,
     payload_types: PayloadTypes,
     out: &mut TextPacket,
 ) -> Result<(), TextFault>
-    requires { out.old.blocks ≡ [] }
-    ensures exact { Gives (λ _. packet_of out.new) result (text_of_short bytes.now ssrc payload_types) }
-    ensures blocks { OnOk result (out.new.blocks ≡ blocks_of (packet_of out.new)) }
-    ensures err { OnErr result (out.new ≡ record out.old { blocks = [] }) }
+    requires most { most ≤ MOST_PRIMARY_OCTETS }
+    requires older { out.old.older ≡ [] }
+    requires text { out.old.primary ≡ [] }
+    ensures exact { Gives (λ _. packet_of out.new) result (short_within most bytes.now ssrc payload_types) }
+    ensures err { OnErr result (out.new ≡ record out.old { older = []; primary = [] }) }
 {
     let view = accept(read_rtp(bytes)?, ssrc)?;
-    read_blocks(view.payload, view.pt, payload_types, &mut out.blocks)?;
+    read_blocks(
+        most,
+        view.payload,
+        view.pt,
+        payload_types,
+        &mut out.older,
+        &mut out.primary,
+    )?;
     out.marker_bit = view.marker_bit;
     out.seq = view.seq;
     out.timestamp = view.timestamp;
@@ -48,8 +58,28 @@ fn read_short(
 }
 
 /// Reads a packet of text in place of what was in `out`, with the first test that fails: of the stream `ssrc`, where
-/// one is named. After a refusal `out` has no blocks. It takes no memory.
-#[tactic(auto, unfolding(wire_spec::specs::Text::text_of))]
+/// one is named. Its primary text has at most `most` octets. After a refusal `out` has no texts. It takes no memory.
+#[tactic(auto, unfolding(wire_spec::specs::Text::text_within))]
+pub fn read_text_within(
+    most: usize,
+    bytes: &[u8],
+    ssrc: Option<u32>,
+    payload_types: PayloadTypes,
+    out: &mut TextPacket,
+) -> Result<(), TextFault>
+    requires { most ≤ MOST_PRIMARY_OCTETS }
+    ensures exact { Gives (λ _. packet_of out.new) result (text_within most bytes.now ssrc payload_types) }
+    ensures err { OnErr result (out.new ≡ record out.old { older = []; primary = [] }) }
+{
+    out.older.clear();
+    out.primary.clear();
+    if bytes.len() > MOST_PACKET_OCTETS {
+        return Err(TextFault::Long);
+    }
+    read_short(most, bytes, ssrc, payload_types, out)
+}
+
+/// Reads a packet of text whose primary text is no longer than that of any block.
 pub fn read_text(
     bytes: &[u8],
     ssrc: Option<u32>,
@@ -57,12 +87,7 @@ pub fn read_text(
     out: &mut TextPacket,
 ) -> Result<(), TextFault>
     ensures exact { Gives (λ _. packet_of out.new) result (text_of bytes.now ssrc payload_types) }
-    ensures blocks { OnOk result (out.new.blocks ≡ blocks_of (packet_of out.new)) }
-    ensures err { OnErr result (out.new ≡ record out.old { blocks = [] }) }
+    ensures err { OnErr result (out.new ≡ record out.old { older = []; primary = [] }) }
 {
-    out.blocks.clear();
-    if bytes.len() > MOST_PACKET_OCTETS {
-        return Err(TextFault::Long);
-    }
-    read_short(bytes, ssrc, payload_types, out)
+    read_text_within(MOST_TEXT_OCTETS, bytes, ssrc, payload_types, out)
 }

@@ -11,7 +11,7 @@ use Rattle.file_spec.specs.Conference.{change_leg, is_name, is_name_octet, with_
 use Rattle.file_spec.specs.Changes.{with_name}
 use Rattle.command_spec.specs.Attending as attending
 use Rattle.command_spec.specs.Attending.{as_name, is_free, left_so, named_so, told_legs, told_so, until_then}
-use Rattle.rtt_attend.specs.declared.sender_reports.SenderReport.{SenderReport}
+use Rattle.rtt_attend.specs.declared.source_notes.SourceNotes.{SourceNotes}
 use Rattle.rtt_attend.specs.Heard.{said_of}
 use Rattle.rtt_attend.specs.Named.{or_nothing, says_in, shaped}
 
@@ -121,11 +121,11 @@ told_end legs k wait at end leg stay low same is until =
     (ap (λ (s : Stay). record there { stay = s }) (until ∙ (ap (λ (n : ℕ). until_then n leg.stay) is ∙ ap (λ (l : LegLine). until_then (at + wait + 1) l.stay) same)))
 
 -- ---- all legs
-pub says_there : (all : List SenderReport) (k : ℕ) (said : SenderReport) → slice_get all k ≡ Some said → said_of said ≡ says_in all k
+pub says_there : (all : List SourceNotes) (k : ℕ) (said : SourceNotes) → slice_get all k ≡ Some said → said_of said ≡ says_in all k
 says_there all k said at = sym (ap or_nothing at)
 
 -- one more is told
-pub told_more : (wait k : ℕ) (all : List SenderReport) (said : SenderReport) (before now new : List LegLine) → now ≡ told_legs wait (says_in all) k before → slice_get all k ≡ Some said → new ≡ change_leg (told_so wait (said_of said) now) k now
+pub told_more : (wait k : ℕ) (all : List SourceNotes) (said : SourceNotes) (before now new : List LegLine) → now ≡ told_legs wait (says_in all) k before → slice_get all k ≡ Some said → new ≡ change_leg (told_so wait (said_of said) now) k now
     → new ≡ told_legs wait (says_in all) (k + 1) before
 told_more wait k all said before now new told at is =
     let more : suc k ≡ k + 1 = omega arith in

@@ -13,7 +13,7 @@ use Rattle.mixer_spec.specs.Bridged.{input_limit, leg_chunks}
 use Rattle.mixer_spec.specs.Plain.{plain}
 use Rattle.mixer_spec.specs.Setups.{setup}
 use Rattle.command_spec.specs.Work.{Contents}
-use Rattle.command_spec.specs.Mixing.{hears_of, input_at, makes}
+use Rattle.command_spec.specs.Mixing.{input_at, makes}
 use Rattle.command_spec.specs.Attending.{named, named_by, says_of}
 use Rattle.command_spec.proofs.Naming.{same_named}
 use Rattle.leg.specs.Answers.{read_well}
@@ -25,9 +25,8 @@ use Rattle.rtt_mix.specs.Opened.{IsNotOpened}
 use Rattle.rtt_mix.proofs.Opening.{leg_read_at, rose_behind}
 use Rattle.rtt_mix.proofs.Handing.{input_is, some_of}
 use Rattle.rtt_mix.proofs.Answering.{broken_steps}
-use Rattle.rtt_attend.specs.declared.sender_reports.SenderReport.{SenderReport}
-use Rattle.rtt_attend.specs.Heard.{Hears, IsRead}
-use Rattle.view_spec.specs.Tallies.{tally_at}
+use Rattle.rtt_attend.specs.declared.source_notes.SourceNotes.{SourceNotes}
+use Rattle.rtt_attend.specs.Heard.{Hears, IsRead, sender_of, tally_of}
 use Rattle.rtt_attend.specs.Opened.{heard_as, AreFresh, AreHeard, AreInputs, AreUnheard, HearsLeg, IsInput, IsUnheard}
 use Rattle.rtt_attend.specs.Named.{AreTold, IsNamed, or_nothing, says_in}
 use Rattle.rtt_attend.proofs.Lists.{in_rest}
@@ -64,18 +63,18 @@ module _ {S : Type 0} (tells : Type 0) (left : S → List ℕ) (faults : S → �
       some_of (held leg.input) (left p.0) (ap (λ (x : LegLine). held x.input) (sym same) ∙ o.2.told t)
 
   -- what is heard of an opened input is heard of its leg
-  pub hears_leg : (limit : ℕ) (held : Contents) (legs : List LegLine) (k : ℕ) (leg : LegLine) (s : S) (result : Result SenderReport DumpFault) → leg_at legs k ≡ Some leg → IsInput tells left faults name_of held leg s
-      → tells → Hears limit (hears_of leg) (left s) result → HearsLeg limit held legs k result
+  pub hears_leg : (limit : ℕ) (held : Contents) (legs : List LegLine) (k : ℕ) (leg : LegLine) (s : S) (result : Result SourceNotes DumpFault) → leg_at legs k ≡ Some leg → IsInput tells left faults name_of held leg s
+      → tells → Hears limit (sender_of leg) (left s) result → HearsLeg limit held legs k result
   hears_leg limit held legs k leg s result at is t hears =
       subst (λ (o : Option LegLine). Hears limit (heard_as o) (input_at (inputs_under held legs) k) result) (sym at)
-      (subst (λ (octets : List ℕ). Hears limit (hears_of leg) octets result) (input_is held legs k leg (left s) at (is.told t)) hears)
+      (subst (λ (octets : List ℕ). Hears limit (sender_of leg) octets result) (input_is held legs k leg (left s) at (is.told t)) hears)
 
   -- ---- a source that was read and handed back
-  module _ (result : Result SenderReport DumpFault) (old new : S) (objects objects_then : List ℕ → ℕ) (read : IsRead faults name_of result old new) (fresh : faults old ≡ 0) where
+  module _ (result : Result SourceNotes DumpFault) (old new : S) (objects objects_then : List ℕ → ℕ) (read : IsRead faults name_of result old new) (fresh : faults old ≡ 0) where
     pub failed_read : objects_then (name_of new) ≡ counted (objects (name_of new)) (faults new) → IfErr result (λ fault. is_of_source fault.kind ≡ true → RoseAt objects objects_then (name_of old))
     failed_read added = go result read.read
       where
-        go : (r : Result SenderReport DumpFault) → IfErr r (λ fault. is_of_source fault.kind ≡ true → Rose (faults old) (faults new)) → IfErr r (λ fault. is_of_source fault.kind ≡ true → RoseAt objects objects_then (name_of old))
+        go : (r : Result SourceNotes DumpFault) → IfErr r (λ fault. is_of_source fault.kind ≡ true → Rose (faults old) (faults new)) → IfErr r (λ fault. is_of_source fault.kind ≡ true → RoseAt objects objects_then (name_of old))
         go (Ok said) rose = tt
         go (Err fault) rose = λ source.
             subst (λ n. Rose (objects n) (objects_then n)) read.same_name
@@ -84,22 +83,22 @@ module _ {S : Type 0} (tells : Type 0) (left : S → List ℕ) (faults : S → �
     pub calm_read : (faults new ≡ 0 → (n : List ℕ) → objects_then n ≡ objects n) → UnlessOfSource result ((n : List ℕ) → objects_then n ≡ objects n)
     calm_read calm = go result read.calm
       where
-        go : (r : Result SenderReport DumpFault) → UnlessOfSource r (faults new ≡ faults old) → UnlessOfSource r ((n : List ℕ) → objects_then n ≡ objects n)
+        go : (r : Result SourceNotes DumpFault) → UnlessOfSource r (faults new ≡ faults old) → UnlessOfSource r ((n : List ℕ) → objects_then n ≡ objects n)
         go (Ok said) same = calm (same ∙ fresh)
         go (Err fault) same = λ none. calm (same none ∙ fresh)
 
 -- ---- what was heard
-pub heard_more : (limit : ℕ) (held : Contents) (legs : List LegLine) (all : List SenderReport) (said : SenderReport) → AreHeard limit held legs all → HearsLeg limit held legs (length all) (Ok said) → AreHeard limit held legs (all ++ said ∷ [])
+pub heard_more : (limit : ℕ) (held : Contents) (legs : List LegLine) (all : List SourceNotes) (said : SourceNotes) → AreHeard limit held legs all → HearsLeg limit held legs (length all) (Ok said) → AreHeard limit held legs (all ++ said ∷ [])
 heard_more limit held legs all said are here = λ k x e. elim (pushed all said k x e) [
   | inl f ↦ are k x f
-  | inr q ↦ subst (λ (i : ℕ). HearsLeg limit held legs i (Ok x)) (sym q.0) (subst (λ (y : SenderReport). HearsLeg limit held legs (length all) (Ok y)) (sym q.1) here)
+  | inr q ↦ subst (λ (i : ℕ). HearsLeg limit held legs i (Ok x)) (sym q.0) (subst (λ (y : SourceNotes). HearsLeg limit held legs (length all) (Ok y)) (sym q.1) here)
 ]
 
-pub none_heard : (limit : ℕ) (held : Contents) (legs : List LegLine) (all : List SenderReport) → all ≡ [] → AreHeard limit held legs all
+pub none_heard : (limit : ℕ) (held : Contents) (legs : List LegLine) (all : List SourceNotes) → all ≡ [] → AreHeard limit held legs all
 none_heard limit held legs [] e = λ k said at. absurd (cc at)
 none_heard limit held legs (said ∷ all) e = absurd (cc e)
 
-pub whole_below : (limit : ℕ) (held : Contents) (legs : List LegLine) (all : List SenderReport) → AreHeard limit held legs all → (k : ℕ) → k < length all → (dump limit (input_at (inputs_under held legs) k)).fault ≡ None
+pub whole_below : (limit : ℕ) (held : Contents) (legs : List LegLine) (all : List SourceNotes) → AreHeard limit held legs all → (k : ℕ) → k < length all → (dump limit (input_at (inputs_under held legs) k)).fault ≡ None
 whole_below limit held legs all are k less = let p = is_there all k less in (are k p.0 p.1).1
 
 -- ---- a fault
@@ -129,9 +128,9 @@ module _ {S : Type 0} (tells : Type 0) (left : S → List ℕ) (faults : S → �
       (got, opened_at held legs sources k leg s are there got)
 
   -- the leg k, its input and what was heard of those before it; what is counted at first, before it is read, behind that and last
-  module _ (limit : ℕ) (held now : Contents) (legs : List LegLine) (k : ℕ) (leg : LegLine) (s : S) (all : List SenderReport) (fault : DumpFault) (objects objects_now objects_read objects_then : List ℕ → ℕ)
+  module _ (limit : ℕ) (held now : Contents) (legs : List LegLine) (k : ℕ) (leg : LegLine) (s : S) (all : List SourceNotes) (fault : DumpFault) (objects objects_now objects_read objects_then : List ℕ → ℕ)
       (at : leg_at legs k ≡ Some leg) (is : IsInput tells left faults name_of held leg s) (many : length all ≡ k) where
-    pub unheard : (tells → AreHeard limit held legs all) → (tells → Hears limit (hears_of leg) (left s) (Err fault)) → (is_of_source fault.kind ≡ true → RoseAt objects_now objects_read (name_of s))
+    pub unheard : (tells → AreHeard limit held legs all) → (tells → Hears limit (sender_of leg) (left s) (Err fault)) → (is_of_source fault.kind ≡ true → RoseAt objects_now objects_read (name_of s))
         → (is_of_source fault.kind ≡ false → (n : List ℕ) → objects_read n ≡ objects_now n) → (tells → IsSome (now (name_of s)) → (n : List ℕ) → n ≢ name_of s → objects_read n ≡ objects_now n)
         → ((n : List ℕ) → objects_now n ≡ objects n) → ((n : List ℕ) → objects_then n ≡ objects_read n) → (tells → (n : List ℕ) → now n ≡ held n)
         → IsUnheard tells objects objects_then held limit legs k fault
@@ -173,15 +172,15 @@ unheard_of Told objects now objects_then held then limit most lines legs fault a
 
 -- ---- the conference
 module _ (held : Contents) (c : Conference) where
-  pub are_told : (all : List SenderReport) → length all ≡ length c.legs → AllLie held c.legs → AreHeard (input_limit c) held c.legs all → AreTold held c all
+  pub are_told : (all : List SourceNotes) → length all ≡ length c.legs → AllLie held c.legs → AreHeard (input_limit c) held c.legs all → AreTold held c all
   are_told all many lie are = record {
     lie = lie;
     whole = λ k less. whole_below (input_limit c) held c.legs all are k (omega (arith, less, many));
     says = λ k less. (let p = is_there all k (omega (arith, less, many)) in ap or_nothing p.1 ∙ (are k p.0 p.1).0);
-    counts = λ k said leg at is. (are k said at).2 ∙ ap (λ (o : Option LegLine). tally_at (heard_as o) (dump (input_limit c) (input_at (inputs_under held c.legs) k)).items) is;
+    counts = λ k said leg at is. (are k said at).2 ∙ ap (λ (o : Option LegLine). tally_of (heard_as o) (dump (input_limit c) (input_at (inputs_under held c.legs) k)).items) is;
   }
 
-  pub is_named : (all : List SenderReport) (new : Conference) → AreTold held c all → new ≡ named_by (says_in all) c → IsNamed held c new
+  pub is_named : (all : List SourceNotes) (new : Conference) → AreTold held c all → new ≡ named_by (says_in all) c → IsNamed held c new
   is_named all new told is = record {
     lie = told.lie;
     whole = told.whole;

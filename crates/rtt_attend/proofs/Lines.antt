@@ -13,16 +13,16 @@ use Rattle.command_spec.specs.Inputs.{inputs_under}
 use Rattle.command_spec.specs.Mixing.{counts_lines, leg_tally}
 use Rattle.command_spec.specs.Work.{Contents}
 use Rattle.rtt_mix.proofs.Opening.{leg_read_at}
-use Rattle.rtt_attend.specs.declared.sender_reports.SenderReport.{SenderReport}
+use Rattle.rtt_attend.specs.declared.source_notes.SourceNotes.{SourceNotes}
 use Rattle.rtt_attend.specs.Named.{AreTold, lines_below}
 
-said_read_at : (all : List SenderReport) (k : ℕ) (said : SenderReport) → k < length all → said ≡ get_or all k said → slice_get all k ≡ Some said
+said_read_at : (all : List SourceNotes) (k : ℕ) (said : SourceNotes) → k < length all → said ≡ get_or all k said → slice_get all k ≡ Some said
 said_read_at [] k said less is = absurd (omega arith)
 said_read_at (x ∷ all) zero said less is = ap Some (sym is)
 said_read_at (x ∷ all) (suc k) said less is = said_read_at all k said (omega arith) is
 
 -- one line more
-pub lines_more : (held : Contents) (c : Conference) (all : List SenderReport) (k : ℕ) (leg : LegLine) (said : SenderReport) (old new : List ℕ) → AreTold held c all → k < length c.legs → length all ≡ length c.legs
+pub lines_more : (held : Contents) (c : Conference) (all : List SourceNotes) (k : ℕ) (leg : LegLine) (said : SourceNotes) (old new : List ℕ) → AreTold held c all → k < length c.legs → length all ≡ length c.legs
     → leg ≡ get_or c.legs k leg → said ≡ get_or all k said → old ≡ lines_below c (inputs_under held c.legs) k → new ≡ old ++ tally_line leg.name said.tally
     → new ≡ lines_below c (inputs_under held c.legs) (k + 1)
 lines_more held c all k leg said old new told less many leg_is said_is before adds =

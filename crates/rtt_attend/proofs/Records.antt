@@ -4,8 +4,7 @@ use Rattle.std.specs.Prelude.{max, min, Result, Ok, Err}
 use Rattle.wire_spec.specs.declared.faults.DumpKind.TheVariants.{Read}
 use Rattle.wire_spec.specs.Dump.{Fault, Item, Recording, dump}
 use Rattle.view_spec.specs.declared.tallies.Tally.{Tally}
-use Rattle.view_spec.specs.Seen.{Reception}
-use Rattle.view_spec.specs.Tallies.{tally_at}
+use Rattle.rtt_attend.specs.declared.inputs.Sender.{Sender}
 use Rattle.rtt_attend.specs.Counted.{CountsFate, IsCounted, fate_in}
 use Rattle.rtt_attend.proofs.Tallying.{StayFew, all_counted, item_counted, stay_few}
 use Rattle.rtt_io.specs.Counts.{Rose}
@@ -22,8 +21,8 @@ use Rattle.rtpdump_io.specs.Reading.{Gives, is_ended, is_last, is_of_source, mos
 use Rattle.rtpdump_io.proofs.Told.{gives_fault}
 use Rattle.command_spec.specs.Attending as attending
 use Rattle.command_spec.specs.Attending.{and_read, nothing, said_after, said_by}
-use Rattle.rtt_attend.specs.declared.sender_reports.SenderReport.{SenderReport}
-use Rattle.rtt_attend.specs.Heard.{Hears, HearsAll, TellsItem, moment_of, said_of}
+use Rattle.rtt_attend.specs.declared.source_notes.SourceNotes.{SourceNotes}
+use Rattle.rtt_attend.specs.Heard.{Hears, HearsAll, TellsItem, moment_of, said_of, tally_of}
 
 -- no octets are no RTCP
 none_read : rtcp [] ≡ Err Short
@@ -32,7 +31,7 @@ none_read = refl
 
 -- ---- one record
 -- one that is none of RTCP tells nothing
-other : (ssrc latest at t : ℕ) (rest : List Entry) (old new : SenderReport) → Some t ≡ Some at → said_of new ≡ said_of old
+other : (ssrc latest at t : ℕ) (rest : List Entry) (old new : SourceNotes) → Some t ≡ Some at → said_of new ≡ said_of old
     → said_after ssrc (max latest t) (and_read ssrc (max latest t) (said_of old) (rtcp [])) rest ≡ said_after ssrc (max latest at) (said_of new) rest
 other ssrc latest at t rest old new is same =
     let moment : t ≡ at = cc is in
@@ -41,7 +40,7 @@ other ssrc latest at t rest old new is same =
     ∙ ap (λ said. said_after ssrc (max latest at) said rest) (sym same))
 
 -- what a record tells, and those behind it
-one_heard : (ssrc latest at : ℕ) (item : DumpItem) (out : List ℕ) (rest : List Entry) (old new : SenderReport) → moment_of item ≡ Some at → TellsItem ssrc (max latest at) item out old new
+one_heard : (ssrc latest at : ℕ) (item : DumpItem) (out : List ℕ) (rest : List Entry) (old new : SourceNotes) → moment_of item ≡ Some at → TellsItem ssrc (max latest at) item out old new
     → said_after ssrc latest (said_of old) (entry_as item out rest) ≡ said_after ssrc (max latest at) (said_of new) rest
 one_heard ssrc latest at (Packet t) out rest old new is tells = other ssrc latest at t rest old new is tells
 one_heard ssrc latest at (Cut t) out rest old new is tells = other ssrc latest at t rest old new is tells
@@ -76,7 +75,7 @@ is_the_end End is = refl
 
 -- ---- all of them
 -- What holds between two records of a reading that began so.
-pub record Going {S : Type 0} (tells : Type 0) (left : S → List ℕ) (faults : S → ℕ) (name : S → List ℕ) (r : Reception) (before now : DumpReader S) (latest : ℕ) (said : SenderReport) : Type 0 where
+pub record Going {S : Type 0} (tells : Type 0) (left : S → List ℕ) (faults : S → ℕ) (name : S → List ℕ) (r : Sender) (before now : DumpReader S) (latest : ℕ) (said : SourceNotes) : Type 0 where
   pub not_ended : is_ended now ≡ false
   pub same_name : name (source_of now) ≡ name (source_of before)
   pub calm : faults (source_of now) ≡ faults (source_of before)
@@ -85,10 +84,10 @@ pub record Going {S : Type 0} (tells : Type 0) (left : S → List ℕ) (faults :
   pub few : StayFew now said.tally
   pub counted : tells → IsCounted r said.tally (to_come left now).items (to_come left before).items
 
-module _ {S : Type 0} (tells : Type 0) (left : S → List ℕ) (faults : S → ℕ) (name : S → List ℕ) (r : Reception) (before now next : DumpReader S) (latest : ℕ) (said : SenderReport) (out : List ℕ)
+module _ {S : Type 0} (tells : Type 0) (left : S → List ℕ) (faults : S → ℕ) (name : S → List ℕ) (r : Sender) (before now next : DumpReader S) (latest : ℕ) (said : SourceNotes) (out : List ℕ)
     (going : Going tells left faults name r before now latest said) where
   -- one more record
-  pub goes_more : (item : DumpItem) (at then : ℕ) (more : SenderReport) → moment_of item ≡ Some at → then ≡ max latest at → TellsItem r.ssrc then item out said more → CountsFate (fate_in r item out) said.tally more.tally → most_answers next < most_answers now
+  pub goes_more : (item : DumpItem) (at then : ℕ) (more : SourceNotes) → moment_of item ≡ Some at → then ≡ max latest at → TellsItem r.ssrc then item out said more → CountsFate (fate_in r item out) said.tally more.tally → most_answers next < most_answers now
       → is_ended next ≡ is_last (Ok item) → name (source_of next) ≡ name (source_of now) → faults (source_of next) ≡ faults (source_of now)
       → (tells → Gives (Ok item) out (to_come left now) (to_come left next)) → (tells → GivesEntry (Ok item) out (entries_to_come left now) (entries_to_come left next))
       → Going tells left faults name r before next then more
@@ -106,7 +105,7 @@ module _ {S : Type 0} (tells : Type 0) (left : S → List ℕ) (faults : S → �
   }
 
   -- the end
-  pub all_heard : (item : DumpItem) (whole : SenderReport) → said_of whole ≡ said_of said → whole.tally ≡ record said.tally { senders = min said.tally.text 1 } → moment_of item ≡ None → (tells → Gives (Ok item) out (to_come left now) (to_come left next)) → (tells → GivesEntry (Ok item) out (entries_to_come left now) (entries_to_come left next))
+  pub all_heard : (item : DumpItem) (whole : SourceNotes) → said_of whole ≡ said_of said → whole.tally ≡ record said.tally { senders = min said.tally.text 1 } → moment_of item ≡ None → (tells → Gives (Ok item) out (to_come left now) (to_come left next)) → (tells → GivesEntry (Ok item) out (entries_to_come left now) (entries_to_come left next))
       → tells → HearsAll r (entries_to_come left before) (to_come left before) (Ok whole)
   all_heard item whole said_is tally_is is gives entry t =
       let end = is_the_end item is in
@@ -122,7 +121,7 @@ module _ {S : Type 0} (tells : Type 0) (left : S → List ℕ) (faults : S → �
   not_heard fault gives t none = sym (going.fault t) ∙ gives_fault fault out (to_come left now) (to_come left next) (gives t) none
 
 -- ---- an input
-pub heard_input : (limit : ℕ) (r : Reception) (octets : List ℕ) (records : List Entry) (recording : Recording) (result : Result SenderReport DumpFault) → records ≡ entries limit octets → recording ≡ dump limit octets
+pub heard_input : (limit : ℕ) (r : Sender) (octets : List ℕ) (records : List Entry) (recording : Recording) (result : Result SourceNotes DumpFault) → records ≡ entries limit octets → recording ≡ dump limit octets
     → HearsAll r records recording result → Hears limit r octets result
 unfolding said_by
 heard_input limit p octets records recording (Ok said) e r h =
@@ -130,7 +129,7 @@ heard_input limit p octets records recording (Ok said) e r h =
     let whole : (dump limit octets).fault ≡ None = ap (λ (q : Recording). q.fault) (sym r) ∙ h.1 in (
       h.0 ∙ (ap (λ es. said_after p.ssrc 0 nothing es) e ∙ sym (ap by_fault whole)),
       whole,
-      h.2 ∙ ap (λ (q : Recording). tally_at p q.items) r,
+      h.2 ∙ ap (λ (q : Recording). tally_of p q.items) r,
     )
 heard_input limit p octets records recording (Err fault) e r h = λ none. ap (λ (q : Recording). q.fault) (sym r) ∙ h none
 

@@ -3,14 +3,14 @@ use Rattle.std.proofs.Common.{◌≡◌, ℕ, ◌+◌, ◌≤◌, ◌<◌, Bool,
 use Rattle.std.specs.Prelude.{Some, None, Ok, filter, if◌then◌else◌, min}
 use Rattle.wire_spec.specs.Dump.{Item, Recording}
 use Rattle.view_spec.specs.declared.tallies.Tally.{Tally}
-use Rattle.view_spec.specs.Tallies.{tally_at}
-use Rattle.view_spec.specs.Seen.{Fate, Foreigner, NoPacket, Reception, Refused, Text, fate_at, is_foreign, is_packet, is_refused, is_text, many}
+use Rattle.view_spec.specs.Seen.{Fate, Foreigner, NoPacket, Refused, Text, is_foreign, is_packet, is_refused, is_text, many}
 use Rattle.rtpdump_io.specs.declared.items.DumpItem.{DumpItem}
 use Rattle.rtpdump_io.specs.declared.items.DumpItem.TheVariants.{Packet, Rtcp, Cut, Large, End}
 use Rattle.rtpdump_io.specs.declared.readers.DumpReader.{DumpReader}
 use Rattle.rtpdump_io.specs.Reading.{Gives, most_answers}
-use Rattle.rtt_attend.specs.Counted.{CountsFate, IsCounted, IsFew, fate_in, one_if, untallied}
-use Rattle.rtt_attend.specs.Heard.{moment_of}
+use Rattle.rtt_attend.specs.Counted.{CountsFate, IsCounted, IsFew, fate_at, fate_in, one_if, untallied}
+use Rattle.rtt_attend.specs.Heard.{moment_of, tally_of}
+use Rattle.rtt_attend.specs.declared.inputs.Sender.{Sender}
 use Rattle.rtpdump_io.proofs.Records.{most_few as few_answers}
 
 -- ---- how many of what came have a fate
@@ -22,7 +22,7 @@ many_first p f i rest = go (p (f i))
     go false = omega arith
 
 -- one more was counted
-one_counted : (r : Reception) (i : Item) (old new : Tally) (now rest all : List Item) → now ≡ i ∷ rest → CountsFate (fate_at r i) old new → IsCounted r old now all → IsCounted r new rest all
+one_counted : (r : Sender) (i : Item) (old new : Tally) (now rest all : List Item) → now ≡ i ∷ rest → CountsFate (fate_at r i) old new → IsCounted r old now all → IsCounted r new rest all
 one_counted r i old new now rest all e c k = record {
   came = omega (arith, c.came, k.came, many_first is_packet (fate_at r) i rest, ap (many is_packet (fate_at r)) e);
   text = omega (arith, c.text, k.text, many_first is_text (fate_at r) i rest, ap (many is_text (fate_at r)) e);
@@ -30,7 +30,7 @@ one_counted r i old new now rest all e c k = record {
   foreign = omega (arith, c.foreign, k.foreign, many_first is_foreign (fate_at r) i rest, ap (many is_foreign (fate_at r)) e);
 }
 
-pub item_counted : (r : Reception) (item : DumpItem) (at : ℕ) (out : List ℕ) (old new : Tally) (now next : Recording) (all : List Item) → moment_of item ≡ Some at → Gives (Ok item) out now next
+pub item_counted : (r : Sender) (item : DumpItem) (at : ℕ) (out : List ℕ) (old new : Tally) (now next : Recording) (all : List Item) → moment_of item ≡ Some at → Gives (Ok item) out now next
     → CountsFate (fate_in r item out) old new → IsCounted r old now.items all → IsCounted r new next.items all
 item_counted r (Packet t) at out old new now next all is gives c k = one_counted r _ old new now.items next.items all (ap (λ (x : Recording). x.items) gives) c k
 item_counted r (Rtcp t) at out old new now next all is gives c k = one_counted r _ old new now.items next.items all (ap (λ (x : Recording). x.items) gives) c k
@@ -39,7 +39,7 @@ item_counted r (Large t) at out old new now next all is gives c k = one_counted 
 item_counted r End at out old new now next all is gives c k = absurd (cc is)
 
 -- all were counted
-pub all_counted : (r : Reception) (y : Tally) (all : List Item) → IsCounted r y [] all → record y { senders = min y.text 1 } ≡ tally_at r all
+pub all_counted : (r : Sender) (y : Tally) (all : List Item) → IsCounted r y [] all → record y { senders = min y.text 1 } ≡ tally_of r all
 all_counted r y all k =
     let came : y.came ≡ many is_packet (fate_at r) all = omega (arith, k.came) in
     let text : y.text ≡ many is_text (fate_at r) all = omega (arith, k.text) in
@@ -67,7 +67,7 @@ none_counted reader = record {
 }
 
 -- all are left
-pub none_yet : (r : Reception) (all : List Item) → IsCounted r untallied all all
+pub none_yet : (r : Sender) (all : List Item) → IsCounted r untallied all all
 none_yet r all = record { came = omega arith; text = omega arith; refused = omega arith; foreign = omega arith }
 
 within : (p : Fate → Bool) (f : Fate) → p NoPacket ≡ false → one_if (p f) ≤ one_if (is_packet f)

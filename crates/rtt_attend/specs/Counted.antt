@@ -1,29 +1,40 @@
 -- What is counted of an input, record by record.
-use Rattle.std.specs.Prelude.{◌≡◌, ◌+◌, ◌≤◌, ◌<◌, ◌^◌, ℕ, Bool, Some, List, Err, if◌then◌else◌}
-use Rattle.rtt_base.specs.declared.text_packets.PayloadTypes.{PayloadTypes}
+use Rattle.std.specs.Prelude.{◌≡◌, ◌+◌, ◌≤◌, ◌<◌, ◌^◌, ℕ, Bool, Some, List, Result, Err, if◌then◌else◌}
 use Rattle.wire_spec.specs.declared.faults.TextFault.{TextFault}
-use Rattle.wire_spec.specs.Text.{text_of}
+use Rattle.wire_spec.specs.Text.{text_within}
+use Rattle.wire_spec.specs.Packets as packets
+use Rattle.file_spec.specs.Primaries.{primary_limit}
+use Rattle.view_spec.specs.Seen as seen
+use Rattle.rtt_attend.specs.declared.inputs.Sender.{Sender}
 use Rattle.wire_spec.specs.Dump.{Item}
 use Rattle.view_spec.specs.declared.tallies.Tally.{Tally}
-use Rattle.view_spec.specs.Seen.{Fate, NoPacket, Reception, Refused, fate_at, fate_of, is_foreign, is_packet, is_refused, is_text, many}
+use Rattle.view_spec.specs.Seen.{Fate, NoPacket, Reception, Refused, fate_of, is_foreign, is_packet, is_refused, is_text, many}
 use Rattle.rtpdump_io.specs.declared.items.DumpItem.{DumpItem}
 use Rattle.rtpdump_io.specs.declared.items.DumpItem.TheVariants.{Packet, Rtcp, Cut, Large, End}
 
--- this sender is heard, with these payload types
-abbrev pub hears_so : ℕ → PayloadTypes → Reception
-hears_so ssrc payload_types = record { ssrc = ssrc; payload_types = payload_types; wait = 0 }
+-- this sender is heard
+abbrev pub hears_so : Sender → Reception
+hears_so s = record { ssrc = s.ssrc; payload_types = s.payload_types; wait = 0 }
 
 -- what becomes of a packet with this fault
 abbrev pub fate_of_fault : TextFault → Fate
 fate_of_fault fault = fate_of (Err fault)
 
+-- the packet of the sender that these octets are, or why they are none
+abbrev pub text_from : Sender → List ℕ → Result packets.Packet TextFault
+text_from s octets = text_within (primary_limit s.long) octets (Some s.ssrc) s.payload_types
+
 -- what becomes of a record, whose octets these are where it is a packet
-abbrev pub fate_in : Reception → DumpItem → List ℕ → Fate
-fate_in r (Packet at) out = fate_of (text_of out (Some r.ssrc) r.payload_types)
-fate_in r (Rtcp at) out = NoPacket
-fate_in r (Cut at) out = Refused
-fate_in r (Large at) out = Refused
-fate_in r End out = NoPacket
+abbrev pub fate_in : Sender → DumpItem → List ℕ → Fate
+fate_in s (Packet at) out = fate_of (text_from s out)
+fate_in s (Rtcp at) out = NoPacket
+fate_in s (Cut at) out = Refused
+fate_in s (Large at) out = Refused
+fate_in s End out = NoPacket
+
+-- what becomes of an item
+abbrev pub fate_at : Sender → Item → Fate
+fate_at s item = seen.fate_in (primary_limit s.long) (hears_so s) item
 
 -- nothing was counted
 abbrev pub untallied : Tally
@@ -49,8 +60,8 @@ pub record IsFew (y : Tally) : Type 0 where
   pub foreign : y.foreign ≤ y.came
 
 -- of all these items so much was counted, and these are left
-pub record IsCounted (r : Reception) (y : Tally) (left all : List Item) : Type 0 where
-  pub came : y.came + many is_packet (fate_at r) left ≡ many is_packet (fate_at r) all
-  pub text : y.text + many is_text (fate_at r) left ≡ many is_text (fate_at r) all
-  pub refused : y.refused + many is_refused (fate_at r) left ≡ many is_refused (fate_at r) all
-  pub foreign : y.foreign + many is_foreign (fate_at r) left ≡ many is_foreign (fate_at r) all
+pub record IsCounted (s : Sender) (y : Tally) (left all : List Item) : Type 0 where
+  pub came : y.came + many is_packet (fate_at s) left ≡ many is_packet (fate_at s) all
+  pub text : y.text + many is_text (fate_at s) left ≡ many is_text (fate_at s) all
+  pub refused : y.refused + many is_refused (fate_at s) left ≡ many is_refused (fate_at s) all
+  pub foreign : y.foreign + many is_foreign (fate_at s) left ≡ many is_foreign (fate_at s) all

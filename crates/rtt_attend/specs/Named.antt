@@ -12,7 +12,7 @@ use Rattle.command_spec.specs.Attending.{named, named_by, nothing, says_of}
 use Rattle.command_spec.specs.Inputs.{AllLie, inputs_under}
 use Rattle.rtt_mix.specs.Mixes.{NoneFailed, WholeBelow}
 use Rattle.rtt_mix.specs.declared.results.MixFault.{MixFault}
-use Rattle.rtt_attend.specs.declared.sender_reports.SenderReport.{SenderReport}
+use Rattle.rtt_attend.specs.declared.source_notes.SourceNotes.{SourceNotes}
 use Rattle.rtt_attend.specs.Heard.{said_of}
 
 -- what has the shape of a leg's name
@@ -20,19 +20,19 @@ abbrev pub shaped : List ℕ → Option (List ℕ)
 shaped text = if is_name text then Some text else None
 
 -- ---- what was heard, by leg
-abbrev pub or_nothing : Option SenderReport → attending.Said
+abbrev pub or_nothing : Option SourceNotes → attending.Said
 or_nothing None = nothing
 or_nothing (Some said) = said_of said
 
-abbrev pub says_in : List SenderReport → ℕ → attending.Said
+abbrev pub says_in : List SourceNotes → ℕ → attending.Said
 says_in all k = or_nothing (slice_get all k)
 
 -- This is what the inputs of all legs tell, each of which can be read to its end.
-pub record AreTold (held : Contents) (c : Conference) (all : List SenderReport) : Type 0 where
+pub record AreTold (held : Contents) (c : Conference) (all : List SourceNotes) : Type 0 where
   pub lie : AllLie held c.legs
   pub whole : WholeBelow (length c.legs) c (inputs_under held c.legs)
   pub says : (k : ℕ) → k < length c.legs → says_in all k ≡ says_of c (inputs_under held c.legs) k
-  pub counts : (k : ℕ) (said : SenderReport) (leg : LegLine) → slice_get all k ≡ Some said → leg_at c.legs k ≡ Some leg
+  pub counts : (k : ℕ) (said : SourceNotes) (leg : LegLine) → slice_get all k ≡ Some said → leg_at c.legs k ≡ Some leg
       → said.tally ≡ leg_tally c (inputs_under held c.legs) k leg
 
 -- ---- what is counted

@@ -1,5 +1,5 @@
 -- The inputs of a conference's legs, opened, and what was heard of them.
-use Rattle.std.specs.Prelude.{◌≡◌, ℕ, ◌<◌, true, Option, None, Some, List, slice_get, Result, Ok, Err}
+use Rattle.std.specs.Prelude.{◌≡◌, ℕ, ◌<◌, false, true, Option, None, Some, List, slice_get, Result, Ok, Err}
 use Rattle.std.specs.Global.{Vec}
 use Rattle.wire_spec.specs.Dump.{dump}
 use Rattle.rtpdump_io.specs.declared.items.DumpFault.{DumpFault}
@@ -7,14 +7,14 @@ use Rattle.rtpdump_io.specs.Reading.{is_of_source}
 use Rattle.file_spec.specs.declared.conference_lines.LegLine.{LegLine}
 use Rattle.mixer_spec.specs.Setups.{leg_at, ssrc_of}
 use Rattle.command_spec.specs.Work.{Contents}
-use Rattle.view_spec.specs.Seen.{Reception}
+use Rattle.rtt_attend.specs.declared.inputs.Sender.{Sender}
 use Rattle.command_spec.specs.Mixing.{input_at}
 use Rattle.leg.specs.Answers.{read_well}
 use Rattle.command_spec.specs.Inputs.{NoneFailedBelow, inputs_under}
 use Rattle.rtt_mix.specs.Mixes.{RoseAt}
 use Rattle.rtt_mix.specs.declared.results.MixFault.{MixFault}
 use Rattle.rtt_mix.specs.declared.results.MixFault.TheVariants.{Open, Dump, TooLong, NoMemory}
-use Rattle.rtt_attend.specs.declared.sender_reports.SenderReport.{SenderReport}
+use Rattle.rtt_attend.specs.declared.source_notes.SourceNotes.{SourceNotes}
 use Rattle.rtt_attend.specs.Heard.{Hears}
 
 module _ {S : Type 0} where
@@ -35,16 +35,20 @@ module _ {S : Type 0} where
 
 -- ---- by what lies under the inputs of these legs
 -- what the input of a leg is heard for; where there is none, for the SSRC 0 and types that no packet has
-abbrev pub heard_as : Option LegLine → Reception
-heard_as leg = record { ssrc = ssrc_of leg; payload_types = elim leg [ None ↦ record { t140 = 0; red = 0 } | Some line ↦ line.payload_types ]; wait = 0 }
+abbrev pub heard_as : Option LegLine → Sender
+heard_as leg = record {
+  ssrc = ssrc_of leg;
+  payload_types = elim leg [ None ↦ record { t140 = 0; red = 0 } | Some line ↦ line.payload_types ];
+  long = elim leg [ None ↦ false | Some line ↦ line.long ];
+}
 
 -- this was heard of the leg k
-abbrev pub HearsLeg : ℕ → Contents → List LegLine → ℕ → Result SenderReport DumpFault → Type 0
+abbrev pub HearsLeg : ℕ → Contents → List LegLine → ℕ → Result SourceNotes DumpFault → Type 0
 HearsLeg limit held legs k result = Hears limit (heard_as (leg_at legs k)) (input_at (inputs_under held legs) k) result
 
 -- and this of the legs, in order
-abbrev pub AreHeard : ℕ → Contents → List LegLine → List SenderReport → Type 0
-AreHeard limit held legs all = (k : ℕ) (said : SenderReport) → slice_get all k ≡ Some said
+abbrev pub AreHeard : ℕ → Contents → List LegLine → List SourceNotes → Type 0
+AreHeard limit held legs all = (k : ℕ) (said : SourceNotes) → slice_get all k ≡ Some said
     → HearsLeg limit held legs k (Ok said)
 
 -- The input of the leg with this number has this fault, or its source failed. Those of the legs before it can be read to
@@ -70,7 +74,7 @@ module _ {W : Type 0} where
   FailedIn objects name old new fault = is_of_source fault.kind ≡ true → RoseAt (objects old) (objects new) name
 
   -- these were heard, by what lies there
-  abbrev pub HeardIn : (W → Contents) → W → ℕ → List LegLine → Vec SenderReport → Type 0
+  abbrev pub HeardIn : (W → Contents) → W → ℕ → List LegLine → Vec SourceNotes → Type 0
   HeardIn contents world limit legs all = AreHeard limit (contents world) legs all.items
 
   -- the same by what a world holds and counts

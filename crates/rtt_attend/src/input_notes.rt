@@ -7,17 +7,17 @@ ghost use Rattle.wire_spec.specs.declared.limits.TheConstants.{MOST_RECORDING_OC
 ghost use Rattle.file_spec.specs.declared.limits.TheConstants.{MOST_LEGS};
 ghost use Rattle.file_spec.specs.Conferences.{meaning_of};
 ghost use Rattle.rtt_mix.specs.Mixes.{IsFirstIn, StopsIn};
-ghost use Rattle.command_spec.specs.Mixing.{counts_lines, hears_of};
-ghost use Rattle.rtt_attend.specs.Heard.{Hears};
+ghost use Rattle.command_spec.specs.Mixing.{counts_lines};
+ghost use Rattle.rtt_attend.specs.Heard.{Hears, sender_of};
 ghost use Rattle.rtt_attend.specs.Opened.{AreInputs, FailedIn, HeardIn, UnheardIn};
 ghost use Rattle.command_spec.specs.Inputs.{inputs_under};
 ghost use Rattle.command_spec.specs.Work.{Contents};
 ghost use Rattle.rtt_attend.specs.Named.{AreCounted, AreTold, IsNamed, IsNamedSome, NoneFailedWith};
 
-use crate::inputs::{InputNames, hear_input};
+use crate::inputs::{InputNames, Sender, hear_input};
+use crate::leg_changes::tell_legs;
 use crate::open_inputs::{close_inputs, open_inputs};
-use crate::reports::tell_legs;
-use crate::sender_reports::SenderReport;
+use crate::source_notes::SourceNotes;
 use file_spec::{Conference, LegLine};
 use rtpdump_io::DumpFault;
 use rtt_base::{Bytes, NoMemory, Packet, TextPacket};
@@ -36,10 +36,10 @@ fn hear_leg<W: World>(
     octets: &mut Packet,
     text: &mut TextPacket,
     events: &mut Events,
-) -> Result<SenderReport, DumpFault>
+) -> Result<SourceNotes, DumpFault>
     requires limit { limit ≤ MOST_RECORDING_OCTETS }
     requires fresh { W.Src.faults source ≡ 0 }
-    ensures hears { W.Src.tells → Hears limit (hears_of leg.now) (W.Src.left source) result }
+    ensures hears { W.Src.tells → Hears limit (sender_of leg.now) (W.Src.left source) result }
     ensures read { IfErr result (FailedIn W.object_faults (W.Src.name source) world.old world.new) }
     ensures calm { UnlessOfSource result (Same W.object_faults world.old world.new) }
     ensures no_other { W.tells → CountsNoOther W.contents W.object_faults (W.Src.name source)
@@ -50,8 +50,11 @@ fn hear_leg<W: World>(
 {
     let InputNames { source, said } = hear_input(
         source,
-        leg.ssrc,
-        leg.payload_types,
+        Sender {
+            ssrc: leg.ssrc,
+            payload_types: leg.payload_types,
+            long: leg.long,
+        },
         limit,
         octets,
         text,
@@ -68,8 +71,8 @@ fn hear_inputs<W: World>(
     limit: u32,
     sources: Vec<W::Src>,
     world: &mut W,
-    mut all: Vec<SenderReport>,
-) -> Result<Vec<SenderReport>, MixFault>
+    mut all: Vec<SourceNotes>,
+) -> Result<Vec<SourceNotes>, MixFault>
     requires limit { limit ≤ MOST_RECORDING_OCTETS }
     requires few { length legs.now ≤ MOST_LEGS }
     requires count { length sources.items ≡ length legs.now }
@@ -122,7 +125,7 @@ fn hear_all<W: World>(
     alloc: Global,
     conference: &Conference,
     world: &mut W,
-) -> Result<Vec<SenderReport>, MixFault>
+) -> Result<Vec<SourceNotes>, MixFault>
     ensures told { W.tells → IfOk result (λ all. AreTold (W.contents world.old) (meaning_of conference.now) all.items) }
     ensures count { IfOk result (λ all. length all.items ≡ length conference.now.legs) }
     ensures stops { IfErr result (StopsIn W.tells W.contents W.own_faults W.object_faults
@@ -189,7 +192,7 @@ pub fn hear_names<W: World>(
 }
 
 /// One line for each of these legs, in leg order, of what was counted of its input.
-fn lines_of(alloc: Global, conference: &Conference, all: &[SenderReport]) -> Result<Bytes, NoMemory>
+fn lines_of(alloc: Global, conference: &Conference, all: &[SourceNotes]) -> Result<Bytes, NoMemory>
     requires each { length all.now ≡ length conference.now.legs }
     ensures { IfOk result (λ lines. (held : Contents) → AreTold held (meaning_of conference.now) all.now
         → lines ≡ counts_lines (meaning_of conference.now) (inputs_under held conference.now.legs)) }

@@ -3,9 +3,9 @@
 
 mod input_notes;
 mod inputs;
+mod leg_changes;
 mod open_inputs;
-mod reports;
-mod sender_reports;
+mod source_notes;
 mod sums;
 
 pub use input_notes::{count_inputs, hear_names};

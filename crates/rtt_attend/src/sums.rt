@@ -1,12 +1,14 @@
 //! What is counted of one input.
 ghost use Rattle.std.specs.Prelude.{◌≡◌};
-ghost use Rattle.view_spec.specs.Seen.{Text};
+ghost use Rattle.view_spec.specs.Seen.{Text, fate_of};
 ghost use Rattle.view_spec.specs.Seen as seen;
-ghost use Rattle.rtt_attend.specs.Counted.{CountsFate, IsFew, fate_in, fate_of_fault, hears_so};
+ghost use Rattle.rtt_attend.specs.Counted.{CountsFate, IsFew, fate_in, fate_of_fault, text_from};
 
-use rtp_text::read_text;
+use crate::inputs::Sender;
+use file_spec::primary_limit;
+use rtp_text::read_text_within;
 use rtpdump_io::DumpItem;
-use rtt_base::{PayloadTypes, TextPacket};
+use rtt_base::TextPacket;
 use view_spec::Tally;
 use wire_spec::TextFault;
 
@@ -40,23 +42,36 @@ fn count_refused(tally: &mut Tally)
     tally.refused += 1;
 }
 
+/// Counts a packet.
+fn count_packet(octets: &[u8], sender: Sender, text: &mut TextPacket, tally: &mut Tally)
+    requires few { IsFew tally.old }
+    ensures { CountsFate (fate_of (text_from sender octets.now)) tally.old tally.new }
+{
+    match read_text_within(
+        primary_limit(sender.long),
+        octets,
+        Some(sender.ssrc),
+        sender.payload_types,
+        text,
+    ) {
+        Ok(()) => count_text(tally),
+        Err(fault) => count_fault(fault, tally),
+    }
+}
+
 /// Counts a record, whose octets these are where it is a packet. RTCP is no packet.
 pub(crate) fn count_item(
     item: DumpItem,
     octets: &[u8],
-    ssrc: u32,
-    payload_types: PayloadTypes,
+    sender: Sender,
     text: &mut TextPacket,
     tally: &mut Tally,
 )
     requires few { IsFew tally.old }
-    ensures { CountsFate (fate_in (hears_so ssrc payload_types) item octets.now) tally.old tally.new }
+    ensures { CountsFate (fate_in sender item octets.now) tally.old tally.new }
 {
     match item {
-        DumpItem::Packet { at: _ } => match read_text(octets, Some(ssrc), payload_types, text) {
-            Ok(()) => count_text(tally),
-            Err(fault) => count_fault(fault, tally),
-        },
+        DumpItem::Packet { at: _ } => count_packet(octets, sender, text, tally),
         DumpItem::Cut { at: _ } | DumpItem::Large { at: _ } => count_refused(tally),
         DumpItem::Rtcp { at: _ } | DumpItem::End => {}
     }

@@ -21,7 +21,7 @@ pub use dates::{Date, date_of};
 pub use errors::{Failed, Full, NoMemory};
 pub use long_lists::{Bytes, GrowingList};
 pub use names::Name;
-pub use octets::{Octets, Packet, Text};
+pub use octets::{Octets, Packet, PrimaryText, Text};
 pub use paths::Path;
 pub use records::{Chunk, Record};
 pub use text_packets::{PayloadTypes, TextPacket};

@@ -4,6 +4,8 @@
 pub const MOST_TEXT_OCTETS: usize = 1023;
 /// The most octets of a packet.
 pub const MOST_PACKET_OCTETS: usize = 4224;
+/// The most octets of a primary text that no block repeats: what the fixed header of RTP leaves of a packet.
+pub const MOST_PRIMARY_OCTETS: usize = 4212;
 /// How long a missing packet is waited for.
 pub const LONGEST_WAIT: u32 = 10_000;
 /// The most packets that wait behind a missing one.

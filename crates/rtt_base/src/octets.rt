@@ -2,11 +2,14 @@
 ghost use Rattle.std.specs.Prelude.{◌≡◌, ◌+◌, ◌≤◌, ◌<◌, ◌==◌, ◌↔◌, [], ◌∷◌, ◌++◌, length, take, IsOk, OnOk, OnErr};
 
 use crate::Full;
-use crate::limits::{MOST_PACKET_OCTETS, MOST_TEXT_OCTETS};
+use crate::limits::{MOST_PACKET_OCTETS, MOST_PRIMARY_OCTETS, MOST_TEXT_OCTETS};
 use std::marker::Model;
 
 /// The text of a block, at most 1023 octets (RFC 2198, section 3: a length has 10 bits).
 pub type Text = Octets<MOST_TEXT_OCTETS>;
+
+/// A primary text as it is read, at most 4212 octets.
+pub type PrimaryText = Octets<MOST_PRIMARY_OCTETS>;
 
 /// The octets of one packet, at most 4224.
 pub type Packet = Octets<MOST_PACKET_OCTETS>;

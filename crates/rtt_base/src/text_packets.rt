@@ -1,5 +1,5 @@
 //! A packet of text as it is read.
-use crate::Blocks;
+use crate::{Blocks, PrimaryText};
 
 /// The payload types of `text/t140` and `text/red` (RFC 4103, sections 3 and 4).
 #[derive(Clone, Copy, Debug, PartialEq, Eq)]
@@ -21,5 +21,8 @@ pub struct TextPacket {
     pub ssrc: u32,
     /// Whose text it is: the only CSRC, or the SSRC where there is none (RFC 9071).
     pub source: u32,
-    pub blocks: Blocks,
+    /// The redundant blocks, oldest first.
+    pub older: Blocks,
+    /// The primary text.
+    pub primary: PrimaryText,
 }

@@ -184,6 +184,7 @@ fn time_word(word: &str) -> LineWord
         "relabel" => LineWord::Relabel,
         "mtu" => LineWord::Mtu,
         "counts" => LineWord::Counts,
+        "long" => LineWord::Long,
         other => service_word(other),
     }
 }

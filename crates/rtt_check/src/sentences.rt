@@ -118,11 +118,11 @@ pub(crate) fn script_sentence(kind: ConfKind) -> &'static [u8]
 
 /// The first words that lines of a conference of recordings have.
 const RECORDINGS_WORDS: &[u8] =
-    b"a line begins with mixer, leg, gens, stay, tick, spacing, wait, turns, relabel, mtu, counts, lose, delay or twice, in small letters, or with # as its first octet: correct the word, and part words by spaces, not by tabs";
+    b"a line begins with mixer, leg, gens, stay, tick, spacing, wait, turns, relabel, mtu, counts, long, lose, delay or twice, in small letters, or with # as its first octet: correct the word, and part words by spaces, not by tabs";
 
 /// The first words that lines of a conference of links have.
 const LINKS_WORDS: &[u8] =
-    b"a line begins with mixer, leg, gens, tick, spacing, wait, turns, relabel, mtu, counts, gone, operator, record or follow, in small letters, or with # as its first octet: correct the word, and part words by spaces, not by tabs";
+    b"a line begins with mixer, leg, gens, tick, spacing, wait, turns, relabel, mtu, counts, long, gone, operator, record or follow, in small letters, or with # as its first octet: correct the word, and part words by spaces, not by tabs";
 
 /// The first word, or how a leg's terminal shows text, is none of those that there are.
 fn word_sentence(form: Form, word: LineWord) -> &'static [u8]
@@ -161,6 +161,7 @@ fn count_sentence(word: LineWord) -> &'static [u8]
         LineWord::Operator => b"operator has the words PORT WORD, and no other",
         LineWord::Record => b"record has the word PREFIX, and no other: no name has a space",
         LineWord::Follow => b"follow has the word NAME, and no other",
+        LineWord::Long => b"long has the word NAME, and no other",
         LineWord::Counts => b"counts stands alone in its line: a comment needs a line of its own",
         LineWord::Lose => b"lose has the words NAME K, and no other",
         LineWord::Delay => b"delay has the words NAME K MS, and no other",
@@ -219,7 +220,7 @@ fn twice_sentence(word: LineWord) -> &'static [u8]
 {
     match word {
         LineWord::Leg => b"a leg above has this name: give each its own",
-        LineWord::Generations | LineWord::Stay | LineWord::Follow =>
+        LineWord::Generations | LineWord::Stay | LineWord::Follow | LineWord::Long =>
             b"a line above says it of this leg: leave one of them out",
         LineWord::Lose | LineWord::Delay | LineWord::Twice =>
             b"a line above says it of this packet: leave one of them out",

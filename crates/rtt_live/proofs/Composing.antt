@@ -7,7 +7,8 @@ use Rattle.rtt_base.specs.declared.text_packets.PayloadTypes.{PayloadTypes}
 use Rattle.rtt_io.specs.Counts.{Rose}
 use Rattle.file_spec.specs.declared.conference_lines.LegLine.{LegLine}
 use Rattle.file_spec.specs.Conference.{Conference}
-use Rattle.mixer_spec.specs.Setups.{Setup, leg_at, setup, ssrc_of}
+use Rattle.file_spec.specs.Primaries.{primary_limit}
+use Rattle.mixer_spec.specs.Setups.{Setup, is_long, leg_at, setup, ssrc_of}
 use Rattle.mixer_spec.specs.Rooms.{piece_within}
 use Rattle.receiver.specs.Cuts.{cut_within, most_of}
 use Rattle.mixer_spec.specs.Table.{Call, Turn, after_calls}
@@ -35,8 +36,8 @@ use Rattle.live_leg.specs.Stories.{hearing_of}
 use Rattle.live_leg.proofs.Pacing.{went_port, went_taken}
 use Rattle.mix_loop.specs.declared.clocks.TurnClock as clocks
 use Rattle.mix_loop.specs.declared.live_ports.LivePort.{LivePort}
-use Rattle.mix_loop.specs.declared.live_turns.TurnsEnd.{TurnsEnd}
-use Rattle.mix_loop.specs.declared.live_turns.TurnsEnd.TheVariants.{Done, Closed, Faulted, Stopped}
+use Rattle.mix_loop.specs.declared.live_turns.LiveTurnsEnd.{LiveTurnsEnd}
+use Rattle.mix_loop.specs.declared.live_turns.LiveTurnsEnd.TheVariants.{Done, Closed, Faulted, Stopped}
 use Rattle.mix_loop.specs.Clocks.{ArePaced, AtTicks, RiseTo, StandsPaced, moments_of}
 use Rattle.mix_loop.specs.Order.{AreInTurn, up_to_turn}
 use Rattle.mix_loop.specs.Walks.{BrokenTo, HaltsThen, RanTo, WasFaulted, WasStopped}
@@ -104,7 +105,7 @@ piece_is (Some n) = refl
 
 hearing_line : (c : Conference) (j : ℕ) (line : LegLine) → leg_at c.legs j ≡ Some line → hearing_at c j ≡ as_leg j (hearing_of (leg_settings_at c line))
 hearing_line c j line at =
-    let hears : Option LegLine → ℕ → Hearing = λ l n. record { leg = j; ssrc = ssrc_of l; payload_types = payload_types_of l; wait = c.wait; follow = is_followed l; piece = n } in
+    let hears : Option LegLine → ℕ → Hearing = λ l n. record { leg = j; ssrc = ssrc_of l; payload_types = payload_types_of l; most = primary_limit (is_long l); wait = c.wait; follow = is_followed l; piece = n } in
     λ i. hears (at i) (piece_is c.mtu i)
 
 -- ---- legs that were opened as the first, gave what was popped at these ports, and came back
@@ -322,7 +323,7 @@ module _ {I G : Type 0} (i : ins.Ghosts I) (tells : Type 0) (opened : ℕ → Bo
         }
 
     -- however its turns ended
-    breaks : (known : Type 0) (tick : ℕ) (span : Span) (same_tick : tick ≡ c.tick) (tell : tells → known) (t : TurnsEnd LiveFault)
+    breaks : (known : Type 0) (tick : ℕ) (span : Span) (same_tick : tick ≡ c.tick) (tell : tells → known) (t : LiveTurnsEnd LiveFault)
         → RanTo popped_in t (StandsPaced known tick span.first span.last (AreInTurn gives addresses span.pauses) gives) (StandsPaced known tick span.first span.last (AreInTurn gives addresses span.pauses) (HaltsThen halts)) (setup c) (payload_types_at c) c.turns ports m → IsBrokenOff i o tells c span backs far.links.items
     breaks known tick span same_tick tell Done v = is_broken span (StandsPaced known tick span.first span.last (AreInTurn gives addresses span.pauses) gives) (record { turns = c.turns; few = omega arith; serving = v.serving }) 0
         (λ j link line e at told. inl (given_whole v.serving.calls v.serving.made.0.made j link line e at told)) (at_ticks known tick span v.serving.calls same_tick tell v.serving.made.1 v.serving.made.2)
@@ -333,18 +334,18 @@ module _ {I G : Type 0} (i : ins.Ghosts I) (tells : Type 0) (opened : ℕ → Bo
     breaks known tick span same_tick tell (Stopped why) v = is_broken span (StandsPaced known tick span.first span.last (AreInTurn gives addresses span.pauses) (HaltsThen halts)) v v.serving.made.0.0
         (given_then v.serving.calls v.serving.made.0.0 v.serving.made.0.1) (at_ticks known tick span v.serving.calls same_tick tell v.serving.made.1 v.serving.made.2)
 
-    ends_as : (known : Type 0) (tick : ℕ) (span : Span) (same_tick : tick ≡ c.tick) (tell : tells → known) (failed : (j : ℕ) (p : LivePort (Worker LinkItem (LinkLeg I) G)) → slice_get ports j ≡ Some p → p.failed ≡ true → has_fault (popped_in p.inlet) ≡ true) (t : TurnsEnd LiveFault)
+    ends_as : (known : Type 0) (tick : ℕ) (span : Span) (same_tick : tick ≡ c.tick) (tell : tells → known) (failed : (j : ℕ) (p : LivePort (Worker LinkItem (LinkLeg I) G)) → slice_get ports j ≡ Some p → p.failed ≡ true → has_fault (popped_in p.inlet) ≡ true) (t : LiveTurnsEnd LiveFault)
         → RanTo popped_in t (StandsPaced known tick span.first span.last (AreInTurn gives addresses span.pauses) gives) (StandsPaced known tick span.first span.last (AreInTurn gives addresses span.pauses) (HaltsThen halts)) (setup c) (payload_types_at c) c.turns ports m → WasFaulted t ports → WasStopped (IsUnsentIn (λ (x : SendingState (FarEnds O)) (why : LiveFault). IsUnsent o.faults x.outbound why)) t m → m.short ≡ false
         → EndsAs i o (stands tap) tells c span backs far.links.items far.listeners.items t
     unfolding done_law closed_law
     ends_as known tick span same_tick tell failed Done v f s long = is_call span served.Done v.serving.calls v.serving.made.0 (at_ticks known tick span v.serving.calls same_tick tell v.serving.made.1 v.serving.made.2) long (λ takes given w. done_law popped_in (StandsPaced known tick span.first span.last (AreInTurn gives addresses span.pauses) gives) c (payload_types_at c) ports m takes given v w) (λ takes given w. refl)
     ends_as known tick span same_tick tell failed Closed v f s long = is_call span served.Closed v.serving.calls v.serving.made.0 (at_ticks known tick span v.serving.calls same_tick tell v.serving.made.1 v.serving.made.2) long (λ takes given w. closed_law popped_in (StandsPaced known tick span.first span.last (AreInTurn gives addresses span.pauses) gives) c (payload_types_at c) ports m takes given v w) (λ takes given w. refl)
     ends_as known tick span same_tick tell failed (Faulted j) v f s long = (fault_at j f.0 f.1 (failed j f.0 f.1 f.2), breaks known tick span same_tick tell (Faulted j) v)
-    ends_as known tick span same_tick tell failed (Stopped (Link j)) v f s long = (s, let t : TurnsEnd LiveFault = Stopped (Link j) in breaks known tick span same_tick tell t v)
-    ends_as known tick span same_tick tell failed (Stopped NoMemory) v f s long = inl (let t : TurnsEnd LiveFault = Stopped NoMemory in breaks known tick span same_tick tell t v)
+    ends_as known tick span same_tick tell failed (Stopped (Link j)) v f s long = (s, let t : LiveTurnsEnd LiveFault = Stopped (Link j) in breaks known tick span same_tick tell t v)
+    ends_as known tick span same_tick tell failed (Stopped NoMemory) v f s long = inl (let t : LiveTurnsEnd LiveFault = Stopped NoMemory in breaks known tick span same_tick tell t v)
 
     -- or for want of memory, where the tap had none
-    pub ends_told : (known : Type 0) (tick : ℕ) (span : Span) (same_tick : tick ≡ c.tick) (tell : tells → known) (failed : (j : ℕ) (p : LivePort (Worker LinkItem (LinkLeg I) G)) → slice_get ports j ≡ Some p → p.failed ≡ true → has_fault (popped_in p.inlet) ≡ true) (t : TurnsEnd LiveFault) (short : Bool)
+    pub ends_told : (known : Type 0) (tick : ℕ) (span : Span) (same_tick : tick ≡ c.tick) (tell : tells → known) (failed : (j : ℕ) (p : LivePort (Worker LinkItem (LinkLeg I) G)) → slice_get ports j ≡ Some p → p.failed ≡ true → has_fault (popped_in p.inlet) ≡ true) (t : LiveTurnsEnd LiveFault) (short : Bool)
         → m.short ≡ short
         → RanTo popped_in t (StandsPaced known tick span.first span.last (AreInTurn gives addresses span.pauses) gives) (StandsPaced known tick span.first span.last (AreInTurn gives addresses span.pauses) (HaltsThen halts)) (setup c) (payload_types_at c) c.turns ports m → WasFaulted t ports → WasStopped (IsUnsentIn (λ (x : SendingState (FarEnds O)) (why : LiveFault). IsUnsent o.faults x.outbound why)) t m
         → EndsAs i o (stands tap) tells c span backs far.links.items far.listeners.items (ended_with short t)
@@ -387,7 +388,7 @@ not_called {I} {O} i o stands tells c span opened legs links called are_legs are
       let w = are_legs j first.0 first.1 line at in
       let same : i.port first.0.arrivals.link ≡ p = cc (sym w.at ∙ e) in
       subst (λ (q : ℕ). opened q ≡ true) same (w.told t).2;
-  ended = subst (λ (t : TurnsEnd LiveFault). EndsAs i o stands tells c span called.legs.items called.ends.items called.listeners.items t) (sym turned)
+  ended = subst (λ (t : LiveTurnsEnd LiveFault). EndsAs i o stands tells c span called.legs.items called.ends.items called.listeners.items t) (sym turned)
       (inr (subst (λ (xs : List O). AreUnused o.given o.faults xs) (sym is_ends) (are_unused o tells c links are_ends many_ends)));
 }
 
@@ -429,6 +430,6 @@ call_made {I} {O} {W} {G} {T} i o k stands tells c job ended tap opened later fi
     }
 
 -- all turns were made where the call ended so
-pub ended_done : (short : Bool) (t : TurnsEnd LiveFault) → ended_with short t ≡ Done → t ≡ Done
+pub ended_done : (short : Bool) (t : LiveTurnsEnd LiveFault) → ended_with short t ≡ Done → t ≡ Done
 ended_done true t e = absurd (cc e)
 ended_done false t e = e

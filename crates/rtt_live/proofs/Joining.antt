@@ -18,7 +18,7 @@ use Rattle.mix_loop.proofs.Begun.{may_begin}
 use Rattle.mix_loop.specs.Opening.{AreBegun}
 use Rattle.mix_loop.specs.LivePorts.{Grew, IsBegun}
 use Rattle.mix_loop.specs.Walks.{IsServing}
-use Rattle.mix_loop.specs.declared.live_turns.TurnsEnd.{TurnsEnd}
+use Rattle.mix_loop.specs.declared.live_turns.LiveTurnsEnd.{LiveTurnsEnd}
 use Rattle.rtt_live.specs.declared.faults.LiveFault.{LiveFault}
 use Rattle.rtt_live.specs.Jobs.{ArePortsOf, GaveFirst, IsInletOf, IsPortOf, TurnsWere, popped_in}
 use Rattle.rtt_live.specs.Mixers.{all_admitted}
@@ -102,7 +102,7 @@ module _ {L M G : Type 0} (g : links.Ghosts L) (stands : M → Setup → (ℕ �
       ap items_of (started.are j first.0 x first.1 e).none
 
   -- each leg gave first what was popped of it at the end of the turns
-  pub all_gave : {then halts : M → Setup → (ℕ → PayloadTypes) → List Call → Type 0} (turns : ℕ) (turned : TurnsEnd LiveFault) (legs back : List (LinkLeg L)) (lanes joined : List (Worker LinkItem (LinkLeg L) G)) (ps new : List (LivePort (Worker LinkItem (LinkLeg L) G))) (m m' : M)
+  pub all_gave : {then halts : M → Setup → (ℕ → PayloadTypes) → List Call → Type 0} (turns : ℕ) (turned : LiveTurnsEnd LiveFault) (legs back : List (LinkLeg L)) (lanes joined : List (Worker LinkItem (LinkLeg L) G)) (ps new : List (LivePort (Worker LinkItem (LinkLeg L) G))) (m m' : M)
       → AreStarted (LegGave g) legs lanes → ArePortsOf lanes ps → (w : TurnsWere popped_in (LaneFollows (LegGave g)) stands then halts turns turned ps new m m')
       → Pairs IsInletOf new joined → AreBack (LegGave g) joined back
       → (j : ℕ) (p : LivePort (Worker LinkItem (LinkLeg L) G)) (first last : LinkLeg L) → slice_get w.ports j ≡ Some p → slice_get legs j ≡ Some first → slice_get back j ≡ Some last
@@ -118,7 +118,7 @@ module _ {L M G : Type 0} (g : links.Ghosts L) (stands : M → Setup → (ℕ �
       (subst (λ (x : LivePort (Worker LinkItem (LinkLeg L) G)). Grew popped_in (LaneFollows (LegGave g)) p0.0 x) same q.2) r.2 (inlets.are j r.0 lane2.0 r.1 lane2.1) (comes.are j lane2.0 last lane2.1 el)
 
   -- a fault of which a port knows was popped there
-  pub all_failed : {then halts : M → Setup → (ℕ → PayloadTypes) → List Call → Type 0} (turns : ℕ) (turned : TurnsEnd LiveFault) (lanes : List (Worker LinkItem (LinkLeg L) G)) (ps new : List (LivePort (Worker LinkItem (LinkLeg L) G))) (m m' : M)
+  pub all_failed : {then halts : M → Setup → (ℕ → PayloadTypes) → List Call → Type 0} (turns : ℕ) (turned : LiveTurnsEnd LiveFault) (lanes : List (Worker LinkItem (LinkLeg L) G)) (ps new : List (LivePort (Worker LinkItem (LinkLeg L) G))) (m m' : M)
       → ArePortsOf lanes ps → ((j : ℕ) (x : Worker LinkItem (LinkLeg L) G) → slice_get lanes j ≡ Some x → popped_in x ≡ [])
       → (w : TurnsWere popped_in (LaneFollows (LegGave g)) stands then halts turns turned ps new m m')
       → (j : ℕ) (p : LivePort (Worker LinkItem (LinkLeg L) G)) → slice_get w.ports j ≡ Some p → p.failed ≡ true → has_fault (popped_in p.inlet) ≡ true

@@ -13,8 +13,8 @@ use Rattle.link_io.specs.declared.ends.LinkOut as outs
 use Rattle.link_io.specs.declared.links.Links as over
 use Rattle.live_leg.specs.LinkLegs.{LinkLeg}
 use Rattle.live_leg.specs.declared.tallies.LegTally.{LegTally}
-use Rattle.mix_loop.specs.declared.live_turns.TurnsEnd.{TurnsEnd}
-use Rattle.mix_loop.specs.declared.live_turns.TurnsEnd.TheVariants.{Done, Closed, Faulted, Stopped}
+use Rattle.mix_loop.specs.declared.live_turns.LiveTurnsEnd.{LiveTurnsEnd}
+use Rattle.mix_loop.specs.declared.live_turns.LiveTurnsEnd.TheVariants.{Done, Closed, Faulted, Stopped}
 use Rattle.live_spec.specs.Served.{Broken, End, IsCutShort, IsServed, live_printed}
 use Rattle.live_spec.specs.Served as served
 use Rattle.file_spec.specs.declared.conference_lines.LegLine.{LegLine}
@@ -98,7 +98,7 @@ rose_since first before last l (inl r) = inl (omega (arith, l, r))
 rose_since first before last l (inr r) = inr r
 
 -- ---- what is answered
-ended_call : {I O K : Type 0} (i : ins.Ghosts I) (o : outs.Ghosts O K) (stands : List Notice → Type 0) (tells : Type 0) (c : Conference) (span : Span) (legs : List (LinkLeg I)) (links : List O) (listeners : List Listening) (t : TurnsEnd LiveFault) (end : LiveEnd)
+ended_call : {I O K : Type 0} (i : ins.Ghosts I) (o : outs.Ghosts O K) (stands : List Notice → Type 0) (tells : Type 0) (c : Conference) (span : Span) (legs : List (LinkLeg I)) (links : List O) (listeners : List Listening) (t : LiveTurnsEnd LiveFault) (end : LiveEnd)
     → EndsAs i o stands tells c span legs links listeners t → answer_of t ≡ Ok end → IsCallOf i o stands tells c span legs links listeners (end_of end)
 ended_call i o stands tells c span legs links listeners Done end w e =
     let same : ends.Done ≡ end = cc e in
@@ -109,7 +109,7 @@ ended_call i o stands tells c span legs links listeners Closed end w e =
 ended_call i o stands tells c span legs links listeners (Faulted j) end w e = absurd (cc e)
 ended_call i o stands tells c span legs links listeners (Stopped why) end w e = absurd (cc e)
 
-pub done_turned : (t : TurnsEnd LiveFault) (end : LiveEnd) → answer_of t ≡ Ok end → end ≡ ends.Done → t ≡ Done
+pub done_turned : (t : LiveTurnsEnd LiveFault) (end : LiveEnd) → answer_of t ≡ Ok end → end ≡ ends.Done → t ≡ Done
 done_turned Done end e d = refl
 done_turned Closed end e d = absurd (cc (e, d))
 done_turned (Faulted j) end e d = absurd (cc e)
@@ -137,7 +137,7 @@ call_breaks i o stands tells c span legs links listeners end w = record {
   paced = w.paced;
 }
 
-any_breaks : {I O K : Type 0} (i : ins.Ghosts I) (o : outs.Ghosts O K) (stands : List Notice → Type 0) (tells : Type 0) (c : Conference) (span : Span) (legs : List (LinkLeg I)) (links : List O) (listeners : List Listening) (t : TurnsEnd LiveFault)
+any_breaks : {I O K : Type 0} (i : ins.Ghosts I) (o : outs.Ghosts O K) (stands : List Notice → Type 0) (tells : Type 0) (c : Conference) (span : Span) (legs : List (LinkLeg I)) (links : List O) (listeners : List Listening) (t : LiveTurnsEnd LiveFault)
     → EndsAs i o stands tells c span legs links listeners t → HasGivenUp i o tells c span legs links
 any_breaks i o stands tells c span legs links listeners Done w = inl (call_breaks i o stands tells c span legs links listeners served.Done w)
 any_breaks i o stands tells c span legs links listeners Closed w = inl (call_breaks i o stands tells c span legs links listeners served.Closed w)
@@ -236,7 +236,7 @@ module _ {I O T K : Type 0} (i : ins.Ghosts I) (o : outs.Ghosts O K) (stands : L
   module _ (links : IsOfLinks c) (own own' ends_before ends_between ends_after : ℕ → ℕ) (never : (p : ℕ) → ends_before p ≤ ends_between p) (never_then : (p : ℕ) → ends_between p ≤ ends_after p)
       (rose_legs : FaultsRose (λ (leg : LinkLeg I). i.faults (link_in leg)) (λ (leg : LinkLeg I). i.port (link_in leg)) ends_before ends_between called.legs.items)
       (rose_ends : FaultsRose o.faults o.port ends_between ends_after called.ends.items) where
-    given_up_so : (t : TurnsEnd LiveFault) (fault : LiveFault) → EndsAs i o stands tells c span called.legs.items called.ends.items called.listeners.items t → answer_of t ≡ Err fault → WasGivenUp own own' ends_before ends_after c fault
+    given_up_so : (t : LiveTurnsEnd LiveFault) (fault : LiveFault) → EndsAs i o stands tells c span called.legs.items called.ends.items called.listeners.items t → answer_of t ≡ Err fault → WasGivenUp own own' ends_before ends_after c fault
     given_up_so Done fault e q = absurd (cc q)
     given_up_so Closed fault e q = absurd (cc q)
     given_up_so (Faulted j) fault e q =

@@ -95,4 +95,4 @@ first_all c listeners k views low first = λ given heard.
 -- ---- lists
 -- stands for a leg where none is looked at
 abbrev pub no_leg : LegLine
-no_leg = record { line = 0; name = []; aware = false; ssrc = 0; input = []; output = []; payload_types = record { t140 = 0; red = 0 }; generations = 0; stay = record { from = 0; until = None }; follow = false }
+no_leg = record { line = 0; name = []; aware = false; ssrc = 0; input = []; output = []; payload_types = record { t140 = 0; red = 0 }; generations = 0; stay = record { from = 0; until = None }; follow = false; long = false }

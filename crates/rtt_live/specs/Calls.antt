@@ -17,8 +17,8 @@ use Rattle.live_leg.specs.LinkLegs.{LinkLeg}
 use Rattle.live_leg.specs.declared.tallies.LegTally.{LegTally}
 use Rattle.mix_loop.specs.Clocks.{AtTicks, RiseTo, moments_of}
 use Rattle.mix_loop.specs.Order.{up_to_turn}
-use Rattle.mix_loop.specs.declared.live_turns.TurnsEnd.{TurnsEnd}
-use Rattle.mix_loop.specs.declared.live_turns.TurnsEnd.TheVariants.{Done, Closed, Faulted, Stopped}
+use Rattle.mix_loop.specs.declared.live_turns.LiveTurnsEnd.{LiveTurnsEnd}
+use Rattle.mix_loop.specs.declared.live_turns.LiveTurnsEnd.TheVariants.{Done, Closed, Faulted, Stopped}
 use Rattle.live_spec.specs.HeadLive.{HeadLive}
 use Rattle.live_spec.specs.Served.{Broken, End, IsCutShort, IsServed, given_to, live_printed}
 use Rattle.live_spec.specs.Served as served
@@ -146,7 +146,7 @@ module _ {I O K : Type 0} (i : ins.Ghosts I) (o : outs.Ghosts O K) (stands : Lis
     pub paced : tells → WasPaced c served.table span (at_link o.given links)
 
   -- how it ended
-  abbrev pub EndsAs : List (LinkLeg I) → List O → List Listening → TurnsEnd LiveFault → Type 0
+  abbrev pub EndsAs : List (LinkLeg I) → List O → List Listening → LiveTurnsEnd LiveFault → Type 0
   EndsAs legs links listeners Done = IsCallOf legs links listeners served.Done
   EndsAs legs links listeners Closed = IsCallOf legs links listeners served.Closed
   EndsAs legs links listeners (Faulted j) = FailedAt (λ (leg : LinkLeg I). i.faults (link_in leg)) legs j × IsBrokenOff i o tells c span legs links
@@ -163,7 +163,7 @@ module _ {I O K : Type 0} (i : ins.Ghosts I) (o : outs.Ghosts O K) (stands : Lis
     pub ended : EndsAs called.legs.items called.ends.items called.listeners.items called.turned
 
 -- what is answered then
-abbrev pub answer_of : TurnsEnd LiveFault → Result LiveEnd LiveFault
+abbrev pub answer_of : LiveTurnsEnd LiveFault → Result LiveEnd LiveFault
 answer_of Done = Ok ends.Done
 answer_of Closed = Ok ends.Closed
 answer_of (Faulted j) = Err (Link j)

@@ -16,8 +16,8 @@ use Rattle.live_leg.specs.LinkLegs.{Item, LegGave, LegStands, LinkItem, LinkLeg,
 use Rattle.live_leg.specs.Items.{items_of}
 use Rattle.mix_loop.specs.declared.clocks.TurnClock as clocks
 use Rattle.mix_loop.specs.declared.live_ports.LivePort.{LivePort}
-use Rattle.mix_loop.specs.declared.live_turns.TurnsEnd.{TurnsEnd}
-use Rattle.mix_loop.specs.declared.live_turns.TurnsEnd.TheVariants.{Done}
+use Rattle.mix_loop.specs.declared.live_turns.LiveTurnsEnd.{LiveTurnsEnd}
+use Rattle.mix_loop.specs.declared.live_turns.LiveTurnsEnd.TheVariants.{Done}
 use Rattle.mix_loop.specs.Clocks.{IsPaced, OnlyTimePassed, StandsPaced}
 use Rattle.mix_loop.specs.Order.{AreInTurn}
 use Rattle.mix_loop.specs.LivePorts.{IsBegun}
@@ -44,7 +44,9 @@ module _ {I : Type 0} where
 
 -- ---- turns
 -- Turns were made of these ports, which were emptied then, of a mixer that stood so.
-pub record TurnsWere {I M : Type 0} (popped : I → List Item) (began : I → I → Type 0) (stands then halts : M → Setup → (ℕ → PayloadTypes) → List Call → Type 0) (turns : ℕ) (turned : TurnsEnd LiveFault) (old new : List (LivePort I)) (m m' : M) : Type 0 where
+pub record TurnsWere {I M : Type 0} (popped : I → List Item) (began : I → I → Type 0)
+    (stands then halts : M → Setup → (ℕ → PayloadTypes) → List Call → Type 0) (turns : ℕ) (turned : LiveTurnsEnd LiveFault)
+    (old new : List (LivePort I)) (m m' : M) : Type 0 where
   pub ports : List (LivePort I)
   pub many : length ports ≡ length old
   pub grew : AllGrew popped began old ports

@@ -15,7 +15,10 @@ use Rattle.rtt_live.specs.declared.faults.LiveFault.TheVariants.{Link, NoMemory}
 
 -- how a leg is heard
 abbrev pub leg_settings_at : Conference → LegLine → LegSettings
-leg_settings_at c leg = record { ear = record { ssrc = leg.ssrc; payload_types = leg.payload_types; wait = c.wait; cut = cut_within c.mtu }; follow = leg.follow }
+leg_settings_at c leg = record {
+  ear = record { ssrc = leg.ssrc; payload_types = leg.payload_types; wait = c.wait; long = leg.long; cut = cut_within c.mtu };
+  follow = leg.follow;
+}
 
 -- the input of each leg is a port
 abbrev pub HavePorts : Conference → Type 0

@@ -4,8 +4,8 @@ use Rattle.rtt_base.specs.declared.text_packets.PayloadTypes.{PayloadTypes}
 use Rattle.stream_spec.specs.Ready.{Chunk}
 use Rattle.mixer_spec.specs.Setups.{Setup}
 use Rattle.mixer_spec.specs.Table.{Call, Admit, Hush, Leave, Offer, Turn, after_calls, has_room}
-use Rattle.mix_loop.specs.declared.live_turns.TurnsEnd.{TurnsEnd}
-use Rattle.mix_loop.specs.declared.live_turns.TurnsEnd.TheVariants.{Stopped}
+use Rattle.mix_loop.specs.declared.live_turns.LiveTurnsEnd.{LiveTurnsEnd}
+use Rattle.mix_loop.specs.declared.live_turns.LiveTurnsEnd.TheVariants.{Stopped}
 use Rattle.rtt_live.specs.declared.faults.LiveFault.{LiveFault}
 use Rattle.rtt_live.specs.declared.faults.LiveFault.TheVariants.{Link, NoMemory}
 use Rattle.rtt_live.specs.declared.mixer_taps.TappedMixer.{TappedMixer}
@@ -62,6 +62,6 @@ IsUnsentIn unsent m (Link leg) = unsent m.mixer (Link leg)
 IsUnsentIn unsent m NoMemory = Unit {0}
 
 -- how a call ended whose turns ended so: for want of memory where the tap had none for a chunk
-abbrev pub ended_with : Bool → TurnsEnd LiveFault → TurnsEnd LiveFault
+abbrev pub ended_with : Bool → LiveTurnsEnd LiveFault → LiveTurnsEnd LiveFault
 ended_with true turned = Stopped NoMemory
 ended_with false turned = turned

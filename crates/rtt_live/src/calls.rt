@@ -22,7 +22,7 @@ use crate::{FarEnds, Listener, LiveFault, Tap, live_mixer};
 use file_spec::Conference;
 use link_io::{LinkOut, Links};
 use live_leg::LinkLeg;
-use mix_loop::TurnsEnd;
+use mix_loop::LiveTurnsEnd;
 use mixer_posts::SendingMixer;
 use rtt_base::Packet;
 use rtt_io::Gate;
@@ -35,7 +35,7 @@ use workers::LentGate;
 /// A call behind its last turn: how its turns ended, both ends of its links, the terminals that heard what was given, and the tap
 /// that was told of it.
 pub(crate) struct CallReturn<I, O, T> {
-    pub(crate) turned: TurnsEnd<LiveFault>,
+    pub(crate) turned: LiveTurnsEnd<LiveFault>,
     pub(crate) legs: Vec<LinkLeg<I>>,
     pub(crate) ends: Vec<O>,
     pub(crate) listeners: Vec<Listener>,
@@ -49,12 +49,12 @@ fn not_begun<I, O, T>(
     ends: Vec<O>,
     tap: T,
 ) -> CallReturn<I, O, T>
-    ensures turned { result.turned ≡ TurnsEnd.Stopped LiveFault.NoMemory }
+    ensures turned { result.turned ≡ LiveTurnsEnd.Stopped LiveFault.NoMemory }
     ensures legs { result.legs ≡ legs }
     ensures ends { result.ends ≡ ends }
 {
     CallReturn {
-        turned: TurnsEnd::Stopped(LiveFault::NoMemory),
+        turned: LiveTurnsEnd::Stopped(LiveFault::NoMemory),
         legs,
         ends,
         listeners: Vec::new(alloc),
@@ -125,8 +125,8 @@ pub(crate) fn call<W: Links, R: Threads + Wait + Sync, G: Gate + Sync, T: Tap>(
     requires told { T.stands tap [] }
     ensures called { IsCalled W.In.LinkIn W.Out.LinkOut (T.stands result.tap) W.tells (meaning_of conference.now) (span_of W.Links world.old world.new)
         (W.opened world.new) result }
-    ensures paced { W.tells → result.turned ≡ TurnsEnd.Done → IsPaced conference.now.turns conference.now.tick (W.moment world.old) (W.moment world.new) }
-    ensures paused { result.turned ≡ TurnsEnd.Done → IsPaused conference.now.turns (W.pauses world.old)
+    ensures paced { W.tells → result.turned ≡ LiveTurnsEnd.Done → IsPaced conference.now.turns conference.now.tick (W.moment world.old) (W.moment world.new) }
+    ensures paused { result.turned ≡ LiveTurnsEnd.Done → IsPaused conference.now.turns (W.pauses world.old)
         (W.pauses world.new) }
     ensures same_own { Same W.own_faults world.old world.new }
     ensures same_objects { Same W.object_faults world.old world.new }

@@ -4,7 +4,7 @@ ghost use Rattle.file_spec.specs.Conferences.{meaning_of};
 ghost use Rattle.live_spec.specs.Watched.{board_line};
 ghost use Rattle.rtt_live.specs.Lines.{totals_of};
 
-use crate::Views;
+use crate::ViewParts;
 use file_spec::{Conference, LegLine};
 use itoa::Buffer;
 use live_board::{BoardReader, Tail};
@@ -46,7 +46,7 @@ pub(crate) fn add_lines(
     alloc: Global,
     conference: &Conference,
     reader: BoardReader,
-    printed: &mut Views,
+    printed: &mut ViewParts,
 ) -> Result<(), NoMemory>
     requires ended { reader.ended ≡ true }
     requires each { length conference.now.legs ≤ reader.legs }

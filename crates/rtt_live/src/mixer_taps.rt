@@ -4,7 +4,7 @@ ghost use Rattle.rtt_live.specs.Taps.{Learns, Shows, ended_with};
 
 use crate::{LiveFault, Tap};
 use link_io::Beat;
-use mix_loop::{MixerCalls, TurnsEnd};
+use mix_loop::{LiveTurnsEnd, MixerCalls};
 use rtt_base::{Chunk, Full};
 
 /// A mixer, and what is told of the chunks that it takes and of its turns.
@@ -30,14 +30,14 @@ impl<M, T> TappedMixer<M, T> {
 
 /// A tapped mixer behind its last turn, and how its turns ended.
 pub(crate) struct TapReturn<M, T> {
-    pub(crate) turned: TurnsEnd<LiveFault>,
+    pub(crate) turned: LiveTurnsEnd<LiveFault>,
     pub(crate) mixer: M,
     pub(crate) tap: T,
 }
 
 impl<M, T: Tap> TappedMixer<M, T> {
     /// The call is over, whose turns ended so: the tap shows all that it took. For want of memory where it had none for a chunk.
-    pub(crate) fn finish(self, turned: TurnsEnd<LiveFault>) -> TapReturn<M, T>
+    pub(crate) fn finish(self, turned: LiveTurnsEnd<LiveFault>) -> TapReturn<M, T>
         ensures turned { result.turned ≡ ended_with self.short turned }
         ensures mixer { result.mixer ≡ self.mixer }
         ensures shows { Learns T.stands self.tap result.tap Shows }
@@ -49,7 +49,7 @@ impl<M, T: Tap> TappedMixer<M, T> {
         } = self;
         tap.turned();
         let turned = if short {
-            TurnsEnd::Stopped(LiveFault::NoMemory)
+            LiveTurnsEnd::Stopped(LiveFault::NoMemory)
         } else {
             turned
         };

@@ -33,6 +33,7 @@ fn leg_settings(conference: &Conference, leg: &LegLine) -> LegSettings
             ssrc: leg.ssrc,
             payload_types: leg.payload_types,
             wait: u64::from(conference.wait),
+            long: leg.long,
             cut: TextCut::within(conference.mtu),
         },
         follow: leg.follow,

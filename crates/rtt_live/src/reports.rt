@@ -23,11 +23,11 @@ const MOST_PART_OCTETS: usize = 16_384;
 
 /// A growing text in parts, one behind the other: what was appended stays where it is.
 #[derive(Debug, Drop)]
-pub struct Views {
+pub struct ViewParts {
     parts: Vec<Bytes>,
 }
 
-impl Model for Views {
+impl Model for ViewParts {
     ghost use Rattle.std.specs.Prelude.{List, ℕ};
     ghost use Rattle.std.specs.List.{concat};
 
@@ -44,12 +44,12 @@ fn part_len(octets: &[u8]) -> usize
     octets.len().min(MOST_PART_OCTETS)
 }
 
-impl Views {
+impl ViewParts {
     /// No text.
-    pub fn new(alloc: Global) -> Views
+    pub fn new(alloc: Global) -> ViewParts
         ensures { result ≡ [] }
     {
-        Views {
+        ViewParts {
             parts: Vec::new(alloc),
         }
     }
@@ -90,6 +90,6 @@ impl Views {
 #[derive(Debug, Drop)]
 pub struct LiveReport {
     pub end: LiveEnd,
-    pub views: Views,
+    pub views: ViewParts,
     pub tallies: ArrayVec<LegTally, MOST_LINKS>,
 }

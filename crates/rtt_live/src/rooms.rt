@@ -2,7 +2,7 @@
 ghost use Rattle.std.specs.Prelude.{IfOk};
 ghost use Rattle.rtt_live.specs.Rooms.{HasCallRoom, IsUnusedCall};
 
-use crate::threads::LegWorker;
+use crate::threads::LinkWorker;
 use link_io::LinkIn;
 use live_leg::{LinkItem, LinkLeg};
 use mix_loop::LivePort;
@@ -14,8 +14,8 @@ use workers::WorkerRoom;
 /// All memory that the legs of a live call need to run.
 pub(crate) struct CallRoom<L: LinkIn, G: Gate> {
     pub(crate) lanes: WorkerRoom<LinkItem, LinkLeg<L>, G>,
-    pub(crate) ports: Vec<LivePort<LegWorker<L, G>>>,
-    pub(crate) joined: Vec<LegWorker<L, G>>,
+    pub(crate) ports: Vec<LivePort<LinkWorker<L, G>>>,
+    pub(crate) joined: Vec<LinkWorker<L, G>>,
 }
 
 impl<L: LinkIn, G: Gate> CallRoom<L, G> {

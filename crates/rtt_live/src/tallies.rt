@@ -5,7 +5,7 @@ ghost use Rattle.file_spec.specs.declared.limits.TheConstants.{MOST_LINKS};
 ghost use Rattle.view_spec.specs.Tallies.{tally_line};
 ghost use Rattle.rtt_live.specs.Tallies.{as_tally, asked_lines, tallies_in, tally_lines};
 
-use crate::Views;
+use crate::ViewParts;
 use arrayvec::ArrayVec;
 use file_spec::limits::MOST_LINKS;
 use file_spec::{Conference, LegLine};
@@ -47,7 +47,7 @@ fn add_tally(
     leg: &LegLine,
     counted: LegTally,
     line: &mut Bytes,
-    views: &mut Views,
+    views: &mut ViewParts,
 ) -> Result<(), NoMemory>
     ensures { OnOk result (views.new ≡ views.old ++ tally_line leg.now.name (as_tally counted)) }
 {
@@ -61,7 +61,7 @@ fn append_counts(
     alloc: Global,
     legs: &[LegLine],
     tallies: &[LegTally],
-    views: &mut Views,
+    views: &mut ViewParts,
 ) -> Result<(), NoMemory>
     requires each { length tallies.now ≡ length legs.now }
     ensures { OnOk result (views.new ≡ views.old ++ tally_lines legs.now tallies.now) }
@@ -78,7 +78,7 @@ pub(crate) fn append_counted(
     alloc: Global,
     conference: &Conference,
     tallies: &[LegTally],
-    views: &mut Views,
+    views: &mut ViewParts,
 ) -> Result<(), NoMemory>
     requires each { length tallies.now ≡ length conference.now.legs }
     ensures { OnOk result (views.new ≡ views.old ++ asked_lines (meaning_of conference.now) tallies.now) }

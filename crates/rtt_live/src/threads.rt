@@ -1,6 +1,6 @@
 //! A live call runs: each leg on a thread of its own, the turns on the caller's.
 ghost use Rattle.std.specs.Prelude.{◌≡◌, ◌≤◌, ◌<◌, ◌^◌, length};
-ghost use Rattle.mix_loop.specs.declared.live_turns.TurnsEnd.TheVariants.{Done};
+ghost use Rattle.mix_loop.specs.declared.live_turns.LiveTurnsEnd.TheVariants.{Done};
 ghost use Rattle.mix_loop.specs.Clocks.{IsPaced, OnlyTimePassed, StandsPaced};
 ghost use Rattle.mix_loop.specs.Addresses.{AreWithin, ports_of};
 ghost use Rattle.mix_loop.specs.Order.{AreInTurn};
@@ -11,7 +11,7 @@ use crate::LiveFault;
 use link_io::LinkIn;
 use live_leg::{LinkItem, LinkLeg};
 use mix_loop::{
-    Consumer, LivePort, MixerCalls, TurnClock, TurnsEnd, drain_all, live_inlets_of, ports_over,
+    Consumer, LivePort, LiveTurnsEnd, MixerCalls, TurnClock, drain_all, live_inlets_of, ports_over,
     take_turns,
 };
 use rtt_io::Gate;
@@ -24,14 +24,14 @@ use std::thread::{Scope, Threads};
 use workers::{Worker, WorkerRoom, WorkerSet, join_lanes, lend, start_lanes};
 
 /// A leg that runs.
-pub(crate) type LegWorker<L, G> = Worker<LinkItem, LinkLeg<L>, G>;
+pub(crate) type LinkWorker<L, G> = Worker<LinkItem, LinkLeg<L>, G>;
 
 /// A live call that is to run, with all memory that it needs.
 pub(crate) struct CallJob<'w, L: LinkIn, M, C, G: Gate> {
     pub(crate) legs: Vec<LinkLeg<L>>,
     pub(crate) lanes: WorkerRoom<LinkItem, LinkLeg<L>, G>,
-    pub(crate) ports: Vec<LivePort<LegWorker<L, G>>>,
-    pub(crate) joined: Vec<LegWorker<L, G>>,
+    pub(crate) ports: Vec<LivePort<LinkWorker<L, G>>>,
+    pub(crate) joined: Vec<LinkWorker<L, G>>,
     pub(crate) mixer: M,
     /// Says that the legs are to stop.
     pub(crate) stop: Arc<AtomicBool, Global>,
@@ -43,7 +43,7 @@ pub(crate) struct CallJob<'w, L: LinkIn, M, C, G: Gate> {
 
 /// How its turns ended, with all that was lent to it.
 pub(crate) struct JobReturn<'w, L, M, C> {
-    pub(crate) turned: TurnsEnd<LiveFault>,
+    pub(crate) turned: LiveTurnsEnd<LiveFault>,
     pub(crate) legs: Vec<LinkLeg<L>>,
     pub(crate) mixer: M,
     pub(crate) clock: &'w mut C,
@@ -63,7 +63,7 @@ fn turn_and_stop<
     stop: &AtomicBool,
     tick: u64,
     turns: u64,
-) -> TurnsEnd<LiveFault>
+) -> LiveTurnsEnd<LiveFault>
     requires at { AreAt ports.old }
     requires legs { M.legs mixer.old ≡ length ports.old }
     requires none { M.turns mixer.old ≡ 0 }

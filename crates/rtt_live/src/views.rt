@@ -7,7 +7,7 @@ ghost use Rattle.rtt_live.specs.Reports.{end_of};
 
 use crate::speakers::settings_at;
 use crate::tallies::append_counted;
-use crate::{Listener, LiveEnd, Views};
+use crate::{Listener, LiveEnd, ViewParts};
 use file_spec::{Conference, others};
 use live_leg::LegTally;
 use rtt_base::{Bytes, NoMemory};
@@ -77,7 +77,7 @@ fn add_view(
     own: usize,
     listener: Listener,
     view: &mut Bytes,
-    views: &mut Views,
+    views: &mut ViewParts,
 ) -> Result<(), NoMemory>
     requires own { own < length conference.now.legs }
     ensures { OnOk result (AppendsView (meaning_of conference.now) own listener views.old views.new) }
@@ -92,11 +92,11 @@ fn views_of(
     alloc: Global,
     conference: &Conference,
     listeners: Vec<Listener>,
-) -> Result<Views, NoMemory>
+) -> Result<ViewParts, NoMemory>
     requires each { length listeners.items ≡ length conference.now.legs }
     ensures { IfOk result (AreViewsOf (meaning_of conference.now) listeners.items) }
 {
-    let mut views = Views::new(alloc);
+    let mut views = ViewParts::new(alloc);
     let mut view = Bytes::new(alloc);
     let mut own = 0;
     for listener in listeners {
@@ -124,7 +124,7 @@ pub fn printed(
     listeners: Vec<Listener>,
     tallies: &[LegTally],
     end: LiveEnd,
-) -> Result<Views, NoMemory>
+) -> Result<ViewParts, NoMemory>
     requires each { length listeners.items ≡ length conference.now.legs }
     requires tallied { length tallies.now ≡ length conference.now.legs }
     ensures { IfOk result (ArePrintedOf (meaning_of conference.now) listeners.items tallies.now (end_of end)) }

@@ -75,6 +75,7 @@ fn leg_of(alloc: Global, number: u32) -> Result<LegLine, NoMemory>
             until: None,
         },
         follow: false,
+        long: false,
     })
 }
 

@@ -13,7 +13,7 @@ use Rattle.rtt_base.specs.declared.errors.NoMemory as memory
 use Rattle.rtpdump_io.specs.Reading.{is_of_source}
 use Rattle.file_spec.specs.declared.conference_lines.LegLine.{LegLine}
 use Rattle.file_spec.specs.Conference.{Conference}
-use Rattle.mixer_spec.specs.Setups.{Setup, leg_at, setup, ssrc_of}
+use Rattle.mixer_spec.specs.Setups.{Setup, leg_at, setup, ssrc_of, is_long}
 use Rattle.mixer_spec.specs.Table.{Call, Table}
 use Rattle.mixer_spec.specs.Plain.{plain}
 use Rattle.mixer_spec.specs.Bridged.{input_limit, leg_chunks}
@@ -124,7 +124,7 @@ module _ (c : Conference) (inputs : List (List ℕ)) (legs : length inputs ≡ l
 pub are_of_settings : (c : Conference) (inputs : List (List ℕ)) → AreOfConference c (input_at inputs) (asked_of c inputs)
 are_of_settings c inputs = λ j l at.
     ap (λ (o : Option LegLine). record {
-      settings = record { ssrc = ssrc_of o; payload_types = payload_types_of o; wait = c.wait; cut = cut_within c.mtu };
+      settings = record { ssrc = ssrc_of o; payload_types = payload_types_of o; wait = c.wait; long = is_long o; cut = cut_within c.mtu };
       limit = input_limit c;
       octets = input_at inputs j;
     }) at

@@ -7,7 +7,7 @@ use Rattle.rtpdump_io.specs.declared.items.DumpFault.{DumpFault}
 use Rattle.rtpdump_io.specs.Reading.{is_of_source}
 use Rattle.file_spec.specs.declared.conference_lines.LegLine.{LegLine}
 use Rattle.file_spec.specs.Conference.{Conference}
-use Rattle.mixer_spec.specs.Setups.{leg_at, ssrc_of}
+use Rattle.mixer_spec.specs.Setups.{leg_at, ssrc_of, is_long}
 use Rattle.mixer_spec.specs.Bridged.{input_limit}
 use Rattle.command_spec.specs.Work.{Contents}
 use Rattle.command_spec.specs.Mixing.{input_at}
@@ -69,7 +69,7 @@ module _ {S : Type 0} (Told : Type 0) (left : S → List ℕ) (c : Conference) (
   asked_over told = λ j p at.
       let o = over j p at in
       let past : Option LegLine → LegPast = λ leg. record {
-        settings = record { ssrc = ssrc_of leg; payload_types = payload_types_of leg; wait = c.wait; cut = cut_within c.mtu };
+        settings = record { ssrc = ssrc_of leg; payload_types = payload_types_of leg; wait = c.wait; long = is_long leg; cut = cut_within c.mtu };
         limit = input_limit c;
         octets = input_at inputs j;
         gave = [];

@@ -19,7 +19,7 @@ use Rattle.command_spec.specs.Sums.{sources_of}
 use Rattle.sent_log.specs.States.{said}
 use Rattle.terminal.specs.Terminals.{all_used}
 use Rattle.playback.specs.Whole.{IsHeardAsSent}
-use Rattle.rtt_mix.specs.declared.views.Views.{Views}
+use Rattle.rtt_mix.specs.declared.views.TerminalViews.{TerminalViews}
 use Rattle.rtt_mix.specs.Shown.{lines_of}
 use Rattle.rtt_mix.specs.SentViews.{IsSeenAsSent, said_of}
 use Rattle.rtt_mix.specs.Viewed.{AddsTerminalView, AddsUsed, counts_from, joined, markers_from, view_from}
@@ -77,7 +77,7 @@ module _ (r : Reception) (past : List Sent) (items : List Item) (h : IsHeardAsSe
   no_markers (s ∷ ss) = sum_by-cons (markers_at r items) s ss ∙ omega (arith, h.markers s, no_markers ss)
 
 -- the view and its numbers were added
-pub sent_adds : (c : Conference) (own packets : ℕ) (leg : LegLine) (records : List (ℕ × List ℕ)) (sources : List ℕ) (names : List (List ℕ)) (past : List Sent) (pieces : List (List ℕ)) (old new : Views)
+pub sent_adds : (c : Conference) (own packets : ℕ) (leg : LegLine) (records : List (ℕ × List ℕ)) (sources : List ℕ) (names : List (List ℕ)) (past : List Sent) (pieces : List (List ℕ)) (old new : TerminalViews)
     → leg.aware ≡ true → sources ≡ map (λ l. l.ssrc) (remove c.legs own) → names ≡ map (λ l. l.name) (remove c.legs own) → packets ≡ length past
     → IsSeenAsSent c own leg sources names past records (concat pieces) → AddsUsed pieces packets old new → AddsTerminalView c own leg records old new
 sent_adds c own packets leg records sources names past pieces old new aware ss ns n s a =

@@ -25,7 +25,7 @@ use Rattle.terminal.specs.declared.terminals.Terminal.{Terminal}
 use Rattle.terminal.specs.declared.views.View.{View}
 use Rattle.terminal.specs.Terminals.{counts_of, reception, texts_of, IsTextOf, Heard}
 use Rattle.mixer_posts.proofs.LegLines.{legs_more}
-use Rattle.rtt_mix.specs.declared.views.Views.{Views}
+use Rattle.rtt_mix.specs.declared.views.TerminalViews.{TerminalViews}
 use Rattle.rtt_mix.specs.Shown.{AddsView}
 use Rattle.rtt_mix.specs.Viewed.{AddsTerminalView, AddsCounts, AddsSeen, HasFew, IsSeenAs, IsSeenBetween, counts_from, first_legs, joined, markers_of, markers_from, markers_below, packets_below, summed, terminal_settings, used_below, view_from, views_below}
 
@@ -40,7 +40,7 @@ pub leg_read : (lines legs : List LegLine) (own : ℕ) (leg d : LegLine) → lin
 leg_read lines legs own leg d is low = ap (λ (ls : List LegLine). get_or ls own leg) is ∙ same_default legs own leg d low
 
 abbrev pub no_leg : LegLine
-no_leg = record { line = 0; name = []; aware = false; ssrc = 0; input = []; output = []; payload_types = record { t140 = 0; red = 0 }; generations = 0; stay = record { from = 0; until = None }; follow = false }
+no_leg = record { line = 0; name = []; aware = false; ssrc = 0; input = []; output = []; payload_types = record { t140 = 0; red = 0 }; generations = 0; stay = record { from = 0; until = None }; follow = false; long = false }
 
 -- speakers have the names and the SSRCs of their legs
 names_are : (legs : List LegLine) → map (λ (s : Speaker). s.name) (map speaker_of legs) ≡ map (λ leg. leg.name) legs
@@ -102,7 +102,7 @@ module _ (t : Terminal) (q : TerminalSettings) (sources : List ℕ) (items : Lis
           omega (arith, here, rest, sum_by-cons (λ (text : SourceText). text.markers) t ts, sum_by-cons (markers_at (reception q) items) s ss)
 
 -- what a view shows of a terminal is added, and then its numbers
-pub seen_as : (c : Conference) (own : ℕ) (leg : LegLine) (records : List (ℕ × List ℕ)) (t : Terminal) (q : TerminalSettings) (sources : List ℕ) (view : View) (old shown new : Views)
+pub seen_as : (c : Conference) (own : ℕ) (leg : LegLine) (records : List (ℕ × List ℕ)) (t : Terminal) (q : TerminalSettings) (sources : List ℕ) (view : View) (old shown new : TerminalViews)
     → q ≡ terminal_settings c leg → Heard t q sources (came c.plan own records) → AddsView t view old.views.items shown.views.items
     → shown.packets ≡ old.packets → shown.used ≡ old.used → shown.markers ≡ old.markers → AddsCounts t shown new → IsSeenAs c own leg sources view records old new
 seen_as c own leg records t q sources view old shown new e h s packets used markers a = record {
@@ -117,11 +117,11 @@ seen_as c own leg records t q sources view old shown new e h s packets used mark
 }
 
 -- the same of a leg with this line
-pub at_leg : {c : Conference} {own : ℕ} {l m : LegLine} {sources : List ℕ} {view : View} {records : List (ℕ × List ℕ)} {old new : Views} → l ≡ m → IsSeenAs c own m sources view records old new → IsSeenAs c own l sources view records old new
+pub at_leg : {c : Conference} {own : ℕ} {l m : LegLine} {sources : List ℕ} {view : View} {records : List (ℕ × List ℕ)} {old new : TerminalViews} → l ≡ m → IsSeenAs c own m sources view records old new → IsSeenAs c own l sources view records old new
 at_leg {c} {own} {l} {m} {sources} {view} {records} {old} {new} e s = subst (λ (x : LegLine). IsSeenAs c own x sources view records old new) (sym e) s
 
 -- all that a terminal adds, where its view is that of the leg
-pub adds : (c : Conference) (own : ℕ) (leg : LegLine) (records : List (ℕ × List ℕ)) (sources : List ℕ) (view : View) (old new : Views)
+pub adds : (c : Conference) (own : ℕ) (leg : LegLine) (records : List (ℕ × List ℕ)) (sources : List ℕ) (view : View) (old new : TerminalViews)
     → sources ≡ sources_of c own leg → (s : IsSeenAs c own leg sources view records old new) → s.shown ≡ view_from c own leg records → AddsTerminalView c own leg records old new
 adds c own leg records sources view old new listed s is =
     let items = came c.plan own records in
@@ -141,7 +141,7 @@ sum_more : (c : Conference) (f : ℕ × LegLine → ℕ) (k : ℕ) (d : LegLine)
 sum_more c f k d l = ap (sum_by f) (legs_more c k d l) ∙ sum_by_push f (first_legs c k) (k, get_or c.legs k d)
 
 -- at no terminal
-pub seen_none : (c : Conference) (table : Table) (k : ℕ) (seen : Views) → seen.views.items ≡ [] → seen.packets ≡ 0 → seen.used ≡ 0 → seen.markers ≡ 0 → IsSeenBetween c table k k seen
+pub seen_none : (c : Conference) (table : Table) (k : ℕ) (seen : TerminalViews) → seen.views.items ≡ [] → seen.packets ≡ 0 → seen.used ≡ 0 → seen.markers ≡ 0 → IsSeenBetween c table k k seen
 seen_none c table k seen views packets used markers = record {
   views = ap (λ (xs : List (List ℕ)). views_below c table k ++ concat xs) views ∙ append-nil (views_below c table k);
   packets = omega (arith, packets);
@@ -150,7 +150,7 @@ seen_none c table k seen views packets used markers = record {
 }
 
 -- at one terminal more
-pub seen_more : (c : Conference) (table : Table) (from k : ℕ) (d : LegLine) (old new : Views) → k < length c.legs → IsSeenBetween c table from k old
+pub seen_more : (c : Conference) (table : Table) (from k : ℕ) (d : LegLine) (old new : TerminalViews) → k < length c.legs → IsSeenBetween c table from k old
     → AddsTerminalView c k (get_or c.legs k d) (records_to c table k (get_or c.legs k d)) old new → IsSeenBetween c table from (k + 1) new
 seen_more c table from k d old new l s a =
     let leg = get_or c.legs k d in
@@ -166,7 +166,7 @@ seen_more c table from k d old new l s a =
     }
 
 -- at the terminals of one part more
-pub seen_both : (c : Conference) (table : Table) (from middle to : ℕ) (old part new : Views) → IsSeenBetween c table from middle old → IsSeenBetween c table middle to part → AddsSeen part old new → IsSeenBetween c table from to new
+pub seen_both : (c : Conference) (table : Table) (from middle to : ℕ) (old part new : TerminalViews) → IsSeenBetween c table from middle old → IsSeenBetween c table middle to part → AddsSeen part old new → IsSeenBetween c table from to new
 seen_both c table from middle to old part new s p a =
     let front : List ℕ = views_below c table from in
     record {
@@ -179,13 +179,13 @@ seen_both c table from middle to old part new s p a =
 all_legs : (c : Conference) (k : ℕ) → length c.legs ≤ k → first_legs c k ≡ enumerate_from 0 c.legs
 all_legs c k l = take_all k (enumerate_from 0 c.legs) (omega (arith, length-enumerate_from 0 c.legs, l))
 
-pub views_all : (c : Conference) (table : Table) (k : ℕ) (seen : Views) → length c.legs ≤ k → IsSeenBetween c table 0 k seen → joined seen ≡ views c table
+pub views_all : (c : Conference) (table : Table) (k : ℕ) (seen : TerminalViews) → length c.legs ≤ k → IsSeenBetween c table 0 k seen → joined seen ≡ views c table
 views_all c table k seen l s = s.views ∙ ap (flat_map (λ x. view_of c table x.0 x.1)) (all_legs c k l)
 
 without : (a b d : ℕ) → a ≡ 0 → a + b ≡ d → b ≡ d
 without a b d e f = omega arith
 
-pub sums_all : (c : Conference) (table : Table) (k : ℕ) (seen : Views) → length c.legs ≤ k → IsSeenBetween c table 0 k seen → summed seen ≡ sums c table
+pub sums_all : (c : Conference) (table : Table) (k : ℕ) (seen : TerminalViews) → length c.legs ≤ k → IsSeenBetween c table 0 k seen → summed seen ≡ sums c table
 sums_all c table k seen l s =
     let whole : (f : ℕ × LegLine → ℕ) → sum_by f (first_legs c k) ≡ sum_by f (enumerate_from 0 c.legs) = λ f. ap (sum_by f) (all_legs c k l) in
     let no_packets : packets_below c table 0 ≡ 0 = refl in

@@ -5,7 +5,7 @@ use Rattle.rtt_io.specs.Counts.{Rose}
 use Rattle.rtpdump_io.specs.declared.items.DumpFault.{DumpFault}
 use Rattle.rtpdump_io.specs.Reading.{is_of_source}
 use Rattle.file_spec.specs.Conference.{Conference}
-use Rattle.mixer_spec.specs.Setups.{leg_at, ssrc_of}
+use Rattle.mixer_spec.specs.Setups.{is_long, leg_at, ssrc_of}
 use Rattle.mixer_spec.specs.Bridged.{input_limit}
 use Rattle.command_spec.specs.declared.faults.Refusal.TheVariants.{AtByte, AfterTurns}
 use Rattle.command_spec.specs.Work.{Refuses, Makes}
@@ -30,6 +30,7 @@ asked_of c inputs j = record {
     ssrc = ssrc_of (leg_at c.legs j);
     payload_types = payload_types_at c j;
     wait = c.wait;
+    long = is_long (leg_at c.legs j);
     cut = cut_within c.mtu;
   };
   limit = input_limit c;

@@ -26,7 +26,7 @@ hearing_of c = record { wait = c.wait; cut = cut_within c.mtu }
 -- what is heard of a leg
 abbrev pub ear_of : LegHearing → LegLine → EarSettings
 ear_of hearing leg =
-    record { ssrc = leg.ssrc; payload_types = leg.payload_types; wait = hearing.wait; cut = hearing.cut }
+    record { ssrc = leg.ssrc; payload_types = leg.payload_types; wait = hearing.wait; long = leg.long; cut = hearing.cut }
 
 module _ {S : Type 0} where
   -- this holds of each of these sources

@@ -8,7 +8,7 @@ use rtt_io::{Gate, Source};
 use workers::{Worker, WorkerRoom};
 
 /// A leg that runs.
-pub(crate) type LegWorker<S, G> = Worker<Answer<DumpFault>, LegInlet<S>, G>;
+pub(crate) type RecordingWorker<S, G> = Worker<Answer<DumpFault>, LegInlet<S>, G>;
 
 /// What is to be mixed, and by whom.
 pub(crate) struct Task<'l, S: Source, M> {
@@ -23,5 +23,5 @@ pub(crate) struct Task<'l, S: Source, M> {
 pub(crate) struct MixJob<'l, S: Source, M, G: Gate> {
     pub(crate) task: Task<'l, S, M>,
     pub(crate) lanes: WorkerRoom<Answer<DumpFault>, LegInlet<S>, G>,
-    pub(crate) room: Room<LegWorker<S, G>>,
+    pub(crate) room: Room<RecordingWorker<S, G>>,
 }

@@ -34,6 +34,7 @@ pub fn leg_over<S: Source>(
         ssrc: leg.ssrc,
         payload_types: leg.payload_types,
         wait: u64::from(hearing.wait),
+        long: leg.long,
         cut: hearing.cut,
     };
     match Leg::with_limit(alloc, source, settings, limit) {

@@ -13,10 +13,10 @@ ghost use Rattle.rtt_mix.specs.Mixes.{IsFirstIn, IsMade, NoneFailedIn, StopsIn, 
 ghost use Rattle.rtt_mix.specs.Viewed.{AreSumsOf, AreViewsOf};
 
 use crate::legs::{close_legs, held_legs, open_legs};
-use crate::loggers::recording_mixer;
+use crate::log_mixers::recording_mixer;
 use crate::logs::Log;
 use crate::parts::views_on_threads;
-use crate::views::Views;
+use crate::views::TerminalViews;
 use crate::{LegHearing, LegReturn, MixFault, Mixed, Readers, mix_legs};
 use file_spec::Conference;
 use leg::LegInlet;
@@ -62,7 +62,7 @@ fn made<R: Threads + Sync>(
     let Ok(seen) = views_on_threads(rt, alloc, conference, outs.log()) else {
         return Err(MixFault::NoMemory);
     };
-    let Views {
+    let TerminalViews {
         views,
         packets,
         used,

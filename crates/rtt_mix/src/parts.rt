@@ -9,7 +9,7 @@ ghost use Rattle.file_spec.specs.declared.limits.TheConstants.{MOST_LEGS};
 
 use crate::known_lines::{KnownLines, lines_on_threads};
 use crate::pieces::add_pieces;
-use crate::views::{Views, nothing_seen, views_between, views_of};
+use crate::views::{TerminalViews, nothing_seen, views_between, views_of};
 use file_spec::Conference;
 use rtt_base::NoMemory;
 use sent_log::SentLog;
@@ -59,7 +59,7 @@ fn part_of(
     known: &[KnownLines<'_>],
     size: usize,
     number: usize,
-) -> Result<Views, NoMemory>
+) -> Result<TerminalViews, NoMemory>
     requires each { length log.now ≡ length conference.now.legs }
     requires sent { All IsPlayable log.now }
     requires size { size ≤ MOST_LEGS }
@@ -79,7 +79,7 @@ fn parts_of<R: Threads + Sync>(
     log: &SentLog,
     known: &[KnownLines<'_>],
     size: usize,
-) -> Result<Vec<Result<Views, NoMemory>>, NoMemory>
+) -> Result<Vec<Result<TerminalViews, NoMemory>>, NoMemory>
     requires each { length log.now ≡ length conference.now.legs }
     requires sent { All IsPlayable log.now }
     requires size { size ≤ MOST_LEGS }
@@ -99,13 +99,13 @@ fn parts_of<R: Threads + Sync>(
 }
 
 /// Adds what is seen at more terminals.
-fn add_part(part: Views, all: &mut Views) -> Result<(), NoMemory>
+fn add_part(part: TerminalViews, all: &mut TerminalViews) -> Result<(), NoMemory>
     requires part { AreOf MOST_LEGS part }
     requires before { (n : ℕ) × (n < MOST_PARTS) × AreOf (MOST_LEGS * n) all.old }
     ensures adds { OnOk result (AddsSeen part all.old all.new) }
     ensures with_it { OnOk result ((n : ℕ) → AreOf (MOST_LEGS * n) all.old → AreOf (MOST_LEGS * (n + 1)) all.new) }
 {
-    let Views {
+    let TerminalViews {
         views,
         packets,
         used,
@@ -124,7 +124,7 @@ pub(crate) fn views_on_threads<R: Threads + Sync>(
     alloc: Global,
     conference: &Conference,
     log: &SentLog,
-) -> Result<Views, NoMemory>
+) -> Result<TerminalViews, NoMemory>
     requires each { length log.now ≡ length conference.now.legs }
     requires sent { All IsPlayable log.now }
     ensures views { IfOk result (λ seen. AreViewsOf (meaning_of conference.now) (recordings_of log.now) (joined seen)) }

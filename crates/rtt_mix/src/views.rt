@@ -22,7 +22,7 @@ use terminal::{Terminal, TerminalSettings, View};
 
 /// What is seen at terminals, in leg order, one view behind the other, each in one piece or more. The numbers are sums over them.
 #[derive(Drop)]
-pub struct Views {
+pub struct TerminalViews {
     pub views: Vec<Piece>,
     /// How many packets came.
     pub packets: u64,
@@ -56,7 +56,7 @@ fn markers_of(terminal: &Terminal) -> u64
 }
 
 /// Adds what a terminal counted.
-fn count(terminal: &Terminal, seen: &mut Views)
+fn count(terminal: &Terminal, seen: &mut TerminalViews)
     requires few { HasFew terminal.now }
     requires before { (n : ℕ) × (n < MOST_LEGS) × AreOf n seen.old }
     ensures adds { AddsCounts terminal.now seen.old seen.new }
@@ -77,7 +77,7 @@ fn add_seen(
     view: View<'_>,
     log: &SentLog,
     known: &[KnownLines<'_>],
-    seen: &mut Views,
+    seen: &mut TerminalViews,
 ) -> Result<(), NoMemory>
     requires own { own < length conference.now.legs }
     requires some { 0 < length sources.now }
@@ -106,7 +106,7 @@ fn add_seen(
 }
 
 /// Adds the view, in these pieces, of a terminal to which so many packets came, each of which was used, without a marker.
-fn add_sent_view(pieces: Vec<Piece>, packets: u64, seen: &mut Views) -> Result<(), NoMemory>
+fn add_sent_view(pieces: Vec<Piece>, packets: u64, seen: &mut TerminalViews) -> Result<(), NoMemory>
     requires few { packets < MOST_ARRIVALS }
     requires before { (n : ℕ) × (n < MOST_LEGS) × AreOf n seen.old }
     ensures adds { OnOk result (AddsUsed pieces.items packets seen.old seen.new) }
@@ -125,7 +125,7 @@ fn add_view(
     own: usize,
     log: &SentLog,
     known: &[KnownLines<'_>],
-    seen: &mut Views,
+    seen: &mut TerminalViews,
 ) -> Result<(), NoMemory>
     requires own { own < length conference.now.legs }
     requires each { length log.now ≡ length conference.now.legs }
@@ -164,13 +164,13 @@ fn add_view(
 }
 
 /// Of no terminal.
-pub(crate) fn nothing_seen(alloc: Global) -> Views
+pub(crate) fn nothing_seen(alloc: Global) -> TerminalViews
     ensures views { result.views.items ≡ [] }
     ensures packets { result.packets ≡ 0 }
     ensures used { result.used ≡ 0 }
     ensures markers { result.markers ≡ 0 }
 {
-    Views {
+    TerminalViews {
         views: Vec::new(alloc),
         packets: 0,
         used: 0,
@@ -186,7 +186,7 @@ pub(crate) fn views_between(
     known: &[KnownLines<'_>],
     from: usize,
     to: usize,
-) -> Result<Views, NoMemory>
+) -> Result<TerminalViews, NoMemory>
     requires each { length log.now ≡ length conference.now.legs }
     requires sent { All IsPlayable log.now }
     requires order { from ≤ to }
@@ -202,7 +202,11 @@ pub(crate) fn views_between(
 }
 
 /// What is seen at the terminals of a conference, in leg order, of what the log has for each.
-pub fn views_of(alloc: Global, conference: &Conference, log: &SentLog) -> Result<Views, NoMemory>
+pub fn views_of(
+    alloc: Global,
+    conference: &Conference,
+    log: &SentLog,
+) -> Result<TerminalViews, NoMemory>
     requires each { length log.now ≡ length conference.now.legs }
     requires sent { All IsPlayable log.now }
     ensures views { IfOk result (λ seen. AreViewsOf (meaning_of conference.now) (recordings_of log.now) (joined seen)) }

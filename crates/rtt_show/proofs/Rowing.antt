@@ -14,7 +14,7 @@ use Rattle.wire_spec.specs.Faults.{header_fault, blocks_fault}
 use Rattle.wire_spec.specs.Packets.{Packet, Arrival}
 use Rattle.wire_spec.specs.Rtp.{Reading, rtp}
 use Rattle.wire_spec.specs.Red.{red}
-use Rattle.wire_spec.specs.Text.{accepted, is_asked, refused_as, text_of, text_of_short, text_packet}
+use Rattle.wire_spec.specs.Text.{accepted, is_asked, refused_as, short_within, text_of, text_of_short, text_packet, text_within}
 use Rattle.wire_spec.specs.declared.limits.TheConstants.{LAST_RECORD_MOMENT}
 use Rattle.wire_spec.specs.Dump.{Item, What, Whole, Rtcp, Cut, Large, arrivals_after, arrivals_with, arrived, sent_item}
 use Rattle.stream_spec.specs.Numbering.{Numbered, numbered, number_after, nearest, greatest, first_number, has_number, distinct_from, in_time, by_number, used}
@@ -61,14 +61,14 @@ accepted_in true false r k x e = e
 accepted_in false several r k x e = absurd (true≢false (sym (ap has_ok e)))
 
 short_in : (octets : List ℕ) (asked : Option ℕ) (payload_types : PayloadTypes) (r : Reading) (p : Packet) → rtp octets ≡ Ok r → text_of_short octets asked payload_types ≡ Ok p → (p.source ≡ unwrap_or r.csrc r.ssrc) × (p.seq ≡ r.seq)
-unfolding text_of_short
+unfolding short_within
 short_in octets asked payload_types r p h e =
     let k : Reading → Result Packet TextFault = λ read. refused_as blocks_fault (red read.payload read.pt payload_types) >>= (λ blocks. Ok (text_packet read blocks)) in
     let here : (refused_as header_fault (Ok r) >>= (λ reading. accepted asked reading >>= k)) ≡ Ok p = subst (λ (x : Result Reading RtpFault). (refused_as header_fault x >>= (λ reading. accepted asked reading >>= k)) ≡ Ok p) h e in
     blocks_in (refused_as blocks_fault (red r.payload r.pt payload_types)) r p (accepted_in (is_asked asked r.ssrc) (nat_lt 1 r.cc) r k p here)
 
 pub origin_is : (octets : List ℕ) (r : Reading) (o : Origin) → rtp octets ≡ Ok r → o.source ≡ unwrap_or r.csrc r.ssrc → o.seq ≡ r.seq → IsOrigin o octets
-unfolding text_of
+unfolding text_within
 origin_is octets r o h s n asked payload_types p e = let q = go (nat_lt MOST_PACKET_OCTETS (length octets)) e in (q.0 ∙ sym s, q.1 ∙ sym n)
   where
     go : (b : Bool) → cond b (Err Long) (text_of_short octets asked payload_types) ≡ Ok p → (p.source ≡ unwrap_or r.csrc r.ssrc) × (p.seq ≡ r.seq)

@@ -12,8 +12,8 @@ use Rattle.command_spec.specs.Streams as sorts
 use Rattle.report_spec.specs.Showing.{numbers_of}
 use Rattle.command_spec.specs.Showing.{refusals, place_of, hearing, least_time, greatest_time, refused_as}
 use Rattle.rtt_show.specs.declared.surveys.Survey.{Survey}
-use Rattle.rtt_show.specs.declared.sorts.RecordClass.{RecordClass}
-use Rattle.rtt_show.specs.declared.sorts.RecordClass.TheVariants.{Headed, NoRtp, Rtcp}
+use Rattle.rtt_show.specs.declared.record_kinds.RecordKind.{RecordKind}
+use Rattle.rtt_show.specs.declared.record_kinds.RecordKind.TheVariants.{Headed, NoRtp, Rtcp}
 use Rattle.rtt_show.specs.declared.first_sources.FirstSources.{FirstSources}
 use Rattle.rtt_show.specs.declared.origins.Origin.{Origin}
 use Rattle.rtt_show.specs.declared.spreads.Spread.{Spread}
@@ -21,7 +21,7 @@ use Rattle.rtt_show.specs.Spreads.{IsSpread, IsNarrow, SpreadsBy}
 
 -- ---- one packet
 
-abbrev pub sorted : RecordClass → Sort
+abbrev pub sorted : RecordKind → Sort
 sorted (Headed view) = sorts.Headed (reading view)
 sorted NoRtp = sorts.NoRtp
 sorted Rtcp = sorts.Rtcp

@@ -8,7 +8,7 @@ ghost use Rattle.rtt_base.specs.declared.limits.TheConstants.{MOST_PACKET_OCTETS
 ghost use Rattle.rtt_show.specs.Finds.{FindsMore, IsFound, IsNoPacket, IsSmall, Tallies, unread_sort};
 
 use crate::groups::Groups;
-use crate::sorts::{RecordClass, has_text_type, sort_packet};
+use crate::record_kinds::{RecordKind, has_text_type, sort_packet};
 use rtp_text::RtpView;
 use rtpdump_io::DumpItem;
 use rtt_base::{NoMemory, PayloadTypes};
@@ -111,9 +111,9 @@ impl Findings {
         ensures payload_types { self.new.payload_types ≡ self.old.payload_types }
     {
         let unread = match sort_packet(octets) {
-            RecordClass::Headed(view) => return self.take_headed(alloc, at, octets, &view),
-            RecordClass::NoRtp => OtherRecord::NoRtp,
-            RecordClass::Rtcp => OtherRecord::Rtcp,
+            RecordKind::Headed(view) => return self.take_headed(alloc, at, octets, &view),
+            RecordKind::NoRtp => OtherRecord::NoRtp,
+            RecordKind::Rtcp => OtherRecord::Rtcp,
         };
         self.tally(unread);
         Ok(())

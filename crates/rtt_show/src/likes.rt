@@ -8,7 +8,7 @@ ghost use Rattle.report_spec.specs.Guesses.{accepted};
 ghost use Rattle.rtt_show.specs.Surveys.{seen, is_like};
 ghost use Rattle.rtt_show.specs.Signs.{is_filled_text};
 
-use crate::sorts::{has_octets, is_near_text, is_text, payload_of, read_source};
+use crate::record_kinds::{has_octets, is_near_text, is_text, payload_of, read_source};
 use crate::sums::one_if;
 use rtpdump_io::next_record;
 use rtt_base::{PayloadTypes, TextPacket};

@@ -9,8 +9,8 @@ ghost use Rattle.rtt_show.specs.Shown.{first_guess, guessed, pair_text, pair_lin
 
 use crate::likes::{accepted_of, all_near_text};
 use crate::print_lines::append_number;
+use crate::record_kinds::may_be_given;
 use crate::signs::{Signs, signs_of};
-use crate::sorts::may_be_given;
 use rtt_base::{Bytes, NoMemory, PayloadTypes};
 
 /// What packets may be: red with texts of a type inside, or plain texts.

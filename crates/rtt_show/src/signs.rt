@@ -5,7 +5,7 @@ ghost use Rattle.rtpdump_io.specs.InMemory.{HasRecords};
 ghost use Rattle.rtt_show.specs.Records.{OfRecords};
 ghost use Rattle.rtt_show.specs.Signs.{AreSigns, SignsMore};
 
-use crate::sorts::{has_octets, payload_of};
+use crate::record_kinds::{has_octets, payload_of};
 use crate::sums::one_if;
 use rtpdump_io::next_record;
 

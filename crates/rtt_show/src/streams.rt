@@ -14,11 +14,11 @@ ghost use Rattle.rtt_show.specs.Surveys.{IsSurvey};
 ghost use Rattle.rtt_show.specs.Shown.{asked, settings_of, heard_text, refusal_lines};
 
 use crate::first_sources::FirstSources;
+use crate::hearing_passes::hear_all;
 use crate::losses::missed_of;
 use crate::print_lines::{append_number_line, append_title};
-use crate::receptions::hear_all;
+use crate::record_kinds::place_among;
 use crate::rows::{Row, row_of};
-use crate::sorts::place_among;
 use crate::surveys::{Survey, survey_of};
 use command_spec::fault_name;
 use itoa::Buffer;

@@ -8,8 +8,8 @@ ghost use Rattle.rtt_base.specs.declared.text_packets.PayloadTypes.{PayloadTypes
 
 use crate::first_sources::FirstSources;
 use crate::origins::Origin;
+use crate::record_kinds::{place_among, read_source};
 use crate::rows::Row;
-use crate::sorts::{place_among, read_source};
 use crate::spreads::Spread;
 use rtpdump_io::next_record;
 use rtt_base::{NoMemory, PayloadTypes, TextPacket};

@@ -1,15 +1,14 @@
 //! The texts of a source of a stream: each becomes a line as soon as it is heard.
-ghost use Rattle.std.specs.Prelude.{◌≡◌, ◌+◌, ◌≤◌, ◌<◌, Bool, OnOk, IfOk};
+ghost use Rattle.std.specs.Prelude.{◌≡◌, Bool, OnOk, IfOk};
 ghost use Rattle.rtpdump_io.specs.InMemory.{HasRecords};
 ghost use Rattle.receiver.specs.Hears.{IsGiving, arrival_count, is_finished, is_quiet};
 ghost use Rattle.rtt_times.specs.Lines.{name_before};
-ghost use Rattle.rtt_times.specs.Writing.{AddsSource, HasArrivals, UnderName, WritesEnd, WritesPacket, WritesReady, WritesRecords};
-ghost use Rattle.rtt_base.specs.declared.limits.TheConstants.{END_OF_MOMENTS, MOST_ARRIVALS};
+ghost use Rattle.rtt_times.specs.Writing.{AddsSource, HasArrivals, WritesRecords};
 
 use crate::lines::{Lines, append_name};
 use command_spec::ReadRequest;
-use receiver::{Ear, PlainAnswer};
-use recording_views::ear_for;
+use receiver::Ear;
+use recording_views::{TextWriter, ear_for, write_packet, write_rest};
 use rtpdump_io::next_record;
 use rtt_base::{Bytes, Chunk, NoMemory as OutOfMemory};
 use std::alloc::Global;
@@ -24,56 +23,22 @@ fn name_of(alloc: Global, of: ReadRequest) -> Result<Bytes, OutOfMemory>
     Ok(name)
 }
 
-/// Adds what is heard by now, behind this name. Each text is read into `chunk`.
-fn add_heard(
-    ear: &mut Ear,
-    name: &[u8],
-    chunk: &mut Chunk,
-    lines: &mut Lines,
-) -> Result<(), OutOfMemory>
-    requires giving { ∥ IsGiving ear.old ∥₁ }
-    ensures writes { OnOk result (UnderName name.now (λ r. WritesReady r ear.old lines.old ear.new lines.new)) }
-    ensures giving { OnOk result ∥ IsGiving ear.new ∥₁ }
-    ensures quiet { OnOk result (is_quiet ear.new ≡ Bool.true) }
-    ensures arrivals { OnOk result (arrival_count ear.new ≡ arrival_count ear.old) }
-    ensures finished { OnOk result (is_finished ear.new ≡ is_finished ear.old) }
-{
-    for _ in 0..u64::MAX {
-        if !ear.next(chunk) {
-            return Ok(());
-        }
-        lines.add_text(name, chunk)?;
-    }
-    // No memory holds so many texts.
-    Err(OutOfMemory)
+/// Writes the texts of a source as lines.
+#[derive(Drop)]
+struct SourceLines {
+    /// How the source is named, and a space.
+    name: Bytes,
 }
 
-/// Takes a packet that came at this moment, and adds what is heard then.
-fn add_packet(
-    ear: &mut Ear,
-    at: u64,
-    octets: &[u8],
-    name: &[u8],
-    chunk: &mut Chunk,
-    lines: &mut Lines,
-) -> Result<(), OutOfMemory>
-    requires at { at < END_OF_MOMENTS }
-    requires giving { ∥ IsGiving ear.old ∥₁ }
-    requires quiet { is_quiet ear.old ≡ Bool.true }
-    requires few { arrival_count ear.old < MOST_ARRIVALS }
-    ensures writes { OnOk result (UnderName name.now (λ r. WritesPacket r at octets.now ear.old lines.old ear.new lines.new)) }
-    ensures giving { OnOk result ∥ IsGiving ear.new ∥₁ }
-    ensures quiet { OnOk result (is_quiet ear.new ≡ Bool.true) }
-    ensures few { OnOk result (arrival_count ear.new ≤ arrival_count ear.old + 1) }
-    ensures finished { OnOk result (is_finished ear.new ≡ is_finished ear.old) }
-{
-    match ear.hear_plain_chunk(at, octets, chunk) {
-        PlainAnswer::Chunk => lines.add_text(name, chunk),
-        PlainAnswer::Nothing => Ok(()),
-        PlainAnswer::NotPlain => {
-            let _refused = ear.hear(at, octets);
-            add_heard(ear, name, chunk, lines)
-        }
+impl TextWriter for SourceLines {
+    ghost use Rattle.rtt_times.specs.Writing.{AddsTexts};
+
+    type Out = Lines;
+
+    ghost wrote = { λ writer. AddsTexts writer.name };
+
+    fn write(&self, text: &Chunk, out: &mut Lines) -> Result<(), OutOfMemory> {
+        out.add_text(self.name.as_slice(), text)
     }
 }
 
@@ -81,7 +46,7 @@ fn add_packet(
 fn add_records(
     ear: &mut Ear,
     records: &[u8],
-    name: &[u8],
+    writer: &SourceLines,
     chunk: &mut Chunk,
     lines: &mut Lines,
 ) -> Result<(), OutOfMemory>
@@ -90,33 +55,17 @@ fn add_records(
     requires quiet { is_quiet ear.old ≡ Bool.true }
     requires none { arrival_count ear.old ≡ 0 }
     requires open { is_finished ear.old ≡ Bool.false }
-    ensures writes { OnOk result (UnderName name.now (λ r. WritesRecords r records.now ear.old lines.old ear.new lines.new)) }
+    ensures writes { OnOk result (WritesRecords writer.now.name records.now ear.old lines.old ear.new lines.new) }
     ensures giving { OnOk result ∥ IsGiving ear.new ∥₁ }
     ensures quiet { OnOk result (is_quiet ear.new ≡ Bool.true) }
     ensures open { OnOk result (is_finished ear.new ≡ Bool.false) }
 {
     let mut rest = records;
     while let Some((at, octets, more)) = next_record(rest) {
-        add_packet(ear, u64::from(at), octets, name, chunk, lines)?;
+        write_packet(ear, u64::from(at), octets, writer, chunk, lines)?;
         rest = more;
     }
     Ok(())
-}
-
-/// Adds what is heard once nothing more comes.
-fn add_rest(
-    ear: &mut Ear,
-    name: &[u8],
-    chunk: &mut Chunk,
-    lines: &mut Lines,
-) -> Result<(), OutOfMemory>
-    requires giving { ∥ IsGiving ear.old ∥₁ }
-    requires quiet { is_quiet ear.old ≡ Bool.true }
-    requires open { is_finished ear.old ≡ Bool.false }
-    ensures { OnOk result (UnderName name.now (λ r. WritesEnd r ear.old lines.old lines.new)) }
-{
-    ear.finish();
-    add_heard(ear, name, chunk, lines)
 }
 
 /// Adds a line for each text of a source of the stream with these records, and answers how many of them are packets of text of
@@ -134,8 +83,9 @@ pub(crate) fn add_texts(
     let mut ear = ear_for(alloc, of)?;
     let mut chunk = Chunk::default();
     let name = name_of(alloc, of)?;
-    add_records(&mut ear, records, name.as_slice(), &mut chunk, lines)?;
+    let writer = SourceLines { name };
+    add_records(&mut ear, records, &writer, &mut chunk, lines)?;
     let arrivals = ear.arrivals();
-    add_rest(&mut ear, name.as_slice(), &mut chunk, lines)?;
+    write_rest(&mut ear, &writer, &mut chunk, lines)?;
     Ok(arrivals)
 }

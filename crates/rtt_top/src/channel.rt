@@ -9,12 +9,12 @@ ghost use Rattle.rtt_top.specs.Worlds.{StopsOver, WritesFrames};
 
 use crate::files::{fault_of_dump, refused_frames};
 use command_spec::Fault;
-use leg::LegLost;
+use rtpdump_io::DumpReader;
 use rtt_base::Bytes;
 use rtt_io::World;
 use rtt_words::ChannelWords;
 use std::alloc::Global;
-use text_conversions::{ChannelFault, channel_file, channel_leg};
+use text_conversions::{ChannelFault, channel_file};
 
 /// The fault of a command for that of frames that are written of a recording.
 fn fault_of_channel(fault: ChannelFault) -> Fault
@@ -42,15 +42,9 @@ pub(crate) fn frames_of<W: World>(
     let Ok(source) = world.open_source(words.file) else {
         return Err(Fault::CannotOpen { input: 0 });
     };
-    let mut leg = match channel_leg(alloc, source, words.ssrc) {
-        Ok(leg) => leg,
-        Err(LegLost { source }) => {
-            world.done_src(source);
-            return Err(Fault::NoMemory);
-        }
-    };
-    let written = channel_file(alloc, &mut leg);
-    world.done_src(leg.into_source());
+    let mut reader = DumpReader::new(source);
+    let written = channel_file(alloc, &mut reader, words.ssrc);
+    world.done_src(reader.into_source());
     match written {
         Ok(frames) => Ok(frames),
         Err(fault) => Err(fault_of_channel(fault)),

@@ -7,7 +7,7 @@ use Rattle.std.specs.Option.{option_map}
 use Rattle.file_spec.specs.Numbers.{number, most_ssrc}
 use Rattle.command_spec.specs.Usual.{usual_payload_types}
 use Rattle.rtt_words.specs.Help.{topic}
-use Rattle.rtt_words.specs.Words.{Help, channel_words, help_words, is_word, list_of, list_words, make_words, mix_words, different_types, read_of, read_words, send_of, send_words, version_words}
+use Rattle.rtt_words.specs.Words.{Help, channel_words, help_words, is_word, list_of, list_words, make_words, mix_words, payload_type_pair, read_of, read_words, send_of, send_words, version_words}
 use Rattle.clap.specs.Walk.{Text, first_of, nothing_held, rows_after}
 use Rattle.clap.specs.Simple.{App, Shape, built, matches_of}
 use Rattle.clap.specs.Kinds.{Kinds}
@@ -92,13 +92,13 @@ unfolding placed place_fault defaults_fault
 read_agrees (a ∷ b ∷ []) e = kept (is_word a) (read_of a (number most_ssrc b) (number most_ssrc b) (Some usual_payload_types)) (both (is_word a) _ e).0
 read_agrees (a ∷ b ∷ c ∷ []) e = kept (is_word a) (read_of a (number most_ssrc b) (number most_ssrc c) (Some usual_payload_types)) (both (is_word a) _ e).0
 read_agrees (a ∷ b ∷ c ∷ d ∷ []) e = no_types a (number most_ssrc b) (number most_ssrc c)
-read_agrees (a ∷ b ∷ c ∷ d ∷ f ∷ []) e = kept (is_word a) (read_of a (number most_ssrc b) (number most_ssrc c) (different_types d f)) (both (is_word a) _ e).0
+read_agrees (a ∷ b ∷ c ∷ d ∷ f ∷ []) e = kept (is_word a) (read_of a (number most_ssrc b) (number most_ssrc c) (payload_type_pair d f)) (both (is_word a) _ e).0
 read_agrees _ e = refl
 
 pub list_agrees : AgreesOnAll list_app list_given list_words
 unfolding placed place_fault defaults_fault
 list_agrees (a ∷ []) e = kept (is_word a) (list_of a (Some usual_payload_types)) (both (is_word a) _ e).0
-list_agrees (a ∷ b ∷ c ∷ []) e = kept (is_word a) (list_of a (different_types b c)) (both (is_word a) _ e).0
+list_agrees (a ∷ b ∷ c ∷ []) e = kept (is_word a) (list_of a (payload_type_pair b c)) (both (is_word a) _ e).0
 list_agrees _ e = refl
 
 pub send_agrees : AgreesOnAll send_app send_given send_words

@@ -11,7 +11,7 @@ use Rattle.rtt_base.specs.declared.text_packets.PayloadTypes.{PayloadTypes}
 use Rattle.file_spec.specs.Numbers.{is_number, number, most_ssrc, payload_type}
 use Rattle.command_spec.specs.Usual.{usual_payload_types}
 use Rattle.rtt_words.specs.Help.{topic}
-use Rattle.rtt_words.specs.Words.{Read, ListRecords, Send, Cascade, Live, Watch, Relay, Channel, ChannelWords, Show, Times, Script, Check, Help, Command, before_conference, to_check, cascade_words, channel_words, command, help_words, if_different, is_word, list_of, list_words, make_words, Make, mix_words, Mix, Attend, different_types, read_of, read_words, send_of, send_words, version_words}
+use Rattle.rtt_words.specs.Words.{Read, ListRecords, Send, Cascade, Live, Watch, Relay, Channel, ChannelWords, Show, Times, Script, Check, Help, Command, before_conference, to_check, cascade_words, channel_words, command, help_words, if_different, is_word, list_of, list_words, make_words, Make, mix_words, Mix, Attend, payload_type_pair, read_of, read_words, send_of, send_words, version_words}
 use Rattle.std.proofs.Math.Bool.{and-false as and_false}
 
 abbrev Text : Type 0
@@ -48,7 +48,7 @@ one_off : (a b : Bool) → (a && b) ≡ false → (a ≡ false) ⊎ (b ≡ false
 one_off true b e = inr e
 one_off false b e = inl refl
 
-types_off : (t140 red : Text) → (is_word t140 ≡ false) ⊎ (is_word red ≡ false) → different_types t140 red ≡ None
+types_off : (t140 red : Text) → (is_word t140 ≡ false) ⊎ (is_word red ≡ false) → payload_type_pair t140 red ≡ None
 types_off t140 red (inl e) =
     ap (λ (o : Option ℕ). option_and_then if_different (option_and_then (λ (t : ℕ). option_and_then (λ (r : ℕ). Some (record { t140 = t; red = r })) (payload_type red)) o)) (payload_type_off t140 e)
 types_off t140 red (inr e) =
@@ -115,17 +115,17 @@ read_off (a ∷ b ∷ c ∷ []) e =
     under (is_word a) (read_of a (number most_ssrc b) (number most_ssrc c) (Some usual_payload_types))
     (elim (off_first a (b ∷ c ∷ []) e) [ inl h ↦ inl h | inr h ↦ inr (read_of_off a b c (Some usual_payload_types) (off_two b c h)) ])
 read_off (a ∷ b ∷ c ∷ d ∷ f ∷ []) e =
-    under (is_word a) (read_of a (number most_ssrc b) (number most_ssrc c) (different_types d f))
+    under (is_word a) (read_of a (number most_ssrc b) (number most_ssrc c) (payload_type_pair d f))
     (elim (off_first a (b ∷ c ∷ d ∷ f ∷ []) e) [ inl h ↦ inl h | inr h ↦ inr (numbers h) ])
   where
-    none : different_types d f ≡ None → read_of a (number most_ssrc b) (number most_ssrc c) (different_types d f) ≡ None
+    none : payload_type_pair d f ≡ None → read_of a (number most_ssrc b) (number most_ssrc c) (payload_type_pair d f) ≡ None
     none h = ap (read_of a (number most_ssrc b) (number most_ssrc c)) h ∙ no_types a (number most_ssrc b) (number most_ssrc c)
 
-    numbers : list_all is_word (b ∷ c ∷ d ∷ f ∷ []) ≡ false → read_of a (number most_ssrc b) (number most_ssrc c) (different_types d f) ≡ None
+    numbers : list_all is_word (b ∷ c ∷ d ∷ f ∷ []) ≡ false → read_of a (number most_ssrc b) (number most_ssrc c) (payload_type_pair d f) ≡ None
     numbers h = elim (off_first b (c ∷ d ∷ f ∷ []) h) [
-      | inl i ↦ read_of_off a b c (different_types d f) (inl i)
+      | inl i ↦ read_of_off a b c (payload_type_pair d f) (inl i)
       | inr i ↦ elim (off_first c (d ∷ f ∷ []) i) [
-        | inl j ↦ read_of_off a b c (different_types d f) (inr j)
+        | inl j ↦ read_of_off a b c (payload_type_pair d f) (inr j)
         | inr j ↦ none (types_off d f (off_two d f j))
       ]
     ]
@@ -134,7 +134,7 @@ read_off _ e = refl
 list_off : (words : List Text) → list_all is_word words ≡ false → list_words words ≡ None
 list_off (a ∷ []) e = under (is_word a) (list_of a (Some usual_payload_types)) (inl (off_last a e))
 list_off (a ∷ b ∷ c ∷ []) e =
-    under (is_word a) (list_of a (different_types b c))
+    under (is_word a) (list_of a (payload_type_pair b c))
     (elim (off_first a (b ∷ c ∷ []) e) [ inl h ↦ inl h | inr h ↦ inr (ap (list_of a) (types_off b c (off_two b c h))) ])
 list_off _ e = refl
 

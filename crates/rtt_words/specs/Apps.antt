@@ -13,7 +13,7 @@ use Rattle.file_spec.specs.Numbers.{number, number_between, most_ssrc}
 use Rattle.command_spec.specs.Usual.{usual_payload_types}
 use Rattle.rtt_words.specs.declared.topics.Topic.TheVariants.{Usage}
 use Rattle.rtt_words.specs.Help.{topic}
-use Rattle.rtt_words.specs.Words.{ReadWords, ListWords, SendWords, MixWords, ChannelWords, Command, Make, Help, Version, is_word, different_types, read_of, list_of, send_of}
+use Rattle.rtt_words.specs.Words.{ReadWords, ListWords, SendWords, MixWords, ChannelWords, Command, Make, Help, Version, is_word, payload_type_pair, read_of, list_of, send_of}
 
 -- a refusal of `clap`, by its kind
 abbrev pub fault_by : ErrorKind → WordFault
@@ -74,7 +74,7 @@ version_app = app_with (codes "version") [] []
 -- the payload types are named both or not at all
 abbrev pub payload_types_given : Option (List ℕ) → Option (List ℕ) → Option PayloadTypes
 payload_types_given None None = Some usual_payload_types
-payload_types_given (Some t140) (Some red) = different_types t140 red
+payload_types_given (Some t140) (Some red) = payload_type_pair t140 red
 payload_types_given _ _ = None
 
 -- the texts of the arguments, by their ids

@@ -81,8 +81,8 @@ abbrev pub if_different : PayloadTypes → Option PayloadTypes
 if_different p = if p.t140 == p.red then None else Some p
 
 -- two payload types that differ
-abbrev pub different_types : List ℕ → List ℕ → Option PayloadTypes
-different_types t140 red = option_and_then if_different (payload_types t140 red)
+abbrev pub payload_type_pair : List ℕ → List ℕ → Option PayloadTypes
+payload_type_pair t140 red = option_and_then if_different (payload_types t140 red)
 
 -- the words of a `read`, where the numbers are numbers
 abbrev pub read_of : List ℕ → Option ℕ → Option ℕ → Option PayloadTypes → Option ReadWords
@@ -97,7 +97,7 @@ read_words (file ∷ ssrc ∷ []) =
 read_words (file ∷ ssrc ∷ source ∷ []) =
     if is_word file then read_of file (number most_ssrc ssrc) (number most_ssrc source) (Some usual_payload_types) else None
 read_words (file ∷ ssrc ∷ source ∷ t140 ∷ red ∷ []) =
-    if is_word file then read_of file (number most_ssrc ssrc) (number most_ssrc source) (different_types t140 red)
+    if is_word file then read_of file (number most_ssrc ssrc) (number most_ssrc source) (payload_type_pair t140 red)
     else None
 read_words _ = None
 
@@ -107,7 +107,7 @@ list_of file types = option_map (λ p. record { file = file; payload_types = p }
 -- `FILE` and `FILE T140 RED`
 abbrev pub list_words : List (List ℕ) → Option ListWords
 list_words (file ∷ []) = if is_word file then list_of file (Some usual_payload_types) else None
-list_words (file ∷ t140 ∷ red ∷ []) = if is_word file then list_of file (different_types t140 red) else None
+list_words (file ∷ t140 ∷ red ∷ []) = if is_word file then list_of file (payload_type_pair t140 red) else None
 list_words _ = None
 
 -- the words of a `send`, where the numbers are numbers

@@ -2,7 +2,7 @@
 ghost use Rattle.std.specs.Prelude.{◌≡◌, false, codes, map, IfOk};
 ghost use Rattle.clap.specs.Words.{app_of, first_value, found_of, rule_of};
 ghost use Rattle.rtt_words.specs.Words as table;
-ghost use Rattle.rtt_words.specs.Words.{different_types};
+ghost use Rattle.rtt_words.specs.Words.{payload_type_pair};
 ghost use Rattle.rtt_words.specs.Commands.{asked, channelled, listed, made, mixed, sent};
 ghost use Rattle.rtt_words.specs.Apps.{app_with, bare_app, channel_given, help_given, list_given, make_given, mix_given, payload_types_given, read_given, rule_for, send_given, version_given, with_rules};
 
@@ -68,8 +68,8 @@ const USUAL: PayloadTypes = PayloadTypes {
 };
 
 /// Two payload types that differ.
-fn different_types_of(t140: &str, red: &str) -> Option<PayloadTypes>
-    ensures { result ≡ different_types t140.now red.now }
+fn payload_type_pair_of(t140: &str, red: &str) -> Option<PayloadTypes>
+    ensures { result ≡ payload_type_pair t140.now red.now }
 {
     let payload_types = payload_types_of(t140, red)?;
     if payload_types.t140 == payload_types.red {
@@ -85,7 +85,7 @@ fn payload_types_matched(matches: &ArgMatches<'_>) -> Option<PayloadTypes>
 {
     match (matches.get_str("T140"), matches.get_str("RED")) {
         (None, None) => Some(USUAL),
-        (Some(t140), Some(red)) => different_types_of(t140, red),
+        (Some(t140), Some(red)) => payload_type_pair_of(t140, red),
         _ => None,
     }
 }

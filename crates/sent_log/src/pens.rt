@@ -63,7 +63,8 @@ impl Pen {
         ensures seq { self.new.seq ≡ (self.old.seq + 1) % 65536 }
         ensures sources { (d : List PacketKey) → self.new.sources.items
             ≡ slice_set self.old.sources.items source
-            (with_one (record { sent = true; timestamp = timestamp; number = number }) (slice_index_or self.old.sources.items source d)) }
+            (with_one (record { sent = true; timestamp = timestamp; number = number })
+            (slice_index_or self.old.sources.items source d)) }
     {
         self.sources[source].keep(PacketKey {
             sent: true,

@@ -368,8 +368,10 @@ pub fn append_packet<O: OctetBuffer>(
     requires text { HasText texts.now terminal.now entry.now }
     requires below { AreBelow (length terminal.now.entries.items) repeats.now }
     requires room { HasRoom O.greatest (O.written out.old) }
-    ensures packet { O.written out.new ≡ O.written out.old ++ packet_in texts.now terminal.now (last_kept terminal.now.settings.generations repeats.now) entry.now
-        (head_in terminal.now (not (have_text texts.now terminal.now (last_kept (max 1 terminal.now.settings.generations) repeats.now))) seq timestamp entry.now.source) }
+    ensures packet { O.written out.new ≡ O.written out.old
+        ++ packet_in texts.now terminal.now (last_kept terminal.now.settings.generations repeats.now) entry.now
+        (head_in terminal.now (not (have_text texts.now terminal.now
+        (last_kept (max 1 terminal.now.settings.generations) repeats.now))) seq timestamp entry.now.source) }
     ensures some { length (O.written out.old) < length (O.written out.new) }
     ensures fits { length (O.written out.new) ≤ length (O.written out.old) + MOST_PACKET_OCTETS }
 {

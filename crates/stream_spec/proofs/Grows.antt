@@ -170,7 +170,8 @@ pub record Follows (h : History) (e : Entry) : Type 0 where
   pub generations : e.generations ≤ 8
   pub reach : e.reach < 2 ^ 14
   pub reach_fits : ReachFits (grown h e) (last h e)
-  pub text : (length e.text ≤ MOST_TEXT_OCTETS) × IsUtf8 e.text
+  pub text : IsUtf8 e.text
+  pub repeated : (x : Placed) → In x (placed h) → x.source ≡ e.source → low (last h e) ≤ x.index → length x.text ≤ MOST_TEXT_OCTETS
   pub sized : octets (grown h e) (last h e) ≤ MOST_PACKET_OCTETS
 
 pub lawful_grown : (h : History) (e : Entry) → Lawful h → Follows h e → Lawful (grown h e)
@@ -183,7 +184,8 @@ lawful_grown h e law f = record {
   generations = λ x i. elim (split h e x i) [ inl j ↦ law.generations x j | inr q ↦ subst (λ (z : Placed). z.generations ≤ 8) (sym q) f.generations ];
   reach = λ x i. elim (split h e x i) [ inl j ↦ law.reach x j | inr q ↦ subst (λ (z : Placed). z.reach < 2 ^ 14) (sym q) f.reach ];
   reach_fits = λ x i. elim (split h e x i) [ inl j ↦ reach_grown h e x j (law.reach_fits x j) | inr q ↦ subst (ReachFits (grown h e)) (sym q) f.reach_fits ];
-  text = λ x i. elim (split h e x i) [ inl j ↦ law.text x j | inr q ↦ subst (λ (z : Placed). (length z.text ≤ MOST_TEXT_OCTETS) × IsUtf8 z.text) (sym q) f.text ];
+  text = λ x i. elim (split h e x i) [ inl j ↦ law.text x j | inr q ↦ subst (λ (z : Placed). IsUtf8 z.text) (sym q) f.text ];
+  repeated = λ x y i j s l r. again x y (split h e x i) (split h e y j) s l r;
   sized = λ x i. elim (split h e x i) [ inl j ↦ subst (λ (n : ℕ). n ≤ MOST_PACKET_OCTETS) (sym (octets_grown h e x j)) (law.sized x j) | inr q ↦ subst (λ (z : Placed). octets (grown h e) z ≤ MOST_PACKET_OCTETS) (sym q) f.sized ];
 }
   where
@@ -222,6 +224,16 @@ lawful_grown h e law f = record {
         let empty : entry_count y.source [] ≡ 0 = refl in
         absurd (omega (arith, ap (λ (z : Placed). z.index) q))
     near x y (inr q) (inr w) s l r t = absurd (omega (arith, ap (λ (z : Placed). z.index) q, ap (λ (z : Placed). z.index) w))
+
+    again : (x y : Placed) → In x (placed h) ⊎ (x ≡ last h e) → In y (placed h) ⊎ (y ≡ last h e) → x.source ≡ y.source → x.index < y.index → low y ≤ x.index → length x.text ≤ MOST_TEXT_OCTETS
+    again x y (inl i) (inl j) s l r = law.repeated x y i j s l r
+    again x y (inl i) (inr q) s l r = f.repeated x i (s ∙ ap (λ (z : Placed). z.source) q) (subst (λ (z : Placed). low z ≤ x.index) q r)
+    again x y (inr q) (inl j) s l r =
+        let u = index_under [] h.entries y j in
+        let same : entry_count y.source h.entries ≡ entry_count e.source h.entries = ap (λ n. entry_count n h.entries) (sym s ∙ ap (λ (z : Placed). z.source) q) in
+        let empty : entry_count y.source [] ≡ 0 = refl in
+        absurd (omega (arith, ap (λ (z : Placed). z.index) q))
+    again x y (inr q) (inr w) s l r = absurd (omega (arith, ap (λ (z : Placed). z.index) q, ap (λ (z : Placed). z.index) w))
 
 -- the packet of an entry stays when the history grows
 pub packet_stays : (h : History) (e : Entry) (x : Placed) → In x (placed h) → own_packet (grown h e) x ≡ own_packet h x

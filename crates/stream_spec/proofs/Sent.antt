@@ -272,8 +272,8 @@ texts_length (suc n) (y ∷ ys) f l =
     let a = f y (inl refl) in
     omega (arith, length-append y.text (concat (texts_of ys)))
 
-pub may_follow : (c : Stream) (past : List Sent) (e : Sent) → c.generations ≤ 3 → Lawful (sent_history c past) → MaySend c past e → Follows (sent_history c past) (entry_after c.generations past e)
-may_follow c past e small law m = record {
+pub may_follow : (c : Stream) (past : List Sent) (e : Sent) → c.generations ≤ 3 → ((z : Sent) → In z past → length z.text ≤ MOST_TEXT_OCTETS) → MaySend c past e → Follows (sent_history c past) (entry_after c.generations past e)
+may_follow c past e small few m = record {
   later = λ x i. let w = was_sent c past x i in let l = m.later w.sent_one w.is_in in (omega (arith, w.same.media, l.0), omega (arith, w.same.media, l.1));
   own_later = λ x i s. let w = was_sent c past x i in let l = m.later w.sent_one w.is_in in
       let u = under x i s in
@@ -286,10 +286,14 @@ may_follow c past e small law m = record {
   generations = omega arith;
   reach = reach c.generations refl;
   reach_fits = λ l. fits c.generations refl l;
-  text = m.text;
+  text = m.text.1;
+  repeated = λ x i s l. old x i;
   sized = sized;
 }
   where
+    old : (x : Placed) → In x (placed (sent_history c past)) → length x.text ≤ MOST_TEXT_OCTETS
+    old x i = let w = was_sent c past x i in let n = few w.sent_one w.is_in in omega (arith, ap (λ (xs : List ℕ). length xs) w.same.text)
+
     h : History
     h = sent_history c past
 
@@ -358,7 +362,7 @@ may_follow c past e small law m = record {
         head (e.source == c.ssrc) (omega (arith, t, length-append (concat (texts_of (window (sent_history c (e ∷ past)) (the_last c past e)))) e.text))
       where
         short : (y : Placed) → In y (placed (sent_history c past)) ⊎ (y ≡ the_last c past e) → length y.text ≤ MOST_TEXT_OCTETS
-        short y (inl j) = (law.text y j).0
+        short y (inl j) = old y j
         short y (inr q) = subst (λ (z : Placed). length z.text ≤ MOST_TEXT_OCTETS) (sym q) m.text.0
 
         head : (b : Bool) → length (concat (texts_of (window (sent_history c (e ∷ past)) (the_last c past e))) ++ e.text) ≤ MOST_PACKET_OCTETS - 16 - (4 * c.generations + 1)
@@ -378,14 +382,21 @@ none_lawful ssrc first base = record {
   reach = λ x i. absurd i;
   reach_fits = λ x i. absurd i;
   text = λ x i. absurd i;
+  repeated = λ x y i j s l r. absurd i;
   sized = λ x i. absurd i;
 }
+
+-- what was sent is short
+few_octets : (c : Stream) (past : List Sent) → Sendable c past → (z : Sent) → In z past → length z.text ≤ MOST_TEXT_OCTETS
+few_octets c [] s z i = absurd i
+few_octets c (y ∷ past) s z (inl q) = subst (λ (x : Sent). length x.text ≤ MOST_TEXT_OCTETS) (sym q) s.0.text.0
+few_octets c (y ∷ past) s z (inr i) = few_octets c past s.1 z i
 
 pub sent_lawful : (c : Stream) (past : List Sent) → c.generations ≤ 3 → Sendable c past → Lawful (sent_history c past)
 sent_lawful c [] small s = none_lawful c.ssrc c.first c.base
 sent_lawful c (e ∷ past) small s =
     let law = sent_lawful c past small s.1 in
-    lawful_grown (sent_history c past) (entry_after c.generations past e) law (may_follow c past e small law s.0)
+    lawful_grown (sent_history c past) (entry_after c.generations past e) law (may_follow c past e small (few_octets c past s.1) s.0)
 
 -- the last entry is the one at the last place
 pub last_is_sent : (c : Stream) (past : List Sent) (e : Sent) (x : Placed) → In x (placed (sent_history c (e ∷ past))) → x.place ≡ length past

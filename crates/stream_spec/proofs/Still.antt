@@ -127,8 +127,9 @@ lawful_still h law = record {
   generations = one h (λ x. x.generations ≤ 8) law.generations;
   reach = one h (λ x. x.reach < 2 ^ 14) law.reach;
   reach_fits = one h (ReachFits (still_history h)) fits;
-  text = one h (λ x. (length x.text ≤ MOST_TEXT_OCTETS) × IsUtf8 x.text)
-      (λ x i. let r = law.text x i in (omega (arith, still_short x.text, r.0), still_utf8 x.text r.1));
+  text = one h (λ x. IsUtf8 x.text) (λ x i. still_utf8 x.text (law.text x i));
+  repeated = two h (λ x y. x.source ≡ y.source → x.index < y.index → low y ≤ x.index → length x.text ≤ MOST_TEXT_OCTETS)
+      (λ x y i j s l w. let r = law.repeated x y i j s l w in omega (arith, still_short x.text));
   sized = one h (λ x. octets (still_history h) x ≤ MOST_PACKET_OCTETS) (λ x i. omega (arith, octets_still h x, law.sized x i));
 }
   where

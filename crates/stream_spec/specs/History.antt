@@ -111,7 +111,9 @@ pub record Lawful (h : History) : Type 0 where
   pub generations : (x : Placed) → In x (placed h) → x.generations ≤ 8
   pub reach : (x : Placed) → In x (placed h) → x.reach < 2 ^ 14
   pub reach_fits : (x : Placed) → In x (placed h) → ReachFits h x
-  pub text : (x : Placed) → In x (placed h) → (length x.text ≤ MOST_TEXT_OCTETS) × IsUtf8 x.text
+  pub text : (x : Placed) → In x (placed h) → IsUtf8 x.text
+  -- one that is repeated has at most 1023 octets
+  pub repeated : (x y : Placed) → In x (placed h) → In y (placed h) → x.source ≡ y.source → x.index < y.index → low y ≤ x.index → length x.text ≤ MOST_TEXT_OCTETS
   pub sized : (x : Placed) → In x (placed h) → octets h x ≤ MOST_PACKET_OCTETS
 
 abbrev pub nowhere : Placed

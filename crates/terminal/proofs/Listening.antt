@@ -17,7 +17,7 @@ use Rattle.receiver.specs.declared.source_texts.SourceText.{SourceText}
 use Rattle.receiver.specs.Each.{IsHeardOf, markers_by}
 use Rattle.receiver.specs.declared.settings.EarSettings.{EarSettings}
 use Rattle.receiver.specs.declared.ears.Ear.{Ear}
-use Rattle.receiver.specs.Hears.{told, all_given, IsToldOf, arrival_count, is_quiet, is_finished, ready_packets, Becomes, AllReady, Hears}
+use Rattle.receiver.specs.Hears.{told, all_given, IsToldOf, arrival_count, is_quiet, is_finished, ready_packets, Becomes, AllReady, Hears, text_for}
 use Rattle.receiver.specs.EarEach.{HearsEach, GathersEach}
 use Rattle.receiver.specs.EarPlain.{IsTextFor, HearsPlain}
 use Rattle.receiver.proofs.Given.{ready_stamped}
@@ -62,9 +62,9 @@ becomes_text l k f c sources story b same t u h = record {
   used = u ∙ (h.used ∙ ap (λ (gs : List Given). length gs) (sym same));
 }
 
-pub told_text : (l k : Terminal) (at : ℕ) (octets : List ℕ) (c : TerminalSettings) (sources : List ℕ) (story : Story) → Becomes l.ear k.ear (λ settings s. told s at (text_of octets (Some settings.ssrc) settings.payload_types)) → k.heard ≡ l.heard → k.counts.used ≡ l.counts.used → HearsTexts l c sources story
+pub told_text : (l k : Terminal) (at : ℕ) (octets : List ℕ) (c : TerminalSettings) (sources : List ℕ) (story : Story) → Becomes l.ear k.ear (λ settings s. told s at (text_for settings octets)) → k.heard ≡ l.heard → k.counts.used ≡ l.counts.used → HearsTexts l c sources story
     → HearsTexts k c sources (told story at (text_of octets (Some c.ssrc) c.payload_types))
-told_text l k at octets c sources story b = becomes_text l k (λ settings s. told s at (text_of octets (Some settings.ssrc) settings.payload_types)) c sources story b (told_given story at (text_of octets (Some c.ssrc) c.payload_types))
+told_text l k at octets c sources story b = becomes_text l k (λ settings s. told s at (text_for settings octets)) c sources story b (told_given story at (text_of octets (Some c.ssrc) c.payload_types))
 
 pub ended_text : (l k : Terminal) (c : TerminalSettings) (sources : List ℕ) (story : Story) → Becomes l.ear k.ear (λ settings s. ended s) → k.heard ≡ l.heard → k.counts.used ≡ l.counts.used → HearsTexts l c sources story → HearsTexts k c sources (ended story)
 ended_text l k c sources story b = becomes_text l k (λ settings s. ended s) c sources story b refl
@@ -116,14 +116,14 @@ told_more story c came at octets t =
     subst (IsToldOf (told story at (text_of octets (Some c.ssrc) c.payload_types))) (sym (arrivals_more c.ssrc c.payload_types [] came (sent_item (at, octets)))) (told_arrived story (arrivals_at (reception c) came) at (text_of octets (Some c.ssrc) c.payload_types) t)
 
 -- one more packet of the stream came, and what is settled was heard
-pub took : (l k m : Terminal) (at : ℕ) (octets : List ℕ) (p : Packet) → Becomes l.ear k.ear (λ settings s. told s at (text_of octets (Some settings.ssrc) settings.payload_types)) → text_of octets (Some l.ear.settings.ssrc) l.ear.settings.payload_types ≡ Ok p → k.heard ≡ l.heard
+pub took : (l k m : Terminal) (at : ℕ) (octets : List ℕ) (p : Packet) → Becomes l.ear k.ear (λ settings s. told s at (text_for settings octets)) → text_for l.ear.settings octets ≡ Ok p → k.heard ≡ l.heard
     → k.counts ≡ record l.counts { packets = l.counts.packets + 1 } → is_finished k.ear ≡ is_finished l.ear → arrival_count k.ear ≤ arrival_count l.ear + 1 → is_spent k ≡ is_spent l
     → ((c : TerminalSettings) (sources : List ℕ) (story : Story) → HearsTexts k c sources story → HearsTexts m c sources (all_given story)) → SameCounts k.counts m.counts → is_quiet m.ear ≡ true → arrival_count m.ear ≡ arrival_count k.ear → is_finished m.ear ≡ is_finished k.ear → is_spent m ≡ is_spent k
     → (c : TerminalSettings) (sources : List ℕ) (came : List Item) → Listens l c sources came → Listens m c sources (came ++ sent_item (at, octets) ∷ [])
 took l k m at octets p b e t n f a w g same quiet arrivals finished spent c sources came li =
     let x = text_of octets (Some c.ssrc) c.payload_types in
     let now = told_more li.story c came at octets li.told in
-    let ok : x ≡ Ok p = sym (ap (λ (q : EarSettings). text_of octets (Some q.ssrc) q.payload_types) li.hears.hears.hears.asked) ∙ e in
+    let ok : x ≡ Ok p = sym (ap (λ (q : EarSettings). text_for q octets) li.hears.hears.hears.asked) ∙ e in
     let counts : CountsAs (fate_of x) l.counts m.counts = subst (λ (y : Result Packet TextFault). CountsAs (fate_of y) l.counts m.counts) (sym ok) (record {
       packets = same.packets ∙ ap (λ (q : Counts). q.packets) n;
       refused = omega (arith, same.refused, ap (λ (q : Counts). q.refused) n);
@@ -148,7 +148,7 @@ pub took_plain : (l m : Terminal) (at : ℕ) (octets : List ℕ) → HearsPlain 
 took_plain l m at octets g e n quiet arrivals finished spent c sources came li =
     let x = text_of octets (Some c.ssrc) c.payload_types in
     let now = told_more li.story c came at octets li.told in
-    let ok : x ≡ Ok e.0 = sym (ap (λ (q : EarSettings). text_of octets (Some q.ssrc) q.payload_types) li.hears.hears.hears.asked) ∙ e.1 in
+    let ok : x ≡ Ok e.0 = sym (ap (λ (q : EarSettings). text_for q octets) li.hears.hears.hears.asked) ∙ e.1 in
     let counts : CountsAs (fate_of x) l.counts m.counts = subst (λ (y : Result Packet TextFault). CountsAs (fate_of y) l.counts m.counts) (sym ok) (record {
       packets = ap (λ (q : Counts). q.packets) n;
       refused = omega (arith, ap (λ (q : Counts). q.refused) n);
@@ -186,19 +186,19 @@ listens_alike l m e t n w c sources came li = record {
 }
 
 -- what was refused is counted
-pub refused : (l k m : Terminal) (at : ℕ) (octets : List ℕ) (fault : TextFault) → Becomes l.ear k.ear (λ settings s. told s at (text_of octets (Some settings.ssrc) settings.payload_types)) → text_of octets (Some l.ear.settings.ssrc) l.ear.settings.payload_types ≡ Err fault
+pub refused : (l k m : Terminal) (at : ℕ) (octets : List ℕ) (fault : TextFault) → Becomes l.ear k.ear (λ settings s. told s at (text_for settings octets)) → text_for l.ear.settings octets ≡ Err fault
     → m.ear ≡ k.ear → m.heard ≡ l.heard → m.counts.used ≡ l.counts.used → m.counts.packets ≡ l.counts.packets + 1 → m.counts.refused ≡ l.counts.refused + one_if (is_refused (fate_of (Err fault))) → m.counts.foreign ≡ l.counts.foreign + one_if (is_foreign (fate_of (Err fault)))
     → is_spent m ≡ is_spent l → is_quiet k.ear ≡ true → is_finished k.ear ≡ is_finished l.ear → arrival_count k.ear ≤ arrival_count l.ear + 1
     → (c : TerminalSettings) (sources : List ℕ) (came : List Item) → Listens l c sources came → Listens m c sources (came ++ sent_item (at, octets) ∷ [])
 refused l k m at octets fault b e same t u p q f w quiet finished a c sources came li =
     let x = text_of octets (Some c.ssrc) c.payload_types in
     let now = told_more li.story c came at octets li.told in
-    let err : x ≡ Err fault = sym (ap (λ (q : EarSettings). text_of octets (Some q.ssrc) q.payload_types) li.hears.hears.hears.asked) ∙ e in
+    let err : x ≡ Err fault = sym (ap (λ (q : EarSettings). text_for q octets) li.hears.hears.hears.asked) ∙ e in
     let one : one_if (is_packet (fate_of (Err fault))) ≡ 1 = ap one_if (is_counted (Err fault)) in
     let counts : CountsAs (fate_of x) l.counts m.counts = subst (λ (y : Result Packet TextFault). CountsAs (fate_of y) l.counts m.counts) (sym err) (record { packets = omega (arith, p, one); refused = q; foreign = f }) in
     record {
       story = told li.story at x;
-      hears = told_text l m at octets c sources li.story (subst (λ (e : Ear). Becomes l.ear e (λ settings s. told s at (text_of octets (Some settings.ssrc) settings.payload_types))) (sym same) b) t u li.hears;
+      hears = told_text l m at octets c sources li.story (subst (λ (e : Ear). Becomes l.ear e (λ settings s. told s at (text_for settings octets))) (sym same) b) t u li.hears;
       told = record { arrivals = now.arrivals; moment = now.moment };
       some = li.some;
       counts = fate_counted l.counts m.counts (reception c) came (sent_item (at, octets)) li.counts counts (is_counted x);

@@ -43,7 +43,7 @@ reception c = record { ssrc = c.ssrc; payload_types = c.payload_types; wait = c.
 
 -- what is asked of the ear
 abbrev pub ear_settings : TerminalSettings → EarSettings
-ear_settings c = record { ssrc = c.ssrc; payload_types = c.payload_types; wait = c.wait; cut = Never }
+ear_settings c = record { ssrc = c.ssrc; payload_types = c.payload_types; wait = c.wait; long = false; cut = Never }
 
 -- nothing was heard of the source
 pub record IsEmpty (t : SourceText) : Type 0 where

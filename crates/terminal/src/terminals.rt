@@ -57,6 +57,7 @@ impl Terminal {
             ssrc: settings.ssrc,
             payload_types: settings.payload_types,
             wait: settings.wait,
+            long: false,
             cut: TextCut::Never,
         };
         let heard = nothing_heard(alloc, sources.len())?;

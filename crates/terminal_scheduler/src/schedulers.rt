@@ -34,7 +34,8 @@ impl TerminalScheduler {
     ) -> Result<TerminalScheduler, NoMemory>
         requires own { own < legs }
         requires room { IsRoom room }
-        ensures stands { IfOk result (λ scheduler. StandsNew aware generations legs own room spacing relabel scheduler) }
+        ensures stands { IfOk result (λ scheduler.
+            StandsNew aware generations legs own room spacing relabel scheduler) }
         ensures own { IfOk result (λ scheduler. own_of scheduler ≡ own) }
         ensures legs { IfOk result (λ scheduler. legs_of scheduler ≡ legs) }
         ensures sources { IfOk result (λ scheduler. sources_of scheduler ≡ (if aware then legs else 1)) }

@@ -15,4 +15,4 @@ pub mod Heard
 mod Examples
 pub mod Back
 pub mod RelayLines
-pub mod Going
+pub mod Framing

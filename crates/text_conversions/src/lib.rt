@@ -16,7 +16,7 @@ mod send_laws;
 mod writers;
 
 pub use batches::{FrameBatch, MOST_BATCH_FRAMES};
-pub use channels::{channel_file, channel_leg};
+pub use channels::channel_file;
 pub use file_spec::{Frame, FrameKind, FrameRefusal};
 pub use fronts::{FramePosition, FrameView, first_frame};
 pub use readers::FrameReader;

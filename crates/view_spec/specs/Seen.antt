@@ -5,7 +5,8 @@ use Rattle.rtt_base.specs.declared.text_packets.PayloadTypes.{PayloadTypes}
 use Rattle.wire_spec.specs.declared.faults.TextFault.{TextFault}
 use Rattle.wire_spec.specs.declared.faults.TextFault.TheVariants.{Foreign}
 use Rattle.wire_spec.specs.Packets.{Packet, Arrival}
-use Rattle.wire_spec.specs.Text.{text_of}
+use Rattle.rtt_base.specs.declared.limits.TheConstants.{MOST_TEXT_OCTETS}
+use Rattle.wire_spec.specs.Text.{text_within}
 use Rattle.wire_spec.specs.Dump.{Item, What, Whole, Rtcp, Cut, Large, arrivals_after}
 use Rattle.stream_spec.specs.Numbering.{numbered, used}
 use Rattle.stream_spec.specs.Hearing.{heard}
@@ -33,14 +34,22 @@ fate_of (Ok packet) = Text
 fate_of (Err Foreign) = Foreigner
 fate_of (Err fault) = Refused
 
+-- where a primary text has at most so many octets
+abbrev pub fate_within : ℕ → Reception → What → Fate
+fate_within most r (Whole octets) = fate_of (text_within most octets (Some r.ssrc) r.payload_types)
+fate_within most r Rtcp = NoPacket
+fate_within most r Cut = Refused
+fate_within most r Large = Refused
+
+abbrev pub fate_in : ℕ → Reception → Item → Fate
+fate_in most r item = fate_within most r item.what
+
+-- where it is no longer than the text of any block
 abbrev pub fate_of_what : Reception → What → Fate
-fate_of_what r (Whole octets) = fate_of (text_of octets (Some r.ssrc) r.payload_types)
-fate_of_what r Rtcp = NoPacket
-fate_of_what r Cut = Refused
-fate_of_what r Large = Refused
+fate_of_what r what = fate_within MOST_TEXT_OCTETS r what
 
 abbrev pub fate_at : Reception → Item → Fate
-fate_at r item = fate_of_what r item.what
+fate_at r item = fate_in MOST_TEXT_OCTETS r item
 
 abbrev pub is_packet : Fate → Bool
 is_packet fate = elim fate [ NoPacket ↦ false | _ ↦ true ]

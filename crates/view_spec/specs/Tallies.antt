@@ -2,7 +2,7 @@
 use Rattle.std.specs.Prelude.{ℕ, List, ◌++◌, codes, decimal, min}
 use Rattle.wire_spec.specs.Dump.{Item}
 use Rattle.view_spec.specs.declared.tallies.Tally.{Tally}
-use Rattle.view_spec.specs.Seen.{Reception, fate_at, is_foreign, is_packet, is_refused, is_text, many}
+use Rattle.view_spec.specs.Seen.{Reception, fate_in, is_foreign, is_packet, is_refused, is_text, many}
 use Rattle.view_spec.specs.Views.{printed_line}
 
 -- how a leg of this name was heard, and what of it was not
@@ -17,12 +17,12 @@ tally_unheard y =
 abbrev pub tally_line : List ℕ → Tally → List ℕ
 tally_line name y = tally_heard name y ++ tally_unheard y
 
--- by the items of a recording, in which one sender is heard at most
-abbrev pub tally_at : Reception → List Item → Tally
-tally_at r came = record {
-  came = many is_packet (fate_at r) came;
-  text = many is_text (fate_at r) came;
-  refused = many is_refused (fate_at r) came;
-  foreign = many is_foreign (fate_at r) came;
-  senders = min (many is_text (fate_at r) came) 1;
+-- by the items of a recording, in which one sender is heard at most, and a primary text has at most so many octets
+abbrev pub tally_in : ℕ → Reception → List Item → Tally
+tally_in most r came = record {
+  came = many is_packet (fate_in most r) came;
+  text = many is_text (fate_in most r) came;
+  refused = many is_refused (fate_in most r) came;
+  foreign = many is_foreign (fate_in most r) came;
+  senders = min (many is_text (fate_in most r) came) 1;
 }

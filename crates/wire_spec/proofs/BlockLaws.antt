@@ -12,7 +12,7 @@ use Rattle.wire_spec.specs.declared.headers.RedHeader.{RedHeader}
 use Rattle.wire_spec.specs.declared.faults.RedFault.{RedFault}
 use Rattle.rtt_base.specs.Steps.{◌>>=◌}
 use Rattle.wire_spec.specs.Packets.{primary, redundant, primary_text}
-use Rattle.wire_spec.specs.Red.{IsText, IsRedundant, red_header, RedBlocks, PlainText, Red, Headers, with_header, header_bits, header_of, header_at, and_others, headers_at, older_size, blocks_at, all_utf8, texts_at, red, red_written, FitsRed}
+use Rattle.wire_spec.specs.Red.{FitsRed, Headers, IsRedundant, IsText, PlainText, Red, RedBlocks, all_utf8, and_others, blocks_at, header_at, header_bits, header_of, headers_at, older_size, red, red_header, red_within, red_written, texts_at, texts_within, with_header}
 use Rattle.rtt_base.specs.declared.limits.TheConstants.{MOST_TEXT_OCTETS}
 
 -- what is read of the header of a block
@@ -80,7 +80,7 @@ texts_utf8 [] text each h = rw (is_utf8-from_IsUtf8 text h.1) refl
 texts_utf8 (b ∷ older) text each h = rw (is_utf8-from_IsUtf8 b.text each.0.1.1) (texts_utf8 older text each.1 h)
 
 pub texts_read : (older : List TextBlock) (text : List ℕ) → AllByRecursion IsRedundant older → IsText text → texts_at (map header_is older) (flat_map (λ b. b.text) older ++ text) ≡ Ok (older ++ primary text ∷ [])
-unfolding texts_at
+unfolding texts_within
 texts_read older text each h =
     let octets : List ℕ = flat_map (λ b. b.text) older ++ text in
     let size = length-append (flat_map (λ b. b.text) older) text in
@@ -104,7 +104,7 @@ plain_read octets blocks h = texts_read [] octets tt h.is_text ∙ ap (λ (bs : 
 
 -- a payload is read as what it is, and so as one thing only
 pub red_only : (octets : List ℕ) (pt : ℕ) (payload_types : PayloadTypes) (blocks : List TextBlock) → Red octets pt payload_types blocks → red octets pt payload_types ≡ Ok blocks
-unfolding red
+unfolding red_within
 red_only octets pt payload_types blocks h =
     elim (eqb_tells pt payload_types.t140) [
       | inl yes_ ↦ rw yes_.0 (plain_read octets blocks (h.plain yes_.1))

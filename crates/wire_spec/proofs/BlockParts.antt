@@ -18,7 +18,7 @@ use Rattle.rtt_base.proofs.Steps.{bind_ok}
 use Rattle.wire_spec.proofs.Tests.{chosen, guard, guard_else, ok_is, failed}
 use Rattle.wire_spec.specs.Packets.{primary}
 use Rattle.wire_spec.specs.Rtp.{IsOctets}
-use Rattle.wire_spec.specs.Red.{IsRedundant, red_header, RedBlocks, PlainText, Red, Headers, with_header, header_of, header_at, and_others, headers_at, older_size, blocks_at, all_utf8, checked, texts_at, red}
+use Rattle.wire_spec.specs.Red.{Headers, IsRedundant, PlainText, Red, RedBlocks, all_utf8, and_others, blocks_at, checked, header_at, header_of, headers_at, older_size, red, red_header, red_within, texts_at, texts_within, with_header}
 use Rattle.rtt_base.specs.declared.limits.TheConstants.{MOST_TEXT_OCTETS}
 
 pub IsOctets-drop : (n : ℕ) (octets : List ℕ) → IsOctets octets → IsOctets (drop n octets)
@@ -167,7 +167,7 @@ pub record Texts (hs : List RedHeader) (octets : List ℕ) (blocks : List TextBl
   pub same : blocks_at hs octets ≡ blocks
 
 texts_parts : (hs : List RedHeader) (octets : List ℕ) (blocks : List TextBlock) → texts_at hs octets ≡ Ok blocks → Texts hs octets blocks
-unfolding texts_at
+unfolding texts_within
 texts_parts hs octets blocks e =
     let a = guard (ltb (length octets) (older_size hs)) Cut (cond (ltb (older_size hs + MOST_TEXT_OCTETS) (length octets)) (Err Long) (checked (blocks_at hs octets))) blocks e in
     let b = guard (ltb (older_size hs + MOST_TEXT_OCTETS) (length octets)) Long (checked (blocks_at hs octets)) blocks a.1 in
@@ -202,7 +202,7 @@ red_parts octets t140 hs blocks h e k =
 
 -- a payload that is read is what it was read as
 pub red_found : (octets : List ℕ) (pt : ℕ) (payload_types : PayloadTypes) (blocks : List TextBlock) → IsOctets octets → red octets pt payload_types ≡ Ok blocks → Red octets pt payload_types blocks
-unfolding red
+unfolding red_within
 red_found octets pt payload_types blocks h e =
     let rest : Result (List TextBlock) RedFault = cond (eqb pt payload_types.red) (headers_at 8 payload_types.t140 octets >>= λ hs. texts_at hs.headers hs.texts) (Err WrongType) in
     elim (eqb_tells pt payload_types.t140) [

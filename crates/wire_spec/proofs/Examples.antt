@@ -12,8 +12,8 @@ use Rattle.wire_spec.specs.declared.faults.DumpKind.{DumpKind}
 use Rattle.wire_spec.specs.declared.faults.DumpKind.TheVariants.{NotDump, EndsInside, TooLong, TooLarge}
 use Rattle.wire_spec.specs.Packets.{Packet, Arrival, primary}
 use Rattle.wire_spec.specs.Rtp.{Head, rtp, rtp_of_header, rtp_written}
-use Rattle.wire_spec.specs.Red.{headers_at, texts_at, red, red_written}
-use Rattle.wire_spec.specs.Text.{text_of_short, text_of}
+use Rattle.wire_spec.specs.Red.{headers_at, red, red_within, red_written, texts_at, texts_within}
+use Rattle.wire_spec.specs.Text.{short_within, text_of, text_of_short, text_within}
 use Rattle.wire_spec.specs.SentPackets.{packet_written}
 use Rattle.wire_spec.specs.Dump.{Item, Whole, Fault, arrivals, opening, dump_step, records_within, records, dump, usual_limit, dump_written}
 
@@ -74,28 +74,28 @@ first-written : written true 0 0 (block 16383 [] ∷ block 16383 [] ∷ []) A �
 first-written = refl
 
 first-reads : text_of first None types ≡ Ok (packet true 0 0 (block 16383 [] ∷ block 16383 [] ∷ []) A)
-unfolding text_of text_of_short rtp rtp_of_header red headers_at texts_at is_utf8 chars encode
+unfolding text_within short_within rtp rtp_of_header red_within headers_at texts_within is_utf8 chars encode
 first-reads = refl
 
 second-written : written false 1 300 (block 16383 [] ∷ block 300 A ∷ []) B ≡ second
 second-written = refl
 
 second-reads : text_of second None types ≡ Ok (packet false 1 300 (block 16383 [] ∷ block 300 A ∷ []) B)
-unfolding text_of text_of_short rtp rtp_of_header red headers_at texts_at is_utf8 chars encode
+unfolding text_within short_within rtp rtp_of_header red_within headers_at texts_within is_utf8 chars encode
 second-reads = refl
 
 third-written : written false 2 600 (block 600 A ∷ block 300 B ∷ []) [] ≡ third
 third-written = refl
 
 third-reads : text_of third None types ≡ Ok (packet false 2 600 (block 600 A ∷ block 300 B ∷ []) [])
-unfolding text_of text_of_short rtp rtp_of_header red headers_at texts_at is_utf8 chars encode
+unfolding text_within short_within rtp rtp_of_header red_within headers_at texts_within is_utf8 chars encode
 third-reads = refl
 
 fourth-written : written false 3 900 (block 600 B ∷ block 300 [] ∷ []) [] ≡ fourth
 fourth-written = refl
 
 fourth-reads : text_of fourth None types ≡ Ok (packet false 3 900 (block 600 B ∷ block 300 [] ∷ []) [])
-unfolding text_of text_of_short rtp rtp_of_header red headers_at texts_at is_utf8 chars encode
+unfolding text_within short_within rtp rtp_of_header red_within headers_at texts_within is_utf8 chars encode
 fourth-reads = refl
 
 -- ---- one letter of the source 1001 in a mixer's stream, at 5000: in red form, and in plain form where nothing is repeated
@@ -116,7 +116,7 @@ mixed-plain : packet_written types (mixed []) ≡ no_header
 mixed-plain = refl
 
 mixed-plain-reads : text_of no_header (Some 9000) types ≡ Ok (mixed [])
-unfolding text_of text_of_short rtp rtp_of_header red headers_at texts_at is_utf8 chars encode
+unfolding text_within short_within rtp rtp_of_header red_within headers_at texts_within is_utf8 chars encode
 mixed-plain-reads = refl
 
 -- a stream's own text has no CSRC
@@ -157,11 +157,11 @@ recording-arrivals : arrivals recording 1001 types ≡
     ∷ came 600 (packet false 2 600 (block 600 A ∷ block 300 B ∷ []) [])
     ∷ came 300 (packet false 1 300 (block 16383 [] ∷ block 300 A ∷ []) B)
     ∷ came 0 (packet true 0 0 (block 16383 [] ∷ block 16383 [] ∷ []) A) ∷ []
-unfolding text_of text_of_short rtp rtp_of_header red headers_at texts_at is_utf8 chars encode arrivals dump records records_within dump_step opening
+unfolding text_within short_within rtp rtp_of_header red_within headers_at texts_within is_utf8 chars encode arrivals dump records records_within dump_step opening
 recording-arrivals = refl
 
 other-stream : arrivals recording 7 types ≡ []
-unfolding text_of text_of_short rtp rtp_of_header red headers_at texts_at is_utf8 chars encode arrivals dump records records_within dump_step opening
+unfolding text_within short_within rtp rtp_of_header red_within headers_at texts_within is_utf8 chars encode arrivals dump records records_within dump_step opening
 other-stream = refl
 
 -- Its times fall, and between its packets stand one of another stream, one that is cut, one of RTCP and one that is no
@@ -181,7 +181,7 @@ falling-arrivals : arrivals falling 1001 types ≡
     came 400 (packet false 2 600 (block 600 A ∷ block 300 B ∷ []) [])
     ∷ came 300 (packet false 1 300 (block 16383 [] ∷ block 300 A ∷ []) B)
     ∷ came 300 (packet true 0 0 (block 16383 [] ∷ block 16383 [] ∷ []) A) ∷ []
-unfolding text_of text_of_short rtp rtp_of_header red headers_at texts_at is_utf8 chars encode arrivals dump records records_within dump_step opening
+unfolding text_within short_within rtp rtp_of_header red_within headers_at texts_within is_utf8 chars encode arrivals dump records records_within dump_step opening
 falling-arrivals = refl
 
 abbrev fault : ℕ → DumpKind → Option Fault
@@ -267,16 +267,16 @@ neighbours =
     ∷ []
 
 neighbours-read : map (λ r. text_of r.0 None types) neighbours ≡ map (λ r. r.1) neighbours
-unfolding text_of text_of_short rtp rtp_of_header red headers_at texts_at is_utf8 chars encode
+unfolding text_within short_within rtp rtp_of_header red_within headers_at texts_within is_utf8 chars encode
 neighbours-read = refl
 
 foreign : text_of first (Some 7) types ≡ Err Foreign
-unfolding text_of text_of_short rtp rtp_of_header red headers_at texts_at is_utf8 chars encode
+unfolding text_within short_within rtp rtp_of_header red_within headers_at texts_within is_utf8 chars encode
 foreign = refl
 
 -- of another stream, and with two sources
 foreign-with-two-sources : text_of (octets_of (codes "8262") (codes "00000001 00000002 41")) (Some 7) types ≡ Err Foreign
-unfolding text_of text_of_short rtp rtp_of_header red headers_at texts_at is_utf8 chars encode
+unfolding text_within short_within rtp rtp_of_header red_within headers_at texts_within is_utf8 chars encode
 foreign-with-two-sources = refl
 
 -- ---- the greatest text and the greatest packet
@@ -299,5 +299,5 @@ greatest =
     ∷ []
 
 greatest-read : map (λ r. text_of r.0 None types) greatest ≡ map (λ r. r.1) greatest
-unfolding text_of text_of_short rtp rtp_of_header red headers_at texts_at is_utf8 chars encode
+unfolding text_within short_within rtp rtp_of_header red_within headers_at texts_within is_utf8 chars encode
 greatest-read = refl

@@ -10,7 +10,7 @@ use Rattle.wire_spec.specs.Packets.{Packet, redundant, primary_text, primary, bl
 use Rattle.wire_spec.specs.Rtp.{FitsHeader}
 use Rattle.std.specs.List.{AllByRecursion}
 use Rattle.wire_spec.specs.Red.{Red, IsRedundant, red}
-use Rattle.wire_spec.specs.Text.{is_asked, text_of_short, text_of}
+use Rattle.wire_spec.specs.Text.{is_asked, short_within, text_of, text_of_short, text_within}
 use Rattle.wire_spec.specs.SentPackets.{csrc_of, type_sent, payload_sent, head_of, packet_written, FitsPacket}
 use Rattle.wire_spec.proofs.Written.{rtp_read_back}
 use Rattle.wire_spec.proofs.BlockLaws.{red_only}
@@ -78,7 +78,7 @@ same_packet p source older text a b c = rw (a, b, c) refl
 
 pub sent_back : (payload_types : PayloadTypes) (p : Packet) (asked : Option ℕ) → FitsPacket payload_types p → is_asked asked p.ssrc ≡ true → length (packet_written payload_types p) ≤ MOST_PACKET_OCTETS
     → text_of (packet_written payload_types p) asked payload_types ≡ Ok p
-unfolding text_of text_of_short
+unfolding text_within short_within
 sent_back payload_types p asked f its short =
     let long : ltb MOST_PACKET_OCTETS (length (packet_written payload_types p)) ≡ false = le-ltb MOST_PACKET_OCTETS (length (packet_written payload_types p)) short in
     let sources : ltb 1 (length (option_to_list (csrc_of p))) ≡ false = le-ltb 1 (length (option_to_list (csrc_of p))) (one_source (csrc_of p)) in

@@ -7,8 +7,8 @@ use Rattle.wire_spec.specs.declared.faults.TextFault.{TextFault}
 use Rattle.wire_spec.specs.declared.faults.DumpKind.{DumpKind}
 use Rattle.wire_spec.specs.declared.faults.DumpKind.TheVariants.{NotDump, BadLength, EndsInside, TooLong, TooLarge}
 use Rattle.wire_spec.specs.Packets.{Packet, Arrival}
-use Rattle.wire_spec.specs.Text.{text_of}
-use Rattle.rtt_base.specs.declared.limits.TheConstants.{MOST_PACKET_OCTETS}
+use Rattle.wire_spec.specs.Text.{text_within}
+use Rattle.rtt_base.specs.declared.limits.TheConstants.{MOST_PACKET_OCTETS, MOST_TEXT_OCTETS}
 use Rattle.wire_spec.specs.declared.limits.TheConstants.{LAST_RECORD_MOMENT, MOST_RECORDING_OCTETS}
 
 -- what a record is: a packet with its octets, one of RTCP, one that was recorded in part, or one of more than 4224 octets
@@ -146,13 +146,21 @@ abbrev pub arrived : ℕ → Result Packet TextFault → List Arrival → List A
 arrived time (Err fault) past = past
 arrived time (Ok packet) past = record { time = max time (latest past); packet = packet } ∷ past
 
+-- where a primary text has at most so many octets
+abbrev pub with_arrival : ℕ → ℕ → PayloadTypes → Item → List Arrival → List Arrival
+with_arrival most ssrc payload_types item past =
+    elim item.what [ Whole octets ↦ arrived item.time (text_within most octets (Some ssrc) payload_types) past | Rtcp ↦ past | Cut ↦ past | Large ↦ past ]
+
+abbrev pub arrivals_within : ℕ → ℕ → PayloadTypes → List Arrival → List Item → List Arrival
+arrivals_within most ssrc payload_types past [] = past
+arrivals_within most ssrc payload_types past (item ∷ items) = arrivals_within most ssrc payload_types (with_arrival most ssrc payload_types item past) items
+
+-- where it is no longer than the text of any block
 abbrev pub arrivals_with : ℕ → PayloadTypes → Item → List Arrival → List Arrival
-arrivals_with ssrc payload_types item past =
-    elim item.what [ Whole octets ↦ arrived item.time (text_of octets (Some ssrc) payload_types) past | Rtcp ↦ past | Cut ↦ past | Large ↦ past ]
+arrivals_with ssrc payload_types item past = with_arrival MOST_TEXT_OCTETS ssrc payload_types item past
 
 abbrev pub arrivals_after : ℕ → PayloadTypes → List Arrival → List Item → List Arrival
-arrivals_after ssrc payload_types past [] = past
-arrivals_after ssrc payload_types past (item ∷ items) = arrivals_after ssrc payload_types (arrivals_with ssrc payload_types item past) items
+arrivals_after ssrc payload_types past items = arrivals_within MOST_TEXT_OCTETS ssrc payload_types past items
 
 -- the arrivals of a stream out of a recording, newest first
 unfoldable pub arrivals : List ℕ → ℕ → PayloadTypes → List Arrival

@@ -45,7 +45,7 @@ blocks_of p = p.older ++ primary p.primary ∷ []
 -- what a program's packet stands for
 abbrev pub packet_of : TextPacket → Packet
 packet_of p =
-    record { marker_bit = p.marker_bit; seq = p.seq; timestamp = p.timestamp; ssrc = p.ssrc; source = p.source; older = redundant p.blocks; primary = primary_text p.blocks }
+    record { marker_bit = p.marker_bit; seq = p.seq; timestamp = p.timestamp; ssrc = p.ssrc; source = p.source; older = p.older; primary = p.primary }
 
 -- ---- packets whose texts are UTF-8
 abbrev pub AreTextBlocks : List TextBlock → Type 0

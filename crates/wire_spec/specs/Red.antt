@@ -104,17 +104,24 @@ all_utf8 (b ∷ bs) = is_utf8 b.text && all_utf8 bs
 abbrev pub checked : List TextBlock → Result (List TextBlock) RedFault
 checked blocks = if all_utf8 blocks then Ok blocks else Err NotText
 
--- the blocks of these headers in the octets behind them
-unfoldable pub texts_at : List RedHeader → List ℕ → Result (List TextBlock) RedFault
-texts_at hs octets =
+-- the blocks of these headers in the octets behind them, where the primary text has at most so many
+unfoldable pub texts_within : ℕ → List RedHeader → List ℕ → Result (List TextBlock) RedFault
+texts_within most hs octets =
     if nat_lt (length octets) (older_size hs) then Err Cut
-    else (if nat_lt (older_size hs + MOST_TEXT_OCTETS) (length octets) then Err Long
+    else (if nat_lt (older_size hs + most) (length octets) then Err Long
     else checked (blocks_at hs octets))
 
-unfoldable pub red : List ℕ → ℕ → PayloadTypes → Result (List TextBlock) RedFault
-red octets pt payload_types =
-    if pt == payload_types.t140 then texts_at [] octets
-    else (if pt == payload_types.red then (headers_at 8 payload_types.t140 octets >>= λ hs. texts_at hs.headers hs.texts) else Err WrongType)
+unfoldable pub red_within : ℕ → List ℕ → ℕ → PayloadTypes → Result (List TextBlock) RedFault
+red_within most octets pt payload_types =
+    if pt == payload_types.t140 then texts_within most [] octets
+    else (if pt == payload_types.red then (headers_at 8 payload_types.t140 octets >>= λ hs. texts_within most hs.headers hs.texts) else Err WrongType)
+
+-- where it is no longer than the text of any block
+abbrev pub texts_at : List RedHeader → List ℕ → Result (List TextBlock) RedFault
+texts_at hs octets = texts_within MOST_TEXT_OCTETS hs octets
+
+abbrev pub red : List ℕ → ℕ → PayloadTypes → Result (List TextBlock) RedFault
+red octets pt payload_types = red_within MOST_TEXT_OCTETS octets pt payload_types
 
 -- ---- writing
 

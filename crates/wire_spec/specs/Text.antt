@@ -8,8 +8,8 @@ use Rattle.wire_spec.specs.Faults.{header_fault, blocks_fault}
 use Rattle.rtt_base.specs.Steps.{◌>>=◌}
 use Rattle.wire_spec.specs.Packets.{Packet, redundant, primary_text}
 use Rattle.wire_spec.specs.Rtp.{Reading, rtp}
-use Rattle.wire_spec.specs.Red.{red}
-use Rattle.rtt_base.specs.declared.limits.TheConstants.{MOST_PACKET_OCTETS}
+use Rattle.wire_spec.specs.Red.{red_within}
+use Rattle.rtt_base.specs.declared.limits.TheConstants.{MOST_PACKET_OCTETS, MOST_TEXT_OCTETS}
 
 abbrev pub refused_as : {A E : Type 0} → (E → TextFault) → Result A E → Result A TextFault
 refused_as fault (Ok x) = Ok x
@@ -29,13 +29,20 @@ abbrev pub text_packet : Reading → List TextBlock → Packet
 text_packet r blocks =
     record { marker_bit = r.marker_bit; seq = r.seq; timestamp = r.timestamp; ssrc = r.ssrc; source = unwrap_or r.csrc r.ssrc; older = redundant blocks; primary = primary_text blocks }
 
--- a packet of at most 4224 octets
-unfoldable pub text_of_short : List ℕ → Option ℕ → PayloadTypes → Result Packet TextFault
-text_of_short octets asked payload_types = do
+-- a packet of at most 4224 octets, whose primary text has at most so many
+unfoldable pub short_within : ℕ → List ℕ → Option ℕ → PayloadTypes → Result Packet TextFault
+short_within most octets asked payload_types = do
   reading ← refused_as header_fault (rtp octets)
   r ← accepted asked reading
-  blocks ← refused_as blocks_fault (red r.payload r.pt payload_types)
+  blocks ← refused_as blocks_fault (red_within most r.payload r.pt payload_types)
   Ok (text_packet r blocks)
 
-unfoldable pub text_of : List ℕ → Option ℕ → PayloadTypes → Result Packet TextFault
-text_of octets asked payload_types = if nat_lt MOST_PACKET_OCTETS (length octets) then Err Long else text_of_short octets asked payload_types
+unfoldable pub text_within : ℕ → List ℕ → Option ℕ → PayloadTypes → Result Packet TextFault
+text_within most octets asked payload_types = if nat_lt MOST_PACKET_OCTETS (length octets) then Err Long else short_within most octets asked payload_types
+
+-- where the primary text is no longer than that of any block
+abbrev pub text_of_short : List ℕ → Option ℕ → PayloadTypes → Result Packet TextFault
+text_of_short octets asked payload_types = short_within MOST_TEXT_OCTETS octets asked payload_types
+
+abbrev pub text_of : List ℕ → Option ℕ → PayloadTypes → Result Packet TextFault
+text_of octets asked payload_types = text_within MOST_TEXT_OCTETS octets asked payload_types

@@ -10,4 +10,4 @@ returns-then-text-most-clause-pieces c =
 
 pub returns-clause-pieces : goal.returns-clause-pieces
 returns-clause-pieces c =
-    put_front c.args.cut c.args.text.now c.write_over-2.new.place c.most-most.result c.cut_at-end.result c.most-most.ensures.value (omega (arith, c.if-text-most.false)) c.requires.few c.cut_at-end.ensures.value c.cut_at-end.ensures.within c.write_over-2.ensures
+    put_front c.args.cut c.args.text.now c.write_over-2.new.place c.most-most.result c.cut_at-end.result c.most-most.ensures.value (omega (arith, c.if-text-most.false)) c.cut_at-end.ensures.value c.cut_at-end.ensures.within c.write_over-2.ensures

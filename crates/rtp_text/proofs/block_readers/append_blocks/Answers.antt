@@ -1,8 +1,12 @@
-use Rattle.std.proofs.Common.{◌≡◌, ℕ, List, Ok, length, length-drop, take, drop, ap, subst, ◌∙◌, arith}
+use Rattle.std.proofs.Common.{◌≡◌, ℕ, List, [], ◌∷◌, ◌++◌, Result, Ok, length, length-drop, take, drop, ap, subst, ◌∙◌, arith}
 use Rattle.std.proofs.lemmas.List.{take_rest}
 use Rattle.std.proofs.lemmas.Str.{IsAscii-drop}
+use Rattle.rtt_base.specs.declared.blocks.TextBlock.{TextBlock}
+use Rattle.wire_spec.specs.declared.faults.RedFault.{RedFault}
+use Rattle.wire_spec.specs.Packets.{primary}
+use Rattle.wire_spec.specs.Steps.{Gives}
 use Rattle.rtp_text.specs.Reading.{after_block}
-use Rattle.rtp_text.proofs.Steps.{next_block, next_size, block_length}
+use Rattle.rtp_text.proofs.Steps.{next_block, next_size, block_length, primary_last}
 use Rattle.rtp_text.proofs.block_readers.append_blocks.Goals as goal
 
 pub loop-left-preserved : goal.loop-left-preserved
@@ -27,3 +31,9 @@ loop-left-preserved c =
       there = rw (take_rest heads 4) (omega (arith, size, i.there, gone, length-drop h.size rest));
       fits = rw (take_rest heads 4) (omega (arith, size, i.there, i.fits, gone, length-drop h.size rest));
     }
+
+pub returns : goal.returns
+returns c =
+    let none : c.loop-left.left ≡ 0 = omega (arith, c.loop-left-test.false) in
+    subst (λ (read : Result (List TextBlock) RedFault). Gives (λ _. c.loop-left.out ++ primary c.put_primary.new.out ∷ []) c.put_primary.result read)
+    (primary_last c.loop-left.left c.loop-left.out c.loop-left.ahead.now c.loop-left.rest.now none ∙ c.loop-left.invariant.read) (c.put_primary.ensures c.loop-left.out)

@@ -1,6 +1,7 @@
 use Rattle.std.proofs.Common.{◌≡◌, ◌+◌, ◌*◌, ◌<◌, ◌≤◌, length}
 use Rattle.std.specs.Prelude.{IsTrue}
 use Rattle.std.specs.Str.{IsAscii}
+use Rattle.rtt_base.specs.declared.limits.TheConstants.{MOST_PRIMARY_OCTETS}
 use Rattle.wire_spec.specs.Red.{older_size, blocks_at, checked}
 use Rattle.rtp_text.specs.Reading.{headers_of, after_blocks}
 use Rattle.rtp_text.proofs.block_readers.append_blocks.Given as goal
@@ -13,7 +14,7 @@ invariant-loop-left l = record {
   room : length l.out + l.left < 9;
   ahead : 4 * l.left ≤ length l.ahead;
   there : older_size (headers_of l.left l.ahead) ≤ length l.rest;
-  fits : length l.rest < older_size (headers_of l.left l.ahead) + 1024;
+  fits : length l.rest ≤ older_size (headers_of l.left l.ahead) + MOST_PRIMARY_OCTETS;
 }
 
 abbrev pub decreases-loop-left : goal.decreases-loop-left

@@ -9,4 +9,4 @@ returns-clause-packet c =
     rw (c.unwrap_or.ensures) (packet_read (reading c.args.head.now) (older_at (headers_of c.args.count c.args.headers.now) c.in-Some.older.now) c.in-Some.primary.now)
 
 pub returns-clause-texts : goal.returns-clause-texts
-returns-clause-texts c = cut_read (headers_of c.args.count c.args.headers.now) c.args.texts.now c.in-Some.older.now c.in-Some.primary.now (rw (← c.requires.older) c.in-Some.ensures)
+returns-clause-texts c = cut_read c.args.most (headers_of c.args.count c.args.headers.now) c.args.texts.now c.in-Some.older.now c.in-Some.primary.now (rw (← c.requires.older) c.in-Some.ensures)

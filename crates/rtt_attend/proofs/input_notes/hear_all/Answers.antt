@@ -6,7 +6,7 @@ use Rattle.mixer_spec.specs.Bridged.{input_limit}
 use Rattle.command_spec.specs.Work.{Contents}
 use Rattle.command_spec.specs.Inputs.{AllLie}
 use Rattle.rtt_mix.specs.Mixes.{RoseAt}
-use Rattle.rtt_attend.specs.declared.sender_reports.SenderReport.{SenderReport}
+use Rattle.rtt_attend.specs.declared.source_notes.SourceNotes.{SourceNotes}
 use Rattle.rtt_attend.specs.Opened.{AreHeard}
 use Rattle.rtt_attend.specs.Named.{AreTold}
 use Rattle.rtt_attend.proofs.Legs.{are_told, lie_below, none_failed, none_refused, stops, unheard_of}

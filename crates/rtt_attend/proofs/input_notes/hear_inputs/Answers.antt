@@ -2,7 +2,7 @@ use Rattle.std.proofs.Common.{◌≡◌, ◌+◌, ◌<◌, ℕ, List, length, dr
 use Rattle.std.specs.Prelude.{Ok}
 use Rattle.std.specs.Vec.Iter.{into_iter_items}
 use Rattle.std.proofs.lemmas.List.{length_push}
-use Rattle.rtt_attend.specs.declared.sender_reports.SenderReport.{SenderReport}
+use Rattle.rtt_attend.specs.declared.source_notes.SourceNotes.{SourceNotes}
 use Rattle.rtt_attend.specs.Opened.{AreHeard, IsUnheard}
 use Rattle.rtt_attend.proofs.Lists.{next_of, rest_of}
 use Rattle.rtt_attend.proofs.Legs.{heard_more, hears_leg, none_heard, read_at, rest_fresh, unheard}
@@ -12,9 +12,9 @@ pub loop-source-init : goal.loop-source-init
 loop-source-init g c =
     let given = c.into_iter-rest.ensures.rest in
     let many = ap (λ (l : List g.row.W-Src.Denot). length l) given in
-    let none = ap (λ (l : List SenderReport). length l) c.requires.none in
+    let none = ap (λ (l : List SourceNotes). length l) c.requires.none in
     record {
-      rest = given ∙ sym (ap (λ (l : List SenderReport). drop (length l) c.args.sources.items) c.requires.none);
+      rest = given ∙ sym (ap (λ (l : List SourceNotes). drop (length l) c.args.sources.items) c.requires.none);
       whole = omega (arith, many, c.into_iter-rest.ensures.len, c.args.sources.ok.0);
       count = omega (arith, none, c.into_iter-rest.ensures.len, c.requires.count, c.args.sources.ok.0);
       len = omega (arith, c.args.all.ok.0);
@@ -70,7 +70,7 @@ loop-source-preserved g c =
     let low : number < length legs = omega (arith, c.len-number.ensures, i.len, i.count, step.1) in
     let own = read_at g.W.World.tells g.W.Src.Source.left g.W.Src.Source.faults g.W.Src.Source.name held legs c.args.sources.items k number leg source c.requires.opened there at low c.index-legs-number.is in
     let items = c.push_reserved.ensures.items in
-    let longer : length c.push_reserved.new.self.items ≡ k + 1 = ap (λ (l : List SenderReport). length l) items ∙ length_push all said in
+    let longer : length c.push_reserved.new.self.items ≡ k + 1 = ap (λ (l : List SourceNotes). length l) items ∙ length_push all said in
     let more : suc k ≡ length c.push_reserved.new.self.items = omega (arith, longer) in
     record {
       rest = sym (rest_of c.args.sources.items behind k source here) ∙ ap (λ (n : ℕ). drop n c.args.sources.items) more;
@@ -78,7 +78,7 @@ loop-source-preserved g c =
       count = omega (arith, longer, i.count, step.1);
       len = omega (arith, longer, c.push_reserved.ensures.len, i.len);
       room = omega (arith, c.push_reserved.ensures.capacity, i.room);
-      heard = λ t. subst (λ (l : List SenderReport). AreHeard c.args.limit held legs l) (sym items)
+      heard = λ t. subst (λ (l : List SourceNotes). AreHeard c.args.limit held legs l) (sym items)
           (heard_more c.args.limit held legs all said (i.heard t)
           (hears_leg g.W.World.tells g.W.Src.Source.left g.W.Src.Source.faults g.W.Src.Source.name c.args.limit held legs k leg source (Ok said) own.0 own.1 t (c.in-Ok.ensures.hears (c.requires.shown t (omega (arith, low))))));
       same_own = λ n. c.hear_leg.ensures.same_own n ∙ i.same_own n;

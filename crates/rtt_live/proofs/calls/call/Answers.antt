@@ -7,7 +7,7 @@ use Rattle.live_leg.specs.LinkLegs.{LinkLeg}
 use Rattle.rtt_live.specs.declared.far_ends.FarEnds.{FarEnds}
 use Rattle.mix_loop.specs.Clocks.{IsPaced}
 use Rattle.mix_loop.specs.Walks.{IsPaused}
-use Rattle.mix_loop.specs.declared.live_turns.TurnsEnd.{TurnsEnd}
+use Rattle.mix_loop.specs.declared.live_turns.LiveTurnsEnd.{LiveTurnsEnd}
 use Rattle.mixer_posts.specs.States.{SendingState}
 use Rattle.mixer.specs.States.{legs_of}
 use Rattle.rtt_live.specs.declared.faults.LiveFault.{LiveFault}
@@ -113,7 +113,7 @@ returns-clause-called g c =
     let later = g.W.Links.opened c.run_job-turned.result.clock.now in
     let span = span_of g.W.Links c.args.world.now c.run_job-turned.result.clock.now in
     subst (λ (w : g.row.W.Denot). IsCalled g.W.In.LinkIn g.W.Out.LinkOut (stands over.tap) g.W.Links.tells conference (span_of g.W.Links c.args.world.now w) (g.W.Links.opened w) (record { turned = over.turned; legs = legs; ends = far.links; listeners = far.listeners; tap = over.tap })) (sym last)
-    (subst (λ (t : TurnsEnd LiveFault). IsCalled g.W.In.LinkIn g.W.Out.LinkOut (stands over.tap) g.W.Links.tells conference span later (record { turned = t; legs = legs; ends = far.links; listeners = far.listeners; tap = over.tap })) (sym c.finish-turned.ensures.turned)
+    (subst (λ (t : LiveTurnsEnd LiveFault). IsCalled g.W.In.LinkIn g.W.Out.LinkOut (stands over.tap) g.W.Links.tells conference span later (record { turned = t; legs = legs; ends = far.links; listeners = far.listeners; tap = over.tap })) (sym c.finish-turned.ensures.turned)
     (subst (λ (f : FarEnds g.row.W-Out.Denot). IsCalled g.W.In.LinkIn g.W.Out.LinkOut (stands over.tap) g.W.Links.tells conference span later (record { turned = ended_with c.run_job-turned.result.mixer.short c.run_job-turned.result.turned; legs = legs; ends = f.links; listeners = f.listeners; tap = over.tap })) (sym far_is)
     (call_made g.W.In.LinkIn g.W.Out.LinkOut _ stands g.W.Links.tells conference _ c.run_job-turned.result over.tap (g.W.Links.opened c.args.world.now) later c.args.opened.ends.items c.requires.links c.requires.legs c.requires.each_leg c.requires.ends c.requires.each_end
     (ap (λ (m : TappedMixer (SendingState (FarEnds g.row.W-Out.Denot)) g.row.T.Denot). m.mixer.outbound.links.items) tapped ∙ ap (λ (v : Vec g.row.W-Out.Denot). v.items) made.links)

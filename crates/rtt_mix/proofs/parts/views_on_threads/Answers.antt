@@ -4,7 +4,7 @@ use Rattle.std.proofs.lemmas.List.{length-map, length_push}
 use Rattle.rtt_base.specs.declared.errors.NoMemory.{NoMemory}
 use Rattle.file_spec.specs.Conferences.{meaning_of}
 use Rattle.sent_log.specs.States.{recording_of}
-use Rattle.rtt_mix.specs.declared.views.Views.{Views}
+use Rattle.rtt_mix.specs.declared.views.TerminalViews.{TerminalViews}
 use Rattle.sent_log.specs.Files.{recordings_of}
 use Rattle.rtt_mix.specs.Viewed.{AreOf, IsSeenBetween}
 use Rattle.rtt_mix.proofs.Viewing.{seen_none, sums_all, views_all}
@@ -39,7 +39,7 @@ pub loop-part-preserved : goal.loop-part-preserved
 loop-part-preserved g c =
     let i = c.loop-part.invariant in
     let yielded : Parts = c.loop-part.yielded in
-    let part : Result Views NoMemory = c.in-Some.part in
+    let part : Result TerminalViews NoMemory = c.in-Some.part in
     let rest : Parts = into_iter_items c.next.new.self in
     let steps : into_iter_items c.loop-part.part-iterator ≡ part ∷ rest = c.in-Some.ensures.steps.0 in
     let next = next_is (meaning_of c.args.conference.now) (recordings_of c.args.log.now) c.part_size-size.result c.loop-part.yielded c.in-Some.part c.in_ok-seen.seen (into_iter_items c.next.new.self) (into_iter_items c.loop-part.part-iterator) (into_iter_items c.into_iter-part-iterator.result) c.in_ok-parts.parts.items

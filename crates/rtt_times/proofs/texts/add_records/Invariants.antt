@@ -1,10 +1,11 @@
 use Rattle.std.proofs.Common.{◌≡◌, ℕ, List, [], length}
 use Rattle.std.specs.Prelude.{Bool}
 use Rattle.receiver.specs.Hears.{IsGiving, arrival_count, is_finished, is_quiet}
+use Rattle.command_spec.specs.declared.requests.ReadRequest.{ReadRequest}
 use Rattle.rtpdump_io.specs.InMemory.{AreRecords}
 use Rattle.rtpdump_io.proofs.Fronts.{Left, Front}
 use Rattle.rtt_times.specs.declared.lines.Lines.{Lines}
-use Rattle.rtt_times.specs.Writing.{HasWrittenOf, UnderName}
+use Rattle.rtt_times.specs.Writing.{HasWrittenOf}
 use Rattle.rtt_times.proofs.texts.add_records.Given as goal
 
 abbrev pub invariant-loop-at : goal.invariant-loop-at
@@ -13,7 +14,7 @@ invariant-loop-at l = record {
   giving : ∥ IsGiving l.ear ∥₁;
   quiet : is_quiet l.ear ≡ Bool.true;
   open_still : is_finished l.ear ≡ Bool.false;
-  written : UnderName l.fn.name (λ r. (first : Lines) → HasWrittenOf r first l.initial.ear l.initial.lines [] → (all : List (ℕ × List ℕ)) → AreRecords l.fn.records all → Front (HasWrittenOf r first l.ear l.lines) l.rest all);
+  written : (r : ReadRequest) (first : Lines) → HasWrittenOf l.fn.writer.name r first l.initial.ear l.initial.lines [] → (all : List (ℕ × List ℕ)) → AreRecords l.fn.records all → Front (HasWrittenOf l.fn.writer.name r first l.ear l.lines) l.rest all;
 }
 
 abbrev pub decreases-loop-at : goal.decreases-loop-at

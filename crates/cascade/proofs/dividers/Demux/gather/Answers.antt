@@ -1,11 +1,12 @@
-use Rattle.std.proofs.Common.{◌≡◌, List, length, refl, ap, sym, ◌∙◌, subst, arith}
+use Rattle.std.proofs.Common.{◌≡◌, ◌≤◌, List, length, refl, ap, sym, ◌∙◌, subst, arith}
 use Rattle.std.specs.Prelude.{All, ◌<◌}
 use Rattle.std.specs.Vec.{with_items}
 use Rattle.std.proofs.lemmas.List.{with_items_is}
 use Rattle.rtt_base.specs.declared.text_packets.TextPacket.{TextPacket}
 use Rattle.reorder_buffer.specs.Stories.{Story, given_of}
 use Rattle.receiver.specs.Hears.{ready_packets}
-use Rattle.receiver.proofs.Given.{next_rises}
+use Rattle.rtt_base.specs.declared.limits.TheConstants.{MOST_TEXT_OCTETS}
+use Rattle.receiver.proofs.Given.{given_short, next_rises}
 use Rattle.cascade.specs.declared.splitters.SourceRecording.{SourceRecording}
 use Rattle.cascade.specs.declared.dividers.Demux.{Demux}
 use Rattle.cascade.specs.Dividing.{Divides, TakesDue, lively_by}
@@ -22,6 +23,14 @@ divide-requires-clause-rises c = λ latest e.
     let before : Story = record r.2 { given = now.0 } in
     next_rises c.next.new.self before (given_of c.in-Some.due c.next.new.self.current) (c.in-Some.ensures.some before now.1.tracks) latest (sym now.1.latest ∙ e)
 
+pub divide-requires-clause-short : goal.divide-requires-clause-short
+divide-requires-clause-short c =
+    let r = c.requires.hears in
+    let now = c.loop-due.invariant.hears r.0 r.1 r.2 r.3 in
+    let before : Story = record r.2 { given = now.0 } in
+    subst (λ (p : TextPacket). length p.primary ≤ MOST_TEXT_OCTETS) (sym c.packet.ensures)
+    (given_short c.next.new.self before (given_of c.in-Some.due c.next.new.self.current) (c.in-Some.ensures.some before now.1.tracks) now.1.short)
+
 pub divide-requires-clause-t140 : goal.divide-requires-clause-t140
 divide-requires-clause-t140 c =
     let r = c.requires.hears in
@@ -32,7 +41,7 @@ divide-requires-clause-t140 c =
 pub loop-due-preserved : goal.loop-due-preserved
 loop-due-preserved c =
     let before = c.loop-due.self in
-    let after : Demux = record before { buffer = c.next.new.self; receiver = c.divide.new.receiver; splitters = with_items before.splitters c.divide.new.splitters; text = c.divide.new.text; out = c.divide.new.out } in
+    let after : Demux = record before { buffer = c.next.new.self; receiver = c.divide.new.receiver; splitters = with_items before.splitters c.divide.new.splitters; out = c.divide.new.out } in
     let size : length c.divide.new.splitters ≡ before.splitters.len = omega (arith, c.divide.auto.splitters, ap (λ (xs : List SourceRecording). length xs) c.as_mut_slice.ensures.value, before.splitters.ok.0) in
     let packet = c.packet.ensures in
     let divides : Divides before.receiver before.splitters.items c.divide.new.splitters c.in-Some.due c.next.new.self.current =

@@ -2,7 +2,7 @@ use Rattle.std.proofs.Common.{refl}
 use Rattle.wire_spec.specs.Packets.{packet_of}
 use Rattle.reorder_buffer.specs.Stories.{came}
 use Rattle.reorder_buffer.proofs.Steps.{tracks_with}
-use Rattle.cascade.proofs.Gathering.{hears_told, on_ok3, takes_packet, takes_nothing}
+use Rattle.cascade.proofs.Gathering.{hears_told, on_ok3, short_more, takes_packet, takes_nothing}
 use Rattle.cascade.proofs.dividers.Demux.hear.Goals as goal
 
 pub gather-requires : goal.gather-requires
@@ -16,6 +16,7 @@ gather-requires c =
         r.1,
         came story c.args.now (packet_of q),
         hears_told c.args.self.now c.arrive-taken.new.self r.0 r.1 story (came story c.args.now (packet_of q)) refl refl
+            (short_more c.args.octets.now c.args.self.now.ssrc c.args.self.now.payload_types (packet_of q) story.past c.in-Ok.ensures.exact r.3.hears.short)
             (λ k. c.arrive-taken.ensures.stands story (tracks_with c.args.self.now.buffer q story k)) r.3.hears,
       );
     }

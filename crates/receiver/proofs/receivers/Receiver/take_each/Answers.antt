@@ -1,7 +1,6 @@
 use Rattle.std.proofs.Common.{◌+◌, ◌++◌, refl, ap, sym, ◌∙◌, arith}
 use Rattle.std.specs.Prelude.{◌==◌, position}
 use Rattle.std.specs.List.{concat}
-use Rattle.wire_spec.specs.Packets.{redundant}
 use Rattle.receiver.specs.declared.receivers.ListedSource.{ListedSource}
 use Rattle.receiver.specs.declared.source_texts.SourceText.{SourceText}
 use Rattle.receiver.specs.Each.{one_if}
@@ -33,4 +32,4 @@ returns-clause-heard c sources us time s are =
     let t = seat c.args.self.now c.count.new.self sources us time c.args.number c.args.packet.now s c.requires.rises k c.in-Some.place c.index.result.now (sym (c.place_of.ensures ∙ ap (position (λ (x : ListedSource). x.source == c.args.packet.now.source)) c.as_slice.ensures.value) ∙ c.in-Some.is) c.index.ensures in
     each_listed c.args.self.now c.count.new.self sources us time c.args.number c.args.packet.now s c.requires.rises k c.args.heard.now c.in-Some.place c.index.result.now c.index-heard-place.result c.tell_more.new.heard t c.requires.each c.index-heard-place.is are
     (c.in_ok-tell_more.ensures.text ∙ ap (λ (x : SourceText). x.text ++ concat (told_since c.index.result.now.seen c.count.new.self.missing c.args.packet.now)) (sym c.index-heard-place.is))
-    (c.in_ok-tell_more.ensures.markers ∙ ap (λ (x : SourceText). x.markers + one_if (is_marked_since c.index.result.now.seen c.count.new.self.missing c.args.packet.now.timestamp (redundant c.args.packet.now.blocks))) (sym c.index-heard-place.is))
+    (c.in_ok-tell_more.ensures.markers ∙ ap (λ (x : SourceText). x.markers + one_if (is_marked_since c.index.result.now.seen c.count.new.self.missing c.args.packet.now.timestamp c.args.packet.now.older)) (sym c.index-heard-place.is))

@@ -1,8 +1,7 @@
-use Rattle.std.proofs.Common.{◌≡◌, ℕ, List, [], ◌∷◌, ◌++◌, Bool, Some, None, false, refl, ap, sym, ◌∙◌, arith}
+use Rattle.std.proofs.Common.{◌≡◌, ℕ, List, [], ◌∷◌, ◌++◌, ◌+◌, Bool, Some, None, false, refl, ap, sym, ◌∙◌, arith}
 use Rattle.std.specs.Prelude.{◌==◌, position, if◌then◌else◌}
 use Rattle.std.proofs.lemmas.Bool.{eq-eqb}
 use Rattle.std.proofs.lemmas.List.Quantifiers.{position-Some}
-use Rattle.wire_spec.specs.Packets.{redundant}
 use Rattle.receiver.specs.declared.receivers.ListedSource.{ListedSource}
 use Rattle.receiver.specs.Steps.{is_marked_since, texts_since}
 use Rattle.receiver.proofs.receivers.Receiver.take_piece.Goals as goal
@@ -43,10 +42,10 @@ returns-clause-heard c source us time s =
     let t = seat c.args.self.now c.count.new.self sources us time c.args.number p s c.requires k c.in-Some.place c.index.result.now (sym (c.place_of.ensures ∙ ap (position (λ (x : ListedSource). x.source == p.source)) c.as_slice.ensures.value) ∙ c.in-Some.is) c.index.ensures in
     let within = (position-Some (λ (n : ℕ). n == p.source) sources c.in-Some.place 0 t.position_is).0 in
     let zero : c.in-Some.place ≡ 0 = omega (arith, within) in
-    heard_at c.args.self.now c.count.new.self sources us time c.args.number p s c.requires k 0 (Some 0) (is_marked_since seen c.count.new.self.missing p.timestamp (redundant p.blocks)) (texts_since seen p) (omega arith)
+    heard_at c.args.self.now c.count.new.self sources us time c.args.number p s c.requires k 0 (Some 0) (is_marked_since seen c.count.new.self.missing p.timestamp p.older) (texts_since seen p) (omega arith)
     (ap Some (sym zero) ∙ sym t.position_is)
     (λ j q. (markers c.args.self.now c.count.new.self sources us time c.args.number p s c.requires k c.in-Some.place c.index.result.now t, texts_there c.args.self.now c.count.new.self sources us time c.args.number p s c.requires k c.in-Some.place c.index.result.now t))
-    ∙ ap (λ ts. heard_by us source ++ ts) (ap (λ (m : Bool). (if m then marker ∷ [] else []) ++ texts_since seen p) (sym c.puts_marker-marker.ensures) ∙ sym (fresh_left seen p c.puts_marker-marker.result c.len-rest.result c.len-rest.ensures.value))
+    ∙ ap (λ ts. heard_by us source ++ ts) (ap (λ (m : Bool). (if m then marker ∷ [] else []) ++ texts_since seen p) (sym c.puts_marker-marker.ensures) ∙ sym (fresh_left seen p c.puts_marker-marker.result (c.len-rest.result + 1) (ap (λ (n : ℕ). n + 1) c.len-rest.ensures.value)))
 
 pub returns-in_default-clause-each : goal.returns-in_default-clause-each
 returns-in_default-clause-each c sources us time i s l e =
@@ -60,7 +59,7 @@ returns-clause-each c sources us time i s l e =
     let seen = c.index.result.now.seen in
     let k : IsCounted c.args.self.now c.count.new.self c.args.number = counted c.args.self.now c.count.new.self sources us c.args.number s c.requires (omega (arith, c.ranges.number.fits)) c.count.ensures.listed c.count.ensures.latest c.count.ensures.missing in
     let t = seat c.args.self.now c.count.new.self sources us time c.args.number p s c.requires k c.in-Some.place c.index.result.now (sym (c.place_of.ensures ∙ ap (position (λ (x : ListedSource). x.source == p.source)) c.as_slice.ensures.value) ∙ c.in-Some.is) c.index.ensures in
-    fresh_left seen p c.puts_marker-marker.result c.len-rest.result c.len-rest.ensures.value
+    fresh_left seen p c.puts_marker-marker.result (c.len-rest.result + 1) (ap (λ (n : ℕ). n + 1) c.len-rest.ensures.value)
     ∙ (ap (λ (m : Bool). (if m then marker ∷ [] else []) ++ texts_since seen p) (c.puts_marker-marker.ensures ∙ markers c.args.self.now c.count.new.self sources us time c.args.number p s c.requires k c.in-Some.place c.index.result.now t)
     ∙ own sources us time p c.args.number (texts_since seen p) (texts_there c.args.self.now c.count.new.self sources us time c.args.number p s c.requires k c.in-Some.place c.index.result.now t))
   where
