@@ -9,7 +9,8 @@ use Rattle.rtt_base.specs.declared.text_packets.PayloadTypes.{PayloadTypes}
 use Rattle.wire_spec.specs.Packets.{Arrival, has_text}
 use Rattle.wire_spec.specs.Text.{text_of}
 use Rattle.wire_spec.specs.SentPackets.{packet_written}
-use Rattle.wire_spec.specs.Dump.{FitsRecord, arrivals_after, arrived, dump, dump_written, latest, sent_item}
+use Rattle.wire_spec.specs.Dump.{FitsRecord, arrivals_within, arrived, dump, dump_written, latest, sent_item}
+use Rattle.wire_spec.proofs.Longer.{text_longer}
 use Rattle.wire_spec.proofs.SentBack.{sent_back}
 use Rattle.wire_spec.proofs.Recordings.{read_back}
 use Rattle.stream_spec.specs.Carries.{Groups}
@@ -115,8 +116,9 @@ abbrev pub came_after : List Arrival → List Arrival → List Arrival
 came_after past [] = past
 came_after past (a ∷ ps) = came_after (record { time = max a.time (latest past); packet = a.packet } ∷ past) ps
 
-pub arrives : (payload_types : PayloadTypes) (s : ℕ) (past ps : List Arrival) → AllByRecursion (IsBack payload_types s) ps → arrivals_after s payload_types past (map sent_item (rows payload_types ps)) ≡ came_after past ps
-arrives payload_types s past [] b = refl
-arrives payload_types s past (a ∷ ps) b =
-    ap (λ r. arrivals_after s payload_types (arrived a.time r past) (map sent_item (rows payload_types ps))) b.0.text_is
-    ∙ arrives payload_types s (record { time = max a.time (latest past); packet = a.packet } ∷ past) ps b.1
+pub arrives : (most : ℕ) → MOST_TEXT_OCTETS ≤ most → (payload_types : PayloadTypes) (s : ℕ) (past ps : List Arrival) → AllByRecursion (IsBack payload_types s) ps → arrivals_within most s payload_types past (map sent_item (rows payload_types ps)) ≡ came_after past ps
+arrives most l payload_types s past [] b = refl
+arrives most l payload_types s past (a ∷ ps) b =
+    ap (λ r. arrivals_within most s payload_types (arrived a.time r past) (map sent_item (rows payload_types ps)))
+    (text_longer MOST_TEXT_OCTETS most (packet_written payload_types a.packet) (Some s) payload_types a.packet l b.0.text_is)
+    ∙ arrives most l payload_types s (record { time = max a.time (latest past); packet = a.packet } ∷ past) ps b.1

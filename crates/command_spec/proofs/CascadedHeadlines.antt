@@ -1,18 +1,19 @@
 -- What comes of a conference behind another mixer.
-use Rattle.std.proofs.Common.{◌≡◌, ℕ, zero, suc, ◌+◌, ◌<◌, ◌≤◌, ◌^◌, Bool, true, false, cond, Option, Some, None, List, [], ◌∷◌, ◌++◌, length, Result, Ok, Err, refl, ap, subst, sym, ◌∙◌, arith}
-use Rattle.std.specs.Prelude.{All, map, not, ◌&&◌, ◌==◌}
+use Rattle.std.proofs.Common.{◌≡◌, ℕ, zero, suc, ◌+◌, ◌<◌, ◌≤◌, ◌^◌, Bool, true, false, cond, Option, Some, None, List, [], ◌∷◌, length, Result, Ok, Err, refl, ap, subst, sym, ◌∙◌, arith}
+use Rattle.std.specs.Prelude.{All, flat_map, map, not, ◌&&◌, ◌==◌}
 use Rattle.std.specs.List.{AllZip, concat}
 use Rattle.std.proofs.lemmas.Bool.{true≢false, eq-eqb, eqb-true, and_parts}
 use Rattle.std.proofs.lemmas.List.Elements.{All-nil, All-cons, All-head, All-tail}
 use Rattle.rtt_base.specs.declared.text_packets.PayloadTypes.{PayloadTypes}
 use Rattle.wire_spec.specs.Packets.{Arrival}
-use Rattle.wire_spec.specs.Dump.{arrivals_after, arrivals_within, dump}
+use Rattle.wire_spec.specs.Dump.{arrivals_within, dump}
 use Rattle.wire_spec.specs.Dump as dumps
 use Rattle.stream_spec.specs.Carries.{Groups}
-use Rattle.stream_spec.specs.Hearing.{heard}
+use Rattle.stream_spec.specs.Hearing.{AreHeardTexts, heard}
 use Rattle.stream_spec.specs.Still.{still, still_history}
 use Rattle.stream_spec.proofs.ChunkTexts.{chunk_texts}
-use Rattle.stream_spec.proofs.Still.{come_still, lawful_still}
+use Rattle.stream_spec.proofs.HeardTexts.{heard_texts}
+use Rattle.stream_spec.proofs.Still.{come_still, lawful_still, texts_still}
 use Rattle.stream_spec.proofs.Walks.{l1}
 use Rattle.file_spec.specs.declared.conference_lines.Form.TheVariants.{Files}
 use Rattle.file_spec.specs.declared.conference_lines.LegLine.{LegLine}
@@ -24,7 +25,11 @@ use Rattle.mixer_spec.specs.Table.{Table}
 use Rattle.mixer_spec.specs.Plain.{plain}
 use Rattle.mixer_spec.specs.Arrives.{IsPlan}
 use Rattle.mixer_spec.specs.Bridged.{IsPair, input_limit, leg_arrivals, leg_chunks}
+use Rattle.mixer_spec.specs.Bridged as mixer
+use Rattle.mixer_spec.specs.Pieces.{characters}
 use Rattle.mixer_spec.proofs.Conferences.{accepted_law, plan_law}
+use Rattle.mixer_spec.proofs.OfFiles.{leg_texts}
+use Rattle.mixer_spec.proofs.Recordings.{recordings_law}
 use Rattle.command_spec.specs.Splitting.{came_of, chunks_of}
 use Rattle.command_spec.specs.Laws.{IsStream, mixed_in, split_of}
 use Rattle.command_spec.proofs.Lively.{recordings_mixed}
@@ -33,14 +38,15 @@ use Rattle.command_spec.specs.Outcomes.{AllStored, Done, outcome_from}
 use Rattle.command_spec.specs.Mixing.{input_at, makes, outs, views}
 use Rattle.command_spec.specs.Bridges.{Bridge, IsHeard, setup_of}
 use Rattle.command_spec.specs.Cascading.{cascades, cascades_read, has_other_types, is_on_trunk, mixes_over, mixes_splits, odd_line, reads_others, trunk_limit, trunk_of, unless_faulty, unless_leg_faulty, unless_odd}
-use Rattle.command_spec.specs.Cascaded.{CascadesAreBridged, IsCascaded, IsHeardBehind, IsTextOf, heard_of}
-use Rattle.command_spec.proofs.BehindMixers.{headline_all_behind, headline_behind}
+use Rattle.command_spec.specs.Cascaded.{CascadesAreBridged, IsCascaded, IsHeardBehind, IsTextOf, heard_of, pieces_heard_of}
+use Rattle.command_spec.proofs.BehindMixers.{characters_behind, headline_all_behind, headline_all_by_character, headline_behind, headline_by_character, uncut_behind}
 use Rattle.command_spec.proofs.Headlines.{seen}
 use Rattle.command_spec.proofs.Regrouped.{groups_say}
 use Rattle.command_spec.proofs.Reached.{done_parts, found}
 use Rattle.command_spec.proofs.Ssrcs.{ssrcs_fit}
 use Rattle.command_spec.proofs.TrunkSizes.{input_fits}
 use Rattle.command_spec.proofs.CascadeOutputs.{by_bool}
+use Rattle.rtt_base.specs.declared.limits.TheConstants.{MOST_TEXT_OCTETS}
 
 -- ---- what was read
 -- the texts of the legs were there
@@ -130,19 +136,27 @@ types_are leg on same =
     let each = and_parts (leg.payload_types.t140 == usual_types.t140) (leg.payload_types.red == usual_types.red) both in
     same_types leg.payload_types usual_types (eqb-true leg.payload_types.t140 usual_types.t140 each.0) (eqb-true leg.payload_types.red usual_types.red each.1)
 
+-- a leg's texts may be as long as those of a block, at least
+no_shorter : (long : Bool) → MOST_TEXT_OCTETS ≤ primary_limit long
+no_shorter true = omega arith
+no_shorter false = omega arith
+
 behind_of : (held : Contents) (ssrc : ℕ) (octets : List ℕ) (b : Bridge) (i : ℕ) (leg : LegLine)
     → AllZip (IsTextOf held (split_of (trunk_of b.conference ssrc) octets)) b.conference.legs b.inputs → All (λ (l : LegLine). l.ssrc < 2 ^ 32) b.conference.legs
-    → leg_at b.conference.legs i ≡ Some leg → is_on_trunk leg ≡ true → has_other_types leg ≡ false → leg.long ≡ false
+    → leg_at b.conference.legs i ≡ Some leg → is_on_trunk leg ≡ true → has_other_types leg ≡ false
     → length (split_of (trunk_of b.conference ssrc) octets leg.ssrc) ≤ input_limit b.conference
     → IsPlan b.conference.plan → ((j : ℕ) → IsPair (setup_of b) j i → IsHeard b j i)
     → IsHeardBehind (trunk_of b.conference ssrc) octets b i leg.ssrc
-behind_of held ssrc octets b i leg lie fit at on same brief few plan heard_at = record {
+behind_of held ssrc octets b i leg lie fit at on same few plan heard_at = record {
   same = is_same;
   kept_of = λ h law come.
       groups_say (heard_of b i) (map (λ c. c.text) (chunks_of b.conference.wait past leg.ssrc)) is_same
       ∙ ap concat (chunk_texts b.conference.wait 0 (still past) leg.ssrc ∙ l1 b.conference.wait (still_history h) (lawful_still h law) (still past) (come_still h past come) leg.ssrc);
-  headline = λ none short j pair h law come. headline_behind (trunk_of b.conference ssrc) octets b j i leg.ssrc none short (heard_at j pair) plan (λ k. is_recorded) h law come;
-  headline_all = λ none short stay j pair h law come. headline_all_behind (trunk_of b.conference ssrc) octets b j i leg.ssrc none short (heard_at j pair) plan (λ k. is_recorded) stay h law come;
+  headline_by_character = λ j pair h law come. headline_by_character (trunk_of b.conference ssrc) octets b j i leg.ssrc (heard_at j pair) plan h law come in_characters;
+  headline_all_by_character = λ stay j pair h law come. headline_all_by_character (trunk_of b.conference ssrc) octets b j i leg.ssrc (heard_at j pair) plan stay h law come in_characters;
+  uncut = is_uncut;
+  headline = λ none j pair h law come. headline_behind (trunk_of b.conference ssrc) octets b j i leg.ssrc (heard_at j pair) plan h law come (in_blocks none);
+  headline_all = λ none stay j pair h law come. headline_all_behind (trunk_of b.conference ssrc) octets b j i leg.ssrc (heard_at j pair) plan stay h law come (in_blocks none);
 }
   where
     past : List Arrival
@@ -154,20 +168,36 @@ behind_of held ssrc octets b i leg lie fit at on same brief few plan heard_at = 
     is_stream : IsStream usual_types leg.ssrc
     is_stream = record { t140 = omega arith; red = omega arith; differ = λ e. true≢false (sym (eq-eqb 98 100 e)); ssrc = ssrc_fits b.conference.legs i leg fit at }
 
-    heard_is : heard_of b i ≡ mixed_in usual_types leg.ssrc (input_limit b.conference) b.conference.wait text
+    heard_is : heard_of b i ≡ mixed_in (primary_limit leg.long) usual_types leg.ssrc (input_limit b.conference) b.conference.wait text
     heard_is =
         ap (λ o. heard b.conference.wait (still (leg_arrivals (input_limit b.conference) o (input_at b.inputs i))) (ssrc_of o)) at
-        ∙ (ap (λ (most : ℕ). heard b.conference.wait (still (arrivals_within most leg.ssrc leg.payload_types [] (dump (input_limit b.conference) (input_at b.inputs i)).items)) leg.ssrc) (ap primary_limit brief)
-        ∙ (ap (λ (p : PayloadTypes). heard b.conference.wait (still (arrivals_after leg.ssrc p [] (dump (input_limit b.conference) (input_at b.inputs i)).items)) leg.ssrc) (types_are leg on same)
-        ∙ ap (mixed_in usual_types leg.ssrc (input_limit b.conference) b.conference.wait)
-        ((text_at held (split_of (trunk_of b.conference ssrc) octets) b.conference.legs b.inputs i leg lie at).on_trunk on)))
+        ∙ (ap (λ (p : PayloadTypes). heard b.conference.wait (still (arrivals_within (primary_limit leg.long) leg.ssrc p [] (dump (input_limit b.conference) (input_at b.inputs i)).items)) leg.ssrc) (types_are leg on same)
+        ∙ ap (mixed_in (primary_limit leg.long) usual_types leg.ssrc (input_limit b.conference) b.conference.wait)
+        ((text_at held (split_of (trunk_of b.conference ssrc) octets) b.conference.legs b.inputs i leg lie at).on_trunk on))
 
     is_same : Groups (heard_of b i) (map (λ c. c.text) (chunks_of b.conference.wait (came_of (trunk_of b.conference ssrc) octets) leg.ssrc)) []
     is_same = subst (λ ts. Groups ts (map (λ c. c.text) (chunks_of b.conference.wait (came_of (trunk_of b.conference ssrc) octets) leg.ssrc)) []) (sym heard_is)
-        (recordings_mixed (trunk_of b.conference ssrc) octets leg.ssrc is_stream (input_limit b.conference) b.conference.wait few)
+        (recordings_mixed (trunk_of b.conference ssrc) octets leg.ssrc is_stream (primary_limit leg.long) (no_shorter leg.long) (input_limit b.conference) b.conference.wait few)
 
     is_recorded : Groups (heard_of b i) (heard b.conference.wait (still past) leg.ssrc) []
     is_recorded = subst (λ ts. Groups (heard_of b i) ts []) (chunk_texts b.conference.wait 0 (still past) leg.ssrc) is_same
+
+    are_texts : AreHeardTexts (heard_of b i)
+    are_texts =
+        let arrived = mixer.came_of b.conference (input_at b.inputs) i in
+        heard_texts b.conference.wait (still arrived) (ssrc_of (leg_at b.conference.legs i)) (texts_still arrived (leg_texts (input_limit b.conference) (leg_at b.conference.legs i) (input_at b.inputs i)))
+
+    recorded_are_texts : AreHeardTexts (heard b.conference.wait (still past) leg.ssrc)
+    recorded_are_texts = heard_texts b.conference.wait (still past) leg.ssrc (texts_still past (recordings_law (dump (trunk_limit b.conference) octets).items ssrc usual_types).0)
+
+    in_characters : Groups (pieces_heard_of b i) (flat_map characters (heard b.conference.wait (still past) leg.ssrc)) []
+    in_characters = characters_behind b i (heard b.conference.wait (still past) leg.ssrc) are_texts recorded_are_texts is_recorded
+
+    is_uncut : b.conference.mtu ≡ None → pieces_heard_of b i ≡ heard_of b i
+    is_uncut none = uncut_behind b i (heard b.conference.wait (still past) leg.ssrc) are_texts is_recorded none
+
+    in_blocks : b.conference.mtu ≡ None → Groups (pieces_heard_of b i) (heard b.conference.wait (still past) leg.ssrc) []
+    in_blocks none = subst (λ (ts : List (List ℕ)). Groups ts (heard b.conference.wait (still past) leg.ssrc) []) (sym (is_uncut none)) is_recorded
 
 -- ---- the whole
 -- where no line is odd, no leg behind the other mixer has other types
@@ -199,7 +229,7 @@ cascaded held after conference file ssrc printed files e stored =
           octets = octets;
           cascaded = record { read = (described, there, read); lies = h; recorded = none; texts_lie = lie; whole = whole; over = p };
           seen = is_seen;
-          behind = λ i leg at on brief. behind_of held ssrc octets b i leg lie (ssrcs_fit Files described c read).legs at on (not_odd c.legs i leg even at) brief (input_fits c ssrc octets leg.ssrc)
+          behind = λ i leg at on. behind_of held ssrc octets b i leg lie (ssrcs_fit Files described c read).legs at on (not_odd c.legs i leg even at) (input_fits c ssrc octets leg.ssrc)
               (plan_law c (accepted_law Files described c read).0) (λ j pair. is_seen.heard j i pair);
         }
 

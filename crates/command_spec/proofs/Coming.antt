@@ -13,6 +13,7 @@ use Rattle.wire_spec.specs.Dump.{Item, Whole, latest, arrived, arrivals_after}
 use Rattle.file_spec.specs.declared.conference_lines.PlanLine.{PlanLine}
 use Rattle.stream_spec.specs.Lists.{In}
 use Rattle.mixer_spec.specs.Arrives.{Copy, is_sooner, InOrder, arrives, one_at, arrival, arrivals_of_copies, arrivals}
+use Rattle.mixer_spec.proofs.Lists.{both}
 use Rattle.mixer_spec.proofs.PlanOrder.{order_law}
 use Rattle.view_spec.specs.Seen.{Reception, Text, fate_of, fate_at, is_packet, is_refused, is_foreign, many}
 use Rattle.mixer_spec.specs.Arrives.{item_of, came}
@@ -82,10 +83,6 @@ copy_texts r c zero [] b = tt
 copy_texts r c (suc k) [] b = tt
 copy_texts r c zero (a ∷ sent) b = (ap fate_of b.0.text_is, tt)
 copy_texts r c (suc k) (a ∷ sent) b = copy_texts r c k sent b.1
-
-both : {X : Type 0} (P : X → Type 0) (xs ys : List X) → AllByRecursion P xs → AllByRecursion P ys → AllByRecursion P (xs ++ ys)
-both P [] ys a b = b
-both P (x ∷ xs) ys a b = (a.0, both P xs ys a.1 b)
 
 all_texts : (r : Reception) (sent : List Arrival) → AllByRecursion (IsBack r.ssrc r.payload_types) sent → (cs : List Copy) → AllByRecursion (λ i. fate_at r i ≡ Text) (flat_map (item_of (map (record_of r.payload_types) sent)) cs)
 all_texts r sent b [] = tt

@@ -7,7 +7,7 @@ use Rattle.std.specs.Char.{encode_utf8}
 use Rattle.std.proofs.lemmas.Bool.{true≢false, eqb-true}
 use Rattle.std.proofs.lemmas.Str.{IsUtf8-append, IsUtf8-past_char, is_utf8-from_IsUtf8}
 use Rattle.wire_spec.specs.Packets.{Arrival}
-use Rattle.wire_spec.specs.Dump.{arrivals_after, dump}
+use Rattle.wire_spec.specs.Dump.{arrivals_within, dump}
 use Rattle.stream_spec.specs.Carries.{Groups}
 use Rattle.stream_spec.specs.Hearing.{heard}
 use Rattle.stream_spec.specs.Ready.{Chunk, chunks}
@@ -16,7 +16,8 @@ use Rattle.stream_spec.proofs.ChunkTexts.{chunk_texts}
 use Rattle.stream_spec.proofs.StillChunks.{chunks_still}
 use Rattle.command_spec.specs.Splitting.{Group, alone, came_of, chunks_of, groups, groups_from, joined, joins, split}
 use Rattle.command_spec.specs.Laws.{AreSendable, RecordingsAreMixed, recording_of}
-use Rattle.command_spec.proofs.Recordings.{heard_sendable, recordings_heard}
+use Rattle.command_spec.proofs.Carrying.{groups_carry}
+use Rattle.command_spec.proofs.Recordings.{heard_sendable}
 use Rattle.command_spec.proofs.Splits.{split_texts}
 
 -- ---- a text behind which more stands
@@ -111,10 +112,11 @@ same_heard wait s past ts e l =
 
 pub recordings_mixed : RecordingsAreMixed
 unfolding split
-recordings_mixed t octets s is limit wait few =
+recordings_mixed t octets s is most l limit wait few =
     let past = came_of t octets in
     let cs = chunks_of t.wait past s in
     let sendable = heard_sendable t octets s in
     let lively = subst (λ (xs : List Chunk). AreLively (map (λ (c : Chunk). c.text) xs)) (sym (chunks_still t.wait 0 past s)) (filtered (chunks t.wait 0 past s)) in
-    let same = same_heard wait s (arrivals_after s t.payload_types [] (dump limit (recording_of t.payload_types s cs)).items) (texts_in (groups cs)) (split_texts t.payload_types s cs is sendable limit wait few) (groups_lively cs sendable lively) in
-    subst (λ ts. Groups ts (map (λ (c : Chunk). c.text) cs) []) (sym same) (recordings_heard t octets s is limit wait few)
+    let texts = split_texts most l t.payload_types s cs is sendable limit wait few in
+    let same = same_heard wait s (arrivals_within most s t.payload_types [] (dump limit (recording_of t.payload_types s cs)).items) (texts_in (groups cs)) texts (groups_lively cs sendable lively) in
+    subst (λ ts. Groups ts (map (λ (c : Chunk). c.text) cs) []) (sym (same ∙ texts)) (groups_carry cs sendable)

@@ -3,6 +3,8 @@ use Rattle.std.proofs.Common.{◌≡◌, ℕ, List, [], ◌∷◌, ◌++◌, ref
 use Rattle.std.specs.List.{concat}
 use Rattle.std.proofs.lemmas.List.Folds.{concat-append}
 use Rattle.stream_spec.specs.Carries.{Groups}
+use Rattle.mixer_spec.proofs.Cutting.{AreShort}
+use Rattle.rtt_base.specs.declared.limits.TheConstants.{MOST_TEXT_OCTETS}
 
 -- groups of texts have the octets of these
 pub groups_say : (es ts : List (List ℕ)) → Groups es ts [] → concat es ≡ concat ts
@@ -11,6 +13,11 @@ groups_say (e ∷ es) ts g =
     ap (λ (x : List ℕ). x ++ concat es) g.3
     ∙ (ap (λ (x : List ℕ). concat g.0 ++ x) (groups_say es g.1 g.5)
     ∙ (sym (concat-append g.0 g.1) ∙ ap concat (sym g.2)))
+
+-- and go into a block
+pub groups_short : (es ts rest : List (List ℕ)) → Groups es ts rest → AreShort MOST_TEXT_OCTETS es
+groups_short [] ts rest g = tt
+groups_short (e ∷ es) ts rest g = (g.4, groups_short es g.1 rest g.5)
 
 -- The groups xs are of the texts of front, and those behind them of the texts of back.
 pub record Parted (xs ys us rest : List (List ℕ)) : Type 0 where

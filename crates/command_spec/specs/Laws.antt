@@ -2,7 +2,7 @@
 use Rattle.std.specs.Prelude.{◌≡◌, ◌≢◌, ◌<◌, ◌≤◌, ◌^◌, ℕ, None, List, [], ◌∷◌, length, map, true, IsUtf8}
 use Rattle.rtt_base.specs.declared.text_packets.PayloadTypes.{PayloadTypes}
 use Rattle.wire_spec.specs.Packets.{has_text}
-use Rattle.wire_spec.specs.Dump.{arrivals_after, dump}
+use Rattle.wire_spec.specs.Dump.{arrivals_after, arrivals_within, dump}
 use Rattle.stream_spec.specs.Carries.{Groups}
 use Rattle.stream_spec.specs.Hearing.{heard}
 use Rattle.stream_spec.specs.Ready.{Chunk}
@@ -72,13 +72,14 @@ RecordingsAreHeard =
     → (limit wait : ℕ) → length (split_of t octets s) ≤ limit
     → Groups (heard_in t.payload_types s limit wait (split_of t octets s)) (map (λ c. c.text) (chunks_of t.wait (came_of t octets) s)) []
 
--- what a mixer hears of it, to which keep-alives are no text
-abbrev pub mixed_in : PayloadTypes → ℕ → ℕ → ℕ → List ℕ → List (List ℕ)
-mixed_in payload_types s limit wait octets = heard wait (still (arrivals_after s payload_types [] (dump limit octets).items)) s
+-- what a mixer hears of it, to which keep-alives are no text, where a primary text may have at most so many octets
+abbrev pub mixed_in : ℕ → PayloadTypes → ℕ → ℕ → ℕ → List ℕ → List (List ℕ)
+mixed_in most payload_types s limit wait octets = heard wait (still (arrivals_within most s payload_types [] (dump limit octets).items)) s
 
--- A mixer hears the same of it.
+-- A mixer hears the same of it, however long it lets texts be.
 abbrev pub RecordingsAreMixed : Type 0
 RecordingsAreMixed =
     (t : Trunk) (octets : List ℕ) (s : ℕ) → IsStream t.payload_types s
+    → (most : ℕ) → MOST_TEXT_OCTETS ≤ most
     → (limit wait : ℕ) → length (split_of t octets s) ≤ limit
-    → Groups (mixed_in t.payload_types s limit wait (split_of t octets s)) (map (λ c. c.text) (chunks_of t.wait (came_of t octets) s)) []
+    → Groups (mixed_in most t.payload_types s limit wait (split_of t octets s)) (map (λ c. c.text) (chunks_of t.wait (came_of t octets) s)) []

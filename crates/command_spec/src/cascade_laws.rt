@@ -9,7 +9,7 @@ pub fn splits_are_legs()
 {}
 
 /// The same holds of the splits of any recording, whatever it has: what is heard of its sources are texts of 1 to 1023 octets. It
-/// holds also of what a mixer hears of a split, to which keep-alives are no text.
+/// holds also of what a mixer hears of a split, to which keep-alives are no text, however long it lets texts be.
 pub fn recordings_are_split()
     ensures sendable { HeardAreSendable }
     ensures read { RecordingsAreRead }

@@ -80,6 +80,10 @@ one_text : (text : List ℕ) → has_text text ≡ true → text_list text ≡ t
 one_text [] e = cc e
 one_text (x ∷ text) e = refl
 
+pub texts_stay : (n : ℕ) (ts : List (List ℕ)) → HasTexts ts → AllByRecursion (λ (t : List ℕ). length t ≤ n) ts → flat_map (pieces n) ts ≡ ts
+texts_stay n [] h l = refl
+texts_stay n (t ∷ ts) h l = ap (λ xs. xs ++ flat_map (pieces n) ts) (cut_texts.stays_law n t l.0 ∙ one_text t h.0) ∙ ap (λ xs. t ∷ xs) (texts_stay n ts h.1 l.1)
+
 pub stay_law : (n : ℕ) (cs : List Chunk) → AreTexts cs → AllByRecursion (λ (c : Chunk). length c.text ≤ n) cs → chunks_cut (pieces n) cs ≡ cs
 stay_law n [] a l = refl
 stay_law n (c ∷ cs) a l =

@@ -1,10 +1,11 @@
 -- Texts in pieces, by computing.
-use Rattle.std.proofs.Common.{◌≡◌, ℕ, inl, List, [], ◌∷◌, ◌++◌, length, drop, refl, ap, sym, arith}
-use Rattle.std.specs.Prelude.{◌==◌, ◌||◌, codes, filter, map, replicate, IsUtf8}
+use Rattle.std.proofs.Common.{◌≡◌, ◌≤◌, ℕ, inl, List, [], ◌∷◌, ◌++◌, length, drop, refl, ap, sym, arith}
+use Rattle.std.specs.Prelude.{◌==◌, ◌||◌, codes, filter, flat_map, map, replicate, IsUtf8}
 use Rattle.std.specs.List.{AllByRecursion, concat}
+use Rattle.std.specs.Char.{encode_utf8}
 use Rattle.std.specs.Str.{chars, is_utf8}
 use Rattle.std.proofs.lemmas.Bool.{true≢false}
-use Rattle.std.proofs.lemmas.Str.{is_utf8-from_IsUtf8}
+use Rattle.std.proofs.lemmas.Str.{IsUtf8-from_is_utf8, is_utf8-from_IsUtf8}
 use Rattle.stream_spec.specs.Hearing.{text_list}
 use Rattle.stream_spec.specs.History.{History, Placed, octets, placed}
 use Rattle.stream_spec.specs.Kept.{Block, Item, texts}
@@ -13,7 +14,7 @@ use Rattle.stream_spec.specs.Ready.{Chunk}
 use Rattle.stream_spec.specs.Still.{still_text}
 use Rattle.mixer_spec.specs.Chunks.{front}
 use Rattle.mixer_spec.specs.Through.{through}
-use Rattle.mixer_spec.specs.Pieces.{Apart, IsCutting, chunks_cut, in_pieces, piece_at, pieces}
+use Rattle.mixer_spec.specs.Pieces.{Apart, IsCutting, characters, chunks_cut, in_pieces, piece_at, pieces}
 use Rattle.mixer_spec.specs.Rooms.{room}
 
 abbrev times : ℕ → List ℕ → List ℕ
@@ -39,6 +40,15 @@ of_three = refl
 -- U+1F600, fifty times
 of_four : sizes 128 (times 50 (0xF0 ∷ 0x9F ∷ 0x98 ∷ 0x80 ∷ [])) ≡ 128 ∷ 72 ∷ []
 of_four = refl
+
+-- ---- characters
+-- A, é and U+20AC
+three : characters (65 ∷ 195 ∷ 169 ∷ 226 ∷ 130 ∷ 172 ∷ []) ≡ (65 ∷ []) ∷ (195 ∷ 169 ∷ []) ∷ (226 ∷ 130 ∷ 172 ∷ []) ∷ []
+three = refl
+
+-- octets that go on with none are a piece
+none_first : characters (169 ∷ 130 ∷ 65 ∷ []) ≡ (169 ∷ 130 ∷ []) ∷ (65 ∷ []) ∷ []
+none_first = refl
 
 -- ---- keep-alives go before texts are cut
 abbrev blank : List ℕ
@@ -131,6 +141,19 @@ empty c = cc (c.some []).0
 -- a marker that is cut
 marker_cut : IsCutting (λ text. map (λ x. x ∷ []) text) → ⊥
 marker_cut c = let n = ap length c.marker_whole in absurd (omega (arith, n))
+
+-- a way to cut within characters: of A, é and é in pieces it gives others than of the text
+abbrev twos : List ℕ → List (List ℕ)
+twos [] = []
+twos (x ∷ []) = (x ∷ []) ∷ []
+twos (x ∷ y ∷ text) = (x ∷ y ∷ []) ∷ twos text
+
+within_characters : ((n : ℕ) (text : List ℕ) → 4 ≤ n → IsUtf8 text → flat_map twos (pieces n text) ≡ twos text) → ⊥
+unfolding is_utf8 chars encode_utf8
+within_characters same =
+    let text : List ℕ = 65 ∷ 195 ∷ 169 ∷ 195 ∷ 169 ∷ [] in
+    let n = ap (λ (ts : List (List ℕ)). map length ts) (same 4 text (omega arith) (IsUtf8-from_is_utf8 text refl)) in
+    absurd (cc n)
 
 -- a room that is one octet too great: 392 in place of 391
 abbrev full : History

@@ -1,14 +1,16 @@
 -- What the laws say of pieces.
-use Rattle.std.specs.Prelude.{◌≡◌, ℕ, ◌≤◌, ◌↔◌, List, length, IsUtf8}
-use Rattle.std.specs.List.{AllByRecursion}
+use Rattle.std.specs.Prelude.{◌≡◌, ℕ, ◌≤◌, ◌↔◌, List, [], ◌++◌, length, map, flat_map, IsUtf8, chars, encode_utf8}
+use Rattle.std.specs.List.{AllByRecursion, concat}
 use Rattle.stream_spec.specs.Lists.{In}
-use Rattle.stream_spec.specs.Hearing.{text_list}
+use Rattle.stream_spec.specs.Carries.{Groups}
+use Rattle.stream_spec.specs.Hearing.{AreHeardTexts, text_list}
 use Rattle.stream_spec.specs.History.{Placed}
 use Rattle.stream_spec.specs.Kept.{Item, Marker, Block}
 use Rattle.stream_spec.specs.Ready.{Chunk, ReadyRises}
 use Rattle.mixer_spec.specs.Laws.{AreTexts}
+use Rattle.rtt_base.specs.declared.limits.TheConstants.{MOST_TEXT_OCTETS}
 use Rattle.mixer_spec.specs.Headline.{said}
-use Rattle.mixer_spec.specs.Pieces.{IsCutting, IsPieceOf, chunks_cut, in_pieces, pieces}
+use Rattle.mixer_spec.specs.Pieces.{IsCutting, IsPieceOf, characters, chunks_cut, in_pieces, pieces}
 
 -- ---- a text
 -- Cut into pieces of at most n octets, four or more, a text is whole, no piece is empty, and a marker is not cut.
@@ -25,6 +27,31 @@ CutIsText = (n : ℕ) (text : List ℕ) → 4 ≤ n → IsUtf8 text → AllByRec
 -- A short text is left as it is.
 abbrev pub ShortStays : Type 0
 ShortStays = (n : ℕ) (text : List ℕ) → length text ≤ n → pieces n text ≡ text_list text
+
+-- ---- characters
+-- Cut into its characters, a text is whole, no piece is empty, and a marker is not cut.
+abbrev pub CharactersAreWhole : Type 0
+CharactersAreWhole = IsCutting characters
+
+-- Where it is UTF-8, each piece is a character of it, as UTF-8 writes it.
+abbrev pub EachIsACharacter : Type 0
+EachIsACharacter = (text : List ℕ) → IsUtf8 text → characters text ≡ map encode_utf8 (chars text)
+
+-- So the characters of two texts, one behind the other, are those of the one and those of the other,
+abbrev pub CharactersFollow : Type 0
+CharactersFollow = (a b : List ℕ) → IsUtf8 b → characters (a ++ b) ≡ characters a ++ characters b
+
+-- and the characters of a text in pieces of at most n octets, four or more, are those of the text.
+abbrev pub PiecesHaveCharacters : Type 0
+PiecesHaveCharacters = (n : ℕ) (text : List ℕ) → 4 ≤ n → IsUtf8 text → flat_map characters (pieces n text) ≡ characters text
+
+-- So where texts that are heard say what others say, their pieces are groups of the characters of those.
+abbrev pub PiecesAreGroups : Type 0
+PiecesAreGroups =
+    (n : ℕ) → 4 ≤ n → n ≤ MOST_TEXT_OCTETS
+    → (xs ys : List (List ℕ)) → AreHeardTexts xs → AreHeardTexts ys
+    → concat xs ≡ concat ys
+    → Groups (flat_map (pieces n) xs) (flat_map characters ys) []
 
 -- ---- chunks
 abbrev pub CutsAreTexts : Type 0

@@ -6,7 +6,7 @@ use Rattle.std.specs.List.{AllByRecursion, concat}
 use Rattle.wire_spec.specs.Packets.{has_text}
 use Rattle.stream_spec.specs.Lists.{In}
 use Rattle.stream_spec.specs.Hearing.{marker, text_list}
-use Rattle.stream_spec.specs.Typed.{last_end}
+use Rattle.stream_spec.specs.Typed.{is_end, last_end}
 use Rattle.stream_spec.specs.History.{Placed}
 use Rattle.stream_spec.specs.Kept.{Item, Marker, Block}
 use Rattle.stream_spec.specs.Ready.{Chunk}
@@ -30,6 +30,16 @@ pieces_within (suc fuel) n text =
 -- the pieces of a text, of at most n octets each: the text itself, where it is no longer
 abbrev pub pieces : ℕ → List ℕ → List (List ℕ)
 pieces n text = pieces_within (length text) n text
+
+-- the octet x in front of the first of these
+abbrev pub in_front : ℕ → List (List ℕ) → List (List ℕ)
+in_front x [] = (x ∷ []) ∷ []
+in_front x (c ∷ cs) = (x ∷ c) ∷ cs
+
+-- the characters of a text: it is cut wherever one ends
+abbrev pub characters : List ℕ → List (List ℕ)
+characters [] = []
+characters (x ∷ text) = if is_end text 0 then (x ∷ []) ∷ characters text else in_front x (characters text)
 
 -- ---- the pieces of what was sent
 -- A piece of the block x, which begins at this octet of its text: an entry of its own, whose place is its address.

@@ -1,5 +1,5 @@
 //! What holds of the definitions. No code stands here.
-ghost use Rattle.mixer_spec.specs.PieceLaws.{ChunksRise, ChunksStay, CutIsShort, CutIsText, CutIsWhole, CutsAreShort, CutsAreTexts, PiecesAreTold, PiecesSayTheText, ShortStays};
+ghost use Rattle.mixer_spec.specs.PieceLaws.{CharactersAreWhole, CharactersFollow, ChunksRise, ChunksStay, CutIsShort, CutIsText, CutIsWhole, CutsAreShort, CutsAreTexts, EachIsACharacter, PiecesAreGroups, PiecesAreTold, PiecesHaveCharacters, PiecesSayTheText, ShortStays};
 ghost use Rattle.mixer_spec.specs.Rooms.{NoRoomIsGreater, PieceHasRoom, TextsFit};
 ghost use Rattle.mixer_spec.specs.Sending.{AnyFits};
 ghost use Rattle.mixer_spec.specs.PieceHeadline.{HopsHavePieces};
@@ -11,6 +11,17 @@ pub fn texts_are_cut()
     ensures short { CutIsShort }
     ensures text { CutIsText }
     ensures stays { ShortStays }
+{}
+
+/// A text is cut into its characters, which together are the text; a marker is one. Where the text is UTF-8 each is as UTF-8 writes
+/// it; and those of its pieces, one behind the other, are those of the text. So the pieces of some texts are groups of the characters
+/// of any others that say the same.
+pub fn texts_are_characters()
+    ensures whole { CharactersAreWhole }
+    ensures each { EachIsACharacter }
+    ensures follow { CharactersFollow }
+    ensures pieces { PiecesHaveCharacters }
+    ensures groups { PiecesAreGroups }
 {}
 
 /// Chunks that are cut stay texts, are short, and stay in order of their moments. Those that are short are left as they are.

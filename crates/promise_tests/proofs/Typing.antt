@@ -6,7 +6,7 @@ use Rattle.std.proofs.lemmas.List.Folds.{concat-append}
 use Rattle.file_spec.specs.Conference.{Conference}
 use Rattle.stream_spec.specs.Kept.{Block, Item, text_of, texts}
 use Rattle.mixer_spec.specs.Through.{text_entries}
-use Rattle.mixer_spec.specs.Headline.{Cut, Headline, HeadlineAt, Hop, IsCutAt, all_sent, hears, said, told_by}
+use Rattle.mixer_spec.specs.Headline.{Cut, HeadlineAt, Hop, IsCutAt, hears, said, told_by}
 use Rattle.mixer_spec.specs.Pieces.{IsCutting, pieces}
 use Rattle.mixer_spec.specs.PieceLaws.{CutIsWhole, PiecesSayTheText}
 use Rattle.mixer_spec.specs.PieceHeadline.{PieceHeadline, PieceHeadlineAt, all_pieces}
@@ -33,16 +33,6 @@ but_of q cut rest typed at joined whole =
     ∙ (ap (λ (x : List ℕ). x ++ said (told_by cut.sent q ++ (cut.waiting ++ cut.behind))) (sym (ap concat at.before))
     ∙ (sym (said_append cut.before (told_by cut.sent q ++ (cut.waiting ++ cut.behind)))
     ∙ whole))))
-
-pub typed_but : (p q : Hop) (rest : List (List ℕ)) → HeadlineAt p q [] rest [] → IsTypedBut p q rest
-typed_but p q rest e first second = but_of q e.0 rest (all_typed p) e.1 e.2.joined (ap said (e.2.whole first second))
-
-pub all_typed_at : (p q : Hop) → HeadlineAt p q [] [] [] → IsAllTyped p q
-all_typed_at p q e first second = sym (append-nil (concat (hears q))) ∙ typed_but p q [] e first second
-
--- where all is sent on
-pub at_all : (p q : Hop) → Headline p q (all_sent p) → HeadlineAt p q [] [] []
-at_all p q e = (all_sent p, record { before = refl; waiting = refl; behind = refl }, e)
 
 -- ---- in pieces
 pub only_pieces : (cutting : List ℕ → List (List ℕ)) (p q : Hop) (front rest back : List (List ℕ)) → PieceHeadlineAt cutting p q front rest back → IsOnlyPieces cutting p q

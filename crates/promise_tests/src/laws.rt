@@ -5,7 +5,9 @@ ghost use Rattle.promise_tests.specs.Cascade.{CascadesTellWhatWasTyped};
 ghost use Rattle.promise_tests.specs.Shut.{LoopholesStayShut};
 
 use live_spec::one_sender_is_heard;
-use mixer_spec::piece_laws::{hops_have_pieces, texts_are_cut, told_in_pieces};
+use mixer_spec::piece_laws::{
+    hops_have_pieces, texts_are_characters, texts_are_cut, told_in_pieces,
+};
 use rtt_io::{Sink, World};
 use rtt_top::laws::statuses_are_those_of_the_command;
 use stream_spec::still_keeps;
@@ -32,10 +34,14 @@ pub fn live_calls_tell_what_was_typed()
     one_sender_is_heard();
 }
 
-/// So it is of `cascade` where Ann stands behind another mixer, from that mixer's sender to Bob, where packets have no limit.
+/// So it is of `cascade` where Ann stands behind another mixer, from that mixer's sender to Bob, character by character; where
+/// packets have no limit, of whole blocks.
 pub fn cascades_tell_what_was_typed()
     ensures { CascadesTellWhatWasTyped }
-{}
+{
+    texts_are_characters();
+    told_in_pieces();
+}
 
 /// What no run may be: `make` that ends with 5 or 6, `read` that ends with 9, `make` that ends with 0 and printed something else
 /// than its line, and `mix` that ends with 9 though a source failed.

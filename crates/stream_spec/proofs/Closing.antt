@@ -86,7 +86,7 @@ after_end octets k (suc n) e l = elim (cases_lt k (suc n)) [ inl lt ↦ go (is_e
     go true m = omega arith
     go false m = m
 
-ends_there : (octets : List ℕ) (k : ℕ) → IsCharBoundary octets k → is_end octets k ≡ true
+pub ends_there : (octets : List ℕ) (k : ℕ) → IsCharBoundary octets k → is_end octets k ≡ true
 ends_there octets k b = elim (cases_lt k (length octets)) [
   | inl lt ↦ lead (slice_index octets k) (b.1 lt)
   | inr ge ↦ let z : slice_index octets k ≡ 0 = get_or_past octets k 0 ge in grind (arith, nat_tests)

@@ -12,3 +12,4 @@ pub mod SentBack
 pub mod Sizes
 pub mod ReadBack
 pub mod Plain
+pub mod Longer
