@@ -21,7 +21,7 @@ impl<S: Source> Producer<Answer<DumpFault>> for LegInlet<S> {
         self.leg.ended()
     }
 
-    fn next<R: Wait>(&mut self, rt: &R, _may_wait: bool, answer: &mut Answer<DumpFault>) -> bool {
+    fn next<R: Wait>(&mut self, rt: &R, answer: &mut Answer<DumpFault>) -> bool {
         ask(self, rt, answer)
     }
 }

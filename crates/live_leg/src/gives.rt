@@ -21,7 +21,7 @@ impl<A: Arrivals> Producer<LegItem<A::Fault>> for Leg<A> {
     }
 
     /// It waits until the next turn at most, whoever steps it: who makes the turns does so when that moment has come.
-    fn next<R: Wait>(&mut self, _rt: &R, _may_wait: bool, item: &mut LegItem<A::Fault>) -> bool {
+    fn next<R: Wait>(&mut self, _rt: &R, item: &mut LegItem<A::Fault>) -> bool {
         let given = self.step(&mut item.chunk);
         item.kind = given.unwrap_or(ItemKind::Seen);
         item.at = self.at;

@@ -76,7 +76,7 @@ fn next<Q, F: Producer<Q>, R: Wait>(rt: &R, leg: &mut F, item: &mut Q) -> bool {
     if leg.is_over() {
         return false;
     }
-    leg.next(rt, false, item)
+    leg.next(rt, item)
 }
 
 // What it gives next is of this kind.

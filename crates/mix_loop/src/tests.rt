@@ -1,4 +1,4 @@
-ghost use Rattle.std.specs.Prelude.{◌≡◌, ◌<◌, [], suc, length, vec_len, IfSome};
+ghost use Rattle.std.specs.Prelude.{◌≡◌, ◌≤◌, ◌<◌, [], suc, length, vec_len, IfSome};
 ghost use Rattle.std.specs.Vec.{vec_capacity};
 ghost use Rattle.workers.specs.Lanes.{AreNew};
 ghost use Rattle.live_leg.specs.LinkLegs.{LegGave, LegStands};
@@ -19,7 +19,7 @@ use std::sync::{Arc, Wait};
 use std::test::Fail;
 use std::thread;
 use std::thread::{Scope, Threads};
-use workers::{Worker, WorkerRoom, WorkerSet, join_lanes, keep_lanes, start_lanes};
+use workers::{Worker, WorkerRoom, WorkerSet, join_lanes, start_lanes};
 
 // Takes each text, and counts them and the turns. It stands for no calls.
 #[derive(Drop)]
@@ -215,50 +215,85 @@ fn ran_of(turned: LiveTurnsEnd<NoMemory>, mixer: CountMixer) -> TurnCount {
     }
 }
 
-// A call of one leg, which begins at this moment.
-fn run<R: Threads + Wait>(rt: &R, alloc: Global, link: MemIn, begin: u64) -> Option<TurnCount> {
-    let Ok(stop) = Arc::new(alloc, AtomicBool::new(false)) else {
-        return None;
-    };
-    let legs = ann(alloc, link, &stop)?;
-    let Ok(room) = WorkerRoom::new(alloc, legs.len()) else {
-        return None;
-    };
-    let Ok(ports) = Vec::with_capacity(alloc, legs.len()) else {
-        room.discard();
-        return None;
-    };
-    let Ok(back) = Vec::with_capacity(alloc, legs.len()) else {
-        room.discard();
-        ports.destroy_empty();
-        return None;
-    };
-    let mut mixer = new_mixer(legs.len());
+// Enough octets of stack for a leg's thread, and more than a thread can have.
+const STACK: usize = 2_097_152;
+
+const REFUSED: usize = usize::MAX;
+
+// Starts a leg that is alone, on a thread of so many octets of stack.
+fn start_alone<'s, 'e, R: Abort + Wait + Sync>(
+    scope: &'s Scope<'s, &'e ()>,
+    rt: &'s R,
+    alloc: Global,
+    stack: usize,
+    legs: Vec<LinkLeg<MemIn>>,
+) -> Vec<AnnLane>
+    requires new { AreNew (LegGave ⟦<MemIn as LinkIn>⟧) legs.items }
+    requires one { vec_len legs ≡ 1 }
+    ensures { vec_len result ≡ 1 }
+{
+    let room = WorkerRoom::new(alloc, 1).expect(rt, "room for a lane");
+    let WorkerSet { lanes, back: _ } = start_lanes(scope, rt, StillGate, stack, legs, room);
+    lanes
+}
+
+// Makes the turns of these lanes, which this word stops, from this moment on.
+fn run_lanes<R: Abort + Threads + Wait>(
+    rt: &R,
+    alloc: Global,
+    lanes: Vec<AnnLane>,
+    stop: &AtomicBool,
+    begin: u64,
+) -> TurnCount
+    requires { vec_len lanes ≤ 64 }
+{
+    let ports = Vec::with_capacity(alloc, lanes.len()).expect(rt, "room for ports");
+    let inlets = Vec::with_capacity(alloc, lanes.len()).expect(rt, "room for inlets");
+    let back = Vec::with_capacity(alloc, lanes.len()).expect(rt, "room for legs");
+    let mut mixer = new_mixer(lanes.len());
     let mut world = MemLinks::new(alloc);
     world.pause_until(begin);
-    let WorkerSet {
-        lanes,
-        back: joined,
-    } = keep_lanes(StillGate, legs, room);
     let mut ports = ports_over(lanes, ports);
-    let turned = turn_and_drain(rt, ports.as_mut_slice(), &mut mixer, &mut world, &stop);
-    let lanes = live_inlets_of(ports, back);
-    let _legs = join_lanes(rt, lanes, joined);
-    Some(ran_of(turned, mixer))
+    let turned = turn_and_drain(rt, ports.as_mut_slice(), &mut mixer, &mut world, stop);
+    let lanes = live_inlets_of(ports, inlets);
+    let _legs = join_lanes(rt, lanes, back);
+    ran_of(turned, mixer)
+}
+
+// A call of one leg without a thread, which begins at this moment.
+fn run_in<'s, 'e, R: Abort + Threads + Wait + Sync>(
+    scope: &'s Scope<'s, &'e ()>,
+    rt: &'s R,
+    alloc: Global,
+    link: MemIn,
+    begin: u64,
+) -> TurnCount {
+    let stop = Arc::new(alloc, AtomicBool::new(false)).expect(rt, "a stop word");
+    let leg = ann(alloc, link, &stop).expect(rt, "a leg");
+    let lanes = start_alone(scope, rt, alloc, REFUSED, leg);
+    run_lanes(rt, alloc, lanes, &stop, begin)
+}
+
+fn run<R: Abort + Threads + Wait + Sync>(
+    rt: &R,
+    alloc: Global,
+    link: MemIn,
+    begin: u64,
+) -> TurnCount {
+    thread::scope(thread::scope_env(), rt, |scope| -> TurnCount {
+        run_in(scope, rt, alloc, link, begin)
+    })
 }
 
 // A call of one leg, whose link gives so many texts and is closed, or is quiet behind them.
-fn call<R: Threads + Wait>(
+fn call<R: Abort + Threads + Wait + Sync>(
     rt: &R,
     alloc: Global,
     count: u16,
     closes: bool,
 ) -> Result<TurnCount, NoMemory> {
     let link = link(alloc, count, closes)?;
-    match run(rt, alloc, link, 0) {
-        Some(ran) => Ok(ran),
-        None => Err(NoMemory),
-    }
+    Ok(run(rt, alloc, link, 0))
 }
 
 #[test]
@@ -299,9 +334,7 @@ fn a_flood_holds_no_turn_up(rt: HostRuntime) -> Result<(), Fail> {
 #[test]
 fn turns_are_at_the_ticks_of_the_clock(rt: HostRuntime) -> Result<(), Fail> {
     let link = link(rt.alloc(), 1, false)?;
-    let Some(ran) = run(&rt, rt.alloc(), link, 30) else {
-        return Err(NoMemory)?;
-    };
+    let ran = run(&rt, rt.alloc(), link, 30);
     assert!(rt; ran.moments == [30, 200, 300]);
     Ok(())
 }
@@ -321,9 +354,7 @@ fn link_behind_a_silence(alloc: Global) -> Result<MemIn, NoMemory> {
 #[test]
 fn what_comes_behind_a_silence_is_offered_before_the_turn(rt: HostRuntime) -> Result<(), Fail> {
     let link = link_behind_a_silence(rt.alloc())?;
-    let Some(ran) = run(&rt, rt.alloc(), link, 30) else {
-        return Err(NoMemory)?;
-    };
+    let ran = run(&rt, rt.alloc(), link, 30);
     assert!(rt; ran.first == 1);
     Ok(())
 }
@@ -343,23 +374,6 @@ fn put_behind<T>(only: Vec<T>, all: &mut Vec<T>)
     all.push_reserved(one);
 }
 
-// Starts a leg that is alone, on a thread of so many octets of stack.
-fn start_alone<'s, 'e, R: Abort + Wait + Sync>(
-    scope: &'s Scope<'s, &'e ()>,
-    rt: &'s R,
-    alloc: Global,
-    stack: usize,
-    legs: Vec<LinkLeg<MemIn>>,
-) -> Vec<AnnLane>
-    requires new { AreNew (LegGave ⟦<MemIn as LinkIn>⟧) legs.items }
-    requires one { vec_len legs ≡ 1 }
-    ensures { vec_len result ≡ 1 }
-{
-    let room = WorkerRoom::new(alloc, 1).expect(rt, "room for a lane");
-    let WorkerSet { lanes, back: _ } = start_lanes(scope, rt, StillGate, stack, legs, room);
-    lanes
-}
-
 // A call of two legs, whose threads have so many octets of stack each.
 fn run_two_in<'s, 'e, R: Abort + Threads + Wait + Sync>(
     scope: &'s Scope<'s, &'e ()>,
@@ -372,27 +386,12 @@ fn run_two_in<'s, 'e, R: Abort + Threads + Wait + Sync>(
     let first = ann(alloc, links.0, &stop).expect(rt, "the first leg");
     let second = ann(alloc, links.1, &stop).expect(rt, "the second leg");
     let mut lanes = Vec::with_capacity(alloc, 2).expect(rt, "room for lanes");
-    let ports = Vec::with_capacity(alloc, 2).expect(rt, "room for ports");
-    let inlets = Vec::with_capacity(alloc, 2).expect(rt, "room for inlets");
-    let back = Vec::with_capacity(alloc, 2).expect(rt, "room for legs");
-    let mut mixer = new_mixer(2);
-    let mut world = MemLinks::new(alloc);
-    world.pause_until(30);
     let first = start_alone(scope, rt, alloc, stacks.0, first);
     let second = start_alone(scope, rt, alloc, stacks.1, second);
     put_behind(first, &mut lanes);
     put_behind(second, &mut lanes);
-    let mut ports = ports_over(lanes, ports);
-    let turned = turn_and_drain(rt, ports.as_mut_slice(), &mut mixer, &mut world, &stop);
-    let lanes = live_inlets_of(ports, inlets);
-    let _legs = join_lanes(rt, lanes, back);
-    ran_of(turned, mixer)
+    run_lanes(rt, alloc, lanes, &stop, 30)
 }
-
-// Enough octets of stack for a leg's thread, and more than a thread can have.
-const STACK: usize = 2_097_152;
-
-const REFUSED: usize = usize::MAX;
 
 // The same, at whose first link 20 texts come before it is closed, and at the second a text behind a silence.
 fn run_two<R: Abort + Threads + Wait + Sync>(

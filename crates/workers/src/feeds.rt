@@ -68,18 +68,18 @@ impl<Q: Drop, F: Producer<Q>> Feed<Q, F> {
     }
 
     // Where nothing is in hand, takes the next item into it, if one is there.
-    fn fill<R: Wait>(&mut self, rt: &R, queue: &ItemQueue<Q>, may_wait: bool)
+    fn fill<R: Wait>(&mut self, rt: &R, queue: &ItemQueue<Q>)
         requires { is_done F.over self.old ≡ false }
         ensures pass { self.new.pass ≡ self.old.pass }
         ensures follows { Follows F.stands self.old self.new }
         ensures nearer { is_empty self.old ≡ true → is_empty self.new ≡ true → F.nearer self.old.gives self.new.gives }
     {
         if self.is_empty() {
-            self.take_in(rt, queue, may_wait);
+            self.take_in(rt, queue);
         }
     }
 
-    fn take_in<R: Wait>(&mut self, rt: &R, queue: &ItemQueue<Q>, may_wait: bool)
+    fn take_in<R: Wait>(&mut self, rt: &R, queue: &ItemQueue<Q>)
         requires open { F.over self.old.gives ≡ false }
         requires empty { is_empty self.old ≡ true }
         ensures pass { self.new.pass ≡ self.old.pass }
@@ -87,7 +87,7 @@ impl<Q: Drop, F: Producer<Q>> Feed<Q, F> {
         ensures nearer { is_empty self.new ≡ true → F.nearer self.old.gives self.new.gives }
     {
         let mut item = queue.spare(rt);
-        if self.gives.next(rt, may_wait, &mut item) {
+        if self.gives.next(rt, &mut item) {
             self.hand = Some(item);
         } else {
             queue.give_back(rt, item);
@@ -112,7 +112,7 @@ impl<Q: Drop, F: Producer<Q>> Feed<Q, F> {
     /// Where nothing is in hand, takes the next item into it, if one is there; where none is, what gives got on. Then pushes what
     /// is in hand, or keeps it where the queue is full, which is only where at least 64 items were pushed. The answer is whether
     /// the last item was pushed.
-    pub fn step<R: Wait>(&mut self, rt: &R, queue: &ItemQueue<Q>, may_wait: bool) -> bool
+    pub fn step<R: Wait>(&mut self, rt: &R, queue: &ItemQueue<Q>) -> bool
         requires pass { IsPushOf queue.now self.old.pass }
         requires going { is_done F.over self.old ≡ false }
         ensures queue { IsPushOf queue.now self.new.pass }
@@ -122,7 +122,7 @@ impl<Q: Drop, F: Producer<Q>> Feed<Q, F> {
         ensures kept { is_empty self.new ≡ false → WasFull (pushed self.new.pass) }
         ensures done { result ≡ is_done F.over self.new }
     {
-        self.fill(rt, queue, may_wait);
+        self.fill(rt, queue);
         self.hand_over(rt, queue);
         self.is_done()
     }

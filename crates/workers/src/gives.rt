@@ -19,9 +19,8 @@ pub trait Producer<Q> {
     fn is_over(&self) -> bool
         ensures { result ≡ over self.now };
 
-    /// Writes the next item in place of what is in `item`, if one is there now. It may wait for one, some milliseconds at most,
-    /// where `may_wait` says so.
-    fn next<R: Wait>(&mut self, rt: &R, may_wait: bool, item: &mut Q) -> bool
+    /// Writes the next item in place of what is in `item`, if one is there now.
+    fn next<R: Wait>(&mut self, rt: &R, item: &mut Q) -> bool
         requires { over self.old ≡ false }
         ensures stands { GivesMore stands self.old self.new (items_by result item.new) }
         ensures nearer { result ≡ false → nearer self.old self.new };

@@ -1,9 +1,7 @@
 ghost use Rattle.std.specs.Prelude.{◌≡◌, length};
 
 use crate::lanes::Runner;
-use crate::{
-    Producer, Reusable, Worker, WorkerRoom, WorkerSet, join_lanes, keep_lanes, start_lanes,
-};
+use crate::{Producer, Reusable, Worker, WorkerRoom, WorkerSet, join_lanes, start_lanes};
 use rtt_base::NoMemory;
 use rtt_io::Gate;
 use std::alloc::Global;
@@ -60,7 +58,7 @@ impl Producer<Number> for CountProducer {
         self.over
     }
 
-    fn next<R: Wait>(&mut self, _rt: &R, _may_wait: bool, item: &mut Number) -> bool {
+    fn next<R: Wait>(&mut self, _rt: &R, item: &mut Number) -> bool {
         self.rests = !self.rests;
         if self.rests {
             return false;
@@ -165,28 +163,12 @@ fn run<R: Threads + Wait + Sync, G: Gate + Copy + Send>(
     })
 }
 
-// Keeps all, pops all and has all back.
-fn run_kept<R: Threads + Wait, G: Gate + Copy>(
-    rt: &R,
-    alloc: Global,
-    gate: G,
-    gives: Vec<CountProducer>,
-) -> Option<DrainCount> {
-    let Ok(room) = WorkerRoom::new(alloc, gives.len()) else {
-        return None;
-    };
-    let WorkerSet { mut lanes, back } = keep_lanes(gate, gives, room);
-    let drained = drain_all(rt, lanes.as_mut_slice());
-    let _back = join_lanes(rt, lanes, back);
-    Some(drained)
-}
-
-// Runs three that count, on threads of so many octets of stack, or without threads. The answer is how many ran on threads, how many numbers came in
+// Runs three that count, on threads of so many octets of stack. The answer is how many ran on threads, how many numbers came in
 // order, and how many times the gate was told of a push and of a pop.
 fn count_thrice<R: Threads + Wait + Sync>(
     rt: &R,
     alloc: Global,
-    stack: Option<usize>,
+    stack: usize,
 ) -> Result<[u64; 4], NoMemory> {
     let three = [
         CountProducer::up_to(LAST),
@@ -202,11 +184,7 @@ fn count_thrice<R: Threads + Wait + Sync>(
         passed: &passed,
         popped: &popped,
     };
-    let ran = match stack {
-        Some(stack) => run(rt, alloc, gate, stack, gives),
-        None => run_kept(rt, alloc, gate, gives),
-    };
-    let Some(drained) = ran else {
+    let Some(drained) = run(rt, alloc, gate, stack, gives) else {
         return Err(NoMemory);
     };
     let passed = passed.load(Ordering::SeqCst);
@@ -216,21 +194,14 @@ fn count_thrice<R: Threads + Wait + Sync>(
 
 #[test]
 fn all_run_on_threads(rt: HostRuntime) -> Result<(), Fail> {
-    let counts = count_thrice(&rt, rt.alloc(), Some(2_097_152))?;
+    let counts = count_thrice(&rt, rt.alloc(), 2_097_152)?;
     assert!(rt; counts == [3, 600, 600, 600]);
     Ok(())
 }
 
 #[test]
 fn refused_starts_change_nothing(rt: HostRuntime) -> Result<(), Fail> {
-    let counts = count_thrice(&rt, rt.alloc(), Some(usize::MAX))?;
-    assert!(rt; counts == [0, 600, 600, 600]);
-    Ok(())
-}
-
-#[test]
-fn what_is_kept_needs_no_thread(rt: HostRuntime) -> Result<(), Fail> {
-    let counts = count_thrice(&rt, rt.alloc(), None)?;
+    let counts = count_thrice(&rt, rt.alloc(), usize::MAX)?;
     assert!(rt; counts == [0, 600, 600, 600]);
     Ok(())
 }

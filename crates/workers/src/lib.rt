@@ -26,7 +26,7 @@ pub use gates::LentGate;
 pub use gives::Producer;
 pub use lanes::Worker;
 pub use limits::MOST_QUEUED;
-pub use lists::{join_lanes, keep_lanes, start_lanes};
+pub use lists::{join_lanes, start_lanes};
 pub use loans::lend;
 pub use passes::{ItemQueue, PopPass, PushPass};
 pub use reuse::Reusable;

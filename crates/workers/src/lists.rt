@@ -8,7 +8,7 @@ use crate::Producer;
 use crate::ends::WorkerEnds;
 use crate::lanes::Worker;
 use crate::rooms::{WorkerRoom, WorkerSet};
-use crate::starts::{keep_lane, start_lane};
+use crate::starts::start_lane;
 use core::thread::Stack;
 use rtt_io::Gate;
 use std::sync::Wait;
@@ -52,52 +52,6 @@ fn start_all<
     lanes
 }
 
-/// Keeps all that is in a list, each to be stepped where its items are popped.
-fn keep_all<Q: Drop, F: Producer<Q>, G: Gate + Copy>(
-    gate: G,
-    gives: Vec<F>,
-    mut ends: Vec<WorkerEnds<Q>>,
-    mut lanes: Vec<Worker<Q, F, G>>,
-) -> Vec<Worker<Q, F, G>>
-    requires new { AreNew F.stands gives.items }
-    requires ends { vec_len ends ≡ vec_len gives }
-    requires none { lanes.items ≡ [] }
-    requires room { vec_len gives ≤ vec_capacity lanes }
-    ensures { AreStarted F.stands gives.items result.items }
-{
-    let mut rest = gives.into_iter();
-    let mut number = 0;
-    while let Some(leg) = rest.next() {
-        let Some(end) = ends.pop() else {
-            unreachable!()
-        };
-        let lane = keep_lane(gate, leg, number, end);
-        number = number.wrapping_add(1);
-        lanes.push_reserved(lane);
-    }
-    rest.destroy_empty();
-    lanes
-}
-
-/// Joins all that is in a list.
-fn join_all<Q: Drop, F: Producer<Q>, R: Threads, G: Gate + Copy>(
-    rt: &R,
-    lanes: Vec<Worker<Q, F, G>>,
-    mut back: Vec<F>,
-) -> Vec<F>
-    requires none { back.items ≡ [] }
-    requires room { vec_len lanes ≤ vec_capacity back }
-    ensures { AreBack F.stands lanes.items result.items }
-{
-    let mut rest = lanes.into_iter();
-    while let Some(lane) = rest.next() {
-        let gives = lane.close(rt);
-        back.push_reserved(gives);
-    }
-    rest.destroy_empty();
-    back
-}
-
 /// Starts all that is in a list, each on a thread of so many octets of stack. What can't be started on a thread is stepped where its
 /// items are popped. The gate knows each by its place in the list.
 pub fn start_lanes<
@@ -125,31 +79,20 @@ pub fn start_lanes<
     WorkerSet { lanes, back }
 }
 
-/// Makes the lanes of all that is in a list without a thread: each is stepped where its items are popped, and nobody waits for it.
-/// The gate knows each by its place in the list.
-pub fn keep_lanes<Q: Drop, F: Producer<Q>, G: Gate + Copy>(
-    gate: G,
-    gives: Vec<F>,
-    room: WorkerRoom<Q, F, G>,
-) -> WorkerSet<Q, F, G>
-    requires new { AreNew F.stands gives.items }
-    requires room { HasRoom (vec_len gives) room }
-    ensures lanes { AreStarted F.stands gives.items result.lanes.items }
-    ensures back { HasRoomBack (vec_len gives) result.back }
-{
-    let WorkerRoom { ends, lanes, back } = room;
-    let lanes = keep_all(gate, gives, ends, lanes);
-    WorkerSet { lanes, back }
-}
-
 /// Joins all lanes, and has back what gives. What was popped of each is the first of what it gave.
 pub fn join_lanes<Q: Drop, F: Producer<Q>, R: Threads, G: Gate + Copy>(
     rt: &R,
     lanes: Vec<Worker<Q, F, G>>,
-    back: Vec<F>,
+    mut back: Vec<F>,
 ) -> Vec<F>
     requires { HasRoomBack (vec_len lanes) back }
     ensures { AreBack F.stands lanes.items result.items }
 {
-    join_all(rt, lanes, back)
+    let mut rest = lanes.into_iter();
+    while let Some(lane) = rest.next() {
+        let gives = lane.close(rt);
+        back.push_reserved(gives);
+    }
+    rest.destroy_empty();
+    back
 }

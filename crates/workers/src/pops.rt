@@ -10,7 +10,7 @@ use crate::{Feed, ItemQueue, PopPass, Producer};
 use rtt_io::Gate;
 use std::sync::Wait;
 
-/// Steps what is at who pops, unless its last item was pushed. Nobody may be kept waiting by it.
+/// Steps what is at who pops, unless its last item was pushed.
 fn step_feed<Q: Drop, F: Producer<Q>, R: Wait>(feed: &mut Feed<Q, F>, rt: &R, queue: &ItemQueue<Q>)
     requires { IsPushOf queue.now feed.old.pass }
     ensures queue { IsPushOf queue.now feed.new.pass }
@@ -19,7 +19,7 @@ fn step_feed<Q: Drop, F: Producer<Q>, R: Wait>(feed: &mut Feed<Q, F>, rt: &R, qu
     if feed.is_done() {
         return;
     }
-    feed.step(rt, queue, false);
+    feed.step(rt, queue);
 }
 
 /// Makes one step of what is at who pops; else waits for its thread.

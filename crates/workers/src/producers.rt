@@ -31,8 +31,8 @@ impl<Q, F: Producer<Q>, G: Gate> Producer<Q> for GatedProducer<F, G> {
         self.gives.is_over()
     }
 
-    fn next<R: Wait>(&mut self, rt: &R, may_wait: bool, item: &mut Q) -> bool {
-        let is_given = self.gives.next(rt, may_wait, item);
+    fn next<R: Wait>(&mut self, rt: &R, item: &mut Q) -> bool {
+        let is_given = self.gives.next(rt, item);
         tell_pass(&self.gate, self.number, is_given);
         is_given
     }

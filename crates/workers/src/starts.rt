@@ -115,37 +115,6 @@ pub(crate) fn start_lane<
     }
 }
 
-/// Keeps what gives items: it is stepped where its items are popped. The gate knows it by this number.
-pub(crate) fn keep_lane<Q: Drop, F: Producer<Q>, G: Gate + Copy>(
-    gate: G,
-    gives: F,
-    number: u32,
-    ends: WorkerEnds<Q>,
-) -> Worker<Q, F, G>
-    requires { F.stands gives gives [] }
-    ensures { IsStarted F.stands gives result }
-{
-    let WorkerEnds {
-        ours,
-        theirs: _,
-        push,
-        pop,
-    } = ends;
-    let gated = GatedProducer {
-        gives,
-        gate,
-        number,
-    };
-    let feed = Feed::new(gated, push);
-    Worker {
-        shared: ours,
-        pop,
-        runner: Runner::Here(feed),
-        gate,
-        number,
-    }
-}
-
 /// Joins what runs, and has its feed.
 fn join_runner<Q: Drop, F: Producer<Q>, R: Threads>(
     runner: Runner<Q, F>,

@@ -37,7 +37,7 @@ pub fn run_feed<Q: Drop, F: Producer<Q>, R: Wait>(
         if feed.is_done() || alone.load(Ordering::SeqCst) {
             break;
         }
-        if feed.step(rt, queue, true) {
+        if feed.step(rt, queue) {
             break;
         }
         wait_for_room(rt, &feed, queue);

@@ -2,10 +2,10 @@ use Rattle.std.proofs.Common.{rules}
 use Rattle.std.specs.Vec.Iter.{into_iter_items, into_iter_len}
 use Rattle.workers.specs.Lanes.{ComesBack}
 use Rattle.workers.proofs.Matching.{into_all, into_first, into_next}
-use Rattle.workers.proofs.lists.join_all.Goals as goal
+use Rattle.workers.proofs.lists.join_lanes.Goals as goal
 
 pub loop-lane-init : goal.loop-lane-init
-loop-lane-init g c = into_first (ComesBack g.F.Producer.stands) c.args.lanes _ _ c.args.back c.into_iter-rest.ensures.rest c.into_iter-rest.ensures.len c.requires.none c.requires.room
+loop-lane-init g c = into_first (ComesBack g.F.Producer.stands) c.args.lanes _ _ c.args.back c.into_iter-rest.ensures.rest c.into_iter-rest.ensures.len c.requires.none_back c.requires.back
 
 pub loop-lane-preserved : goal.loop-lane-preserved
 loop-lane-preserved g c =
