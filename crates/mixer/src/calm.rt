@@ -36,6 +36,9 @@ fn calm_until(schedulers: &[TerminalScheduler], seating: &SeatingPlan) -> u64
     let mut until = u64::MAX;
     for leg in 0..schedulers.len() {
         until = until.min(calm_at(schedulers, seating, leg));
+        if until == 0 {
+            return 0;
+        }
     }
     until
 }
@@ -66,7 +69,8 @@ fn turn_all(
     ensures slots { length slots.new ≡ length slots.old }
 {
     turn_legs(schedulers, media, names, seating, slots, batch);
-    if !batch.posts().is_empty() {
+    // Of two legs who was just sent something may rest; of more another one is mostly due soon.
+    if schedulers.len() > 2 && !batch.posts().is_empty() {
         return 0;
     }
     calm_until(schedulers, seating)

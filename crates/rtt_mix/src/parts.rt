@@ -2,6 +2,7 @@
 ghost use Rattle.std.specs.Prelude.{◌≡◌, ℕ, ◌+◌, ◌*◌, ◌/◌, ◌≤◌, ◌<◌, ◌++◌, min, length, vec_len, All, IfOk, OnOk};
 ghost use Rattle.file_spec.specs.Conferences.{meaning_of};
 ghost use Rattle.playback.specs.Written.{IsPlayable};
+ghost use Rattle.sent_log.specs.States.{OfTerminal};
 ghost use Rattle.sent_log.specs.Files.{recordings_of};
 ghost use Rattle.rtt_mix.specs.Viewed.{AddsSeen, ArePartsOf, AreOf, AreSumsOf, AreViewsOf, IsPartOf, joined, summed};
 ghost use Rattle.rtt_mix.specs.declared.parts.TheConstants.{MOST_PARTS};
@@ -9,8 +10,9 @@ ghost use Rattle.file_spec.specs.declared.limits.TheConstants.{MOST_LEGS};
 
 use crate::known_lines::{KnownLines, lines_on_threads};
 use crate::pieces::add_pieces;
-use crate::views::{TerminalViews, nothing_seen, views_between, views_of};
+use crate::views::{TerminalViews, nothing_seen, settings_at, views_between, views_of};
 use file_spec::Conference;
+use playback::hears_as_sent;
 use rtt_base::NoMemory;
 use sent_log::SentLog;
 use std::alloc::Global;
@@ -21,14 +23,35 @@ use std::thread::Threads;
 /// once take little memory.
 pub(crate) const MOST_PARTS: usize = 4;
 
-/// From how many packets on, sent to all terminals together, threads are worth their start.
+/// From how many packets on, heard at all terminals together, threads are worth their start.
 const WORTH_THREADS: usize = 4_000;
 
-/// How many packets were sent, to all terminals together.
-fn packets_in(log: &SentLog) -> usize {
+/// The view of a terminal that hears all as it was sent costs as much as if one of so many packets were heard.
+const SHOWN_FOR_ONE_HEARD: usize = 16;
+
+/// How much the view of the terminal with this number, counted from 0, costs, in packets that are heard.
+fn cost_of_view(conference: &Conference, log: &SentLog, terminal: usize) -> usize
+    requires terminal { terminal < length log.now }
+    requires each { length log.now ≡ length conference.now.legs }
+    requires sent { OfTerminal log.now terminal IsPlayable }
+{
+    let leg = &conference.legs.as_slice()[terminal];
+    let settings = settings_at(conference, leg);
+    let packets = log.count(terminal);
+    if leg.aware && hears_as_sent(settings, log, terminal, conference.plan.as_slice()) {
+        return packets / SHOWN_FOR_ONE_HEARD;
+    }
+    packets
+}
+
+/// The same of all terminals together.
+fn cost_of_views(conference: &Conference, log: &SentLog) -> usize
+    requires each { length log.now ≡ length conference.now.legs }
+    requires sent { All IsPlayable log.now }
+{
     let mut sum: usize = 0;
     for terminal in 0..log.terminals() {
-        sum = sum.saturating_add(log.count(terminal));
+        sum = sum.saturating_add(cost_of_view(conference, log, terminal));
     }
     sum
 }
@@ -118,7 +141,7 @@ fn add_part(part: TerminalViews, all: &mut TerminalViews) -> Result<(), NoMemory
     Ok(())
 }
 
-/// What is seen at the terminals of a conference, as `views_of` tells it, on several threads where much was sent.
+/// What is seen at the terminals of a conference, as `views_of` tells it, on several threads where much is heard.
 pub(crate) fn views_on_threads<R: Threads + Sync>(
     rt: &R,
     alloc: Global,
@@ -130,7 +153,7 @@ pub(crate) fn views_on_threads<R: Threads + Sync>(
     ensures views { IfOk result (λ seen. AreViewsOf (meaning_of conference.now) (recordings_of log.now) (joined seen)) }
     ensures sums { IfOk result (λ seen. AreSumsOf (meaning_of conference.now) (recordings_of log.now) (summed seen)) }
 {
-    if packets_in(log) < WORTH_THREADS {
+    if cost_of_views(conference, log) < WORTH_THREADS {
         return views_of(alloc, conference, log);
     }
     let size = part_size(log.terminals());

@@ -1,14 +1,14 @@
 -- A turn that serves a leg.
-use Rattle.std.proofs.Common.{◌≡◌, ℕ, ◌+◌, ◌-◌, ◌<◌, Bool, true, false, cond, inl, inr, Some, List, ◌∷◌, length, set, refl, ap, subst, sym, ◌∙◌, arith}
+use Rattle.std.proofs.Common.{◌≡◌, ℕ, zero, suc, ◌+◌, ◌-◌, ◌<◌, Bool, true, false, not, ◌&&◌, cond, inl, inr, Some, List, ◌∷◌, length, set, refl, ap, subst, sym, ◌∙◌, arith}
 use Rattle.std.specs.Prelude.{◌==◌, slice_index}
-use Rattle.std.proofs.lemmas.Bool.{cases_eq, eq-eqb, ne_eqb}
+use Rattle.std.proofs.lemmas.Bool.{true≢false, cases_eq, eq-eqb, eqb-true, ne_eqb}
 use Rattle.std.proofs.lemmas.List.{length-set}
 use Rattle.std.proofs.Math.Seq.{get_or-set_same, get_or-set_other}
 use Rattle.wire_spec.specs.Packets.{has_text}
 use Rattle.stream_spec.specs.Own.{Sent, sent_of}
 use Rattle.mixer_spec.specs.Chunks.{front}
 use Rattle.mixer_spec.specs.Setups.{Setup, stream}
-use Rattle.mixer_spec.specs.Table.{Terminal, Table, sents, last_media, serve_leg}
+use Rattle.mixer_spec.specs.Table.{Terminal, Table, has_work, is_due, is_spaced, sents, sent_from, last_media, serve_leg}
 use Rattle.packetizer.specs.Speakers.{IsNext}
 use Rattle.mixer_places.specs.Lanes.{Waiting}
 use Rattle.mixer_places.specs.Words.{take_front, fetched}
@@ -17,8 +17,9 @@ use Rattle.mixer_places.proofs.Sources.{stands_same}
 use Rattle.terminal_scheduler.specs.Turns.{free_after, repeats_left, with_terminal}
 use Rattle.terminal_scheduler.proofs.Putting.{puts_one}
 use Rattle.terminal_scheduler.specs.AwareStates.{AwareState}
-use Rattle.terminal_scheduler.specs.AwareStanding.{AwareStandsFor}
-use Rattle.terminal_scheduler.specs.AwareTurns.{IsIn, IsTurned, kept_served, left_behind, sent_of_leg, text_of_leg}
+use Rattle.terminal_scheduler.specs.AwareStanding.{AwareStandsFor, NoneDue}
+use Rattle.terminal_scheduler.specs.AwareTurns.{IsIn, IsTurned, calm_behind, kept_served, left_behind, sent_of_leg, text_of_leg}
+use Rattle.terminal_scheduler.proofs.AwareResting.{not_spaced}
 
 -- ---- the entry
 same_waits : (b : Bool) (x y z : Terminal) (i : ℕ) → x.waits i ≡ y.waits i → (cond b x z).waits i ≡ (cond b y z).waits i
@@ -31,6 +32,20 @@ sent_same x e past q = ap (λ (b : Bool). cond b (e ∷ sent_of x past) (sent_of
 sent_other : (x : ℕ) (e : Sent) (past : List Sent) → (e.source ≡ x → ⊥) → sent_of x (e ∷ past) ≡ sent_of x past
 sent_other x e past n = ap (λ (b : Bool). cond b (e ∷ sent_of x past) (sent_of x past)) (ne_eqb e.source x n)
 
+-- of three numbers below two, of which two are not the third, the two are one
+other : (i leg own : ℕ) → i < 2 → leg < 2 → own < 2 → (i ≡ own → ⊥) → (leg ≡ own → ⊥) → leg ≡ i
+other zero zero own a b c m n = refl
+other (suc zero) (suc zero) own a b c m n = refl
+other zero (suc zero) zero a b c m n = absurd (m refl)
+other zero (suc zero) (suc zero) a b c m n = absurd (n refl)
+other (suc zero) zero zero a b c m n = absurd (n refl)
+other (suc zero) zero (suc zero) a b c m n = absurd (m refl)
+other (suc (suc i)) leg own a b c m n = absurd (omega (arith, a))
+other zero (suc (suc leg)) own a b c m n = absurd (omega (arith, b))
+other (suc zero) (suc (suc leg)) own a b c m n = absurd (omega (arith, b))
+other zero (suc zero) (suc (suc own)) a b c m n = absurd (omega (arith, c))
+other (suc zero) zero (suc (suc own)) a b c m n = absurd (omega (arith, c))
+
 -- what is written at the number of the leg is read there, and each other number keeps what it had
 written : (xs : List ℕ) (leg x : ℕ) (P : ℕ → ℕ → Type 0) (legs : ℕ) → leg < length xs → P leg x → ((i : ℕ) → i < legs → (i ≡ leg → ⊥) → P i (slice_index xs i))
     → (i : ℕ) → i < legs → P i (slice_index (set xs leg x) i)
@@ -38,6 +53,30 @@ written xs leg x P legs l p f i b = elim (cases_eq i leg) [
   | inl q ↦ subst (λ (k : ℕ). P k (slice_index (set xs leg x) k)) (sym q) (subst (λ (y : ℕ). P leg y) (sym (get_or-set_same xs leg x 0 l)) p)
   | inr n ↦ subst (λ (y : ℕ). P i y) (sym (get_or-set_other xs leg i x 0 n)) (f i b n)
 ]
+
+-- Of two legs the one that was served rests until its spacing is over, and the other one is the terminal's own.
+is_calm : (s : Setup) (o : AwareState) (d : Terminal) (leg media : ℕ) → length o.free_at ≡ s.legs → o.own < s.legs → leg < s.legs
+    → media + o.spacing ≡ free_after s.spacing (last_media (sent_from (s.ssrc leg) d))
+    → (t : ℕ) → t < calm_behind leg media o → NoneDue s o.own t d
+is_calm s o d leg media legs own l free t before i b = go (length o.free_at == 2) (leg == o.own) refl refl before
+  where
+    rests : (x y : Bool) → (x && (y && false)) ≡ false
+    rests true true = refl
+    rests true false = refl
+    rests false y = refl
+
+    at_leg : t < media + o.spacing → is_due s o.own t d leg ≡ false
+    at_leg less =
+        ap (λ (z : Bool). not (leg == o.own) && (has_work s o.own d leg && z)) (sym (not_spaced s.spacing t (last_media (sent_from (s.ssrc leg) d)) (omega (arith, less, free))))
+        ∙ rests (not (leg == o.own)) (has_work s o.own d leg)
+
+    go : (two is_own : Bool) → (length o.free_at == 2) ≡ two → (leg == o.own) ≡ is_own → t < cond (two && not is_own) (media + o.spacing) 0 → is_due s o.own t d i ≡ false
+    go false is_own q n less = absurd (omega (arith, less))
+    go true true q n less = absurd (omega (arith, less))
+    go true false q n less = elim (cases_eq i o.own) [
+      | inl e ↦ ap (λ (z : Bool). not z && (has_work s o.own d i && is_spaced s.spacing t (last_media (sent_from (s.ssrc i) d)))) (eq-eqb i o.own e)
+      | inr m ↦ subst (λ (k : ℕ). is_due s o.own t d k ≡ false) (other i leg o.own (omega (arith, b, legs, eqb-true (length o.free_at) 2 q)) (omega (arith, l, legs, eqb-true (length o.free_at) 2 q)) (omega (arith, own, legs, eqb-true (length o.free_at) 2 q)) m (λ e. true≢false (sym (eq-eqb leg o.own e) ∙ n))) (at_leg less)
+    ]
 
 stands_then : (s : Setup) (o : AwareState) (d : Terminal) (place leg media now : ℕ) → AwareStandsFor s o.own o d → length o.left ≡ length o.free_at → leg < s.legs
     → IsNext (stream s o.own) (sents d.past) (sent_of_leg s o.own media d leg)
@@ -67,7 +106,8 @@ stands_then s o d place leg media now h c l n =
           (λ i b m. h.free i b ∙ ap (λ (xs : List Sent). free_after s.spacing (last_media xs)) (sym (other i b m)));
       next = omega arith;
       none_mixed = sent_other s.mixer e (sents d.past) (h.setup.mixer_differs leg l) ∙ h.none_mixed;
-      calm = λ t l. absurd (omega (arith, l));
+      calm = is_calm s o (serve_leg s o.own now media d place (Some leg)) leg media h.legs h.leg l
+          (ap (λ (x : ℕ). media + x) h.spacing ∙ ap (λ (xs : List Sent). free_after s.spacing (last_media xs)) (sym own));
     }
 
 slots_then : (s : Setup) (table : Table) (j leg place media now : ℕ) (after : List Waiting) → slots.SlotsStandFor s after (fetched j leg (s.room j) table)

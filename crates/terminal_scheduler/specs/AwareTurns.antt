@@ -1,5 +1,5 @@
 -- What a turn of an aware terminal finds, and what it comes to.
-use Rattle.std.specs.Prelude.{◌≡◌, ℕ, ◌+◌, ◌-◌, ◌<◌, Bool, true, Option, None, Some, List, slice_index, slice_set, if◌then◌else◌}
+use Rattle.std.specs.Prelude.{◌≡◌, ℕ, ◌+◌, ◌-◌, ◌<◌, ◌==◌, ◌&&◌, not, Bool, true, Option, None, Some, List, length, slice_index, slice_set, if◌then◌else◌}
 use Rattle.wire_spec.specs.Packets.{has_text}
 use Rattle.stream_spec.specs.Own.{Sent}
 use Rattle.stream_spec.specs.Ready.{Chunk}
@@ -64,11 +64,16 @@ IsCalmBefore calm o = AtTerminal o (λ s d. (seats : Seats) (t : ℕ) → t < ca
 abbrev pub left_behind : ℕ → List ℕ → AwareState → ℕ
 left_behind leg text o = if has_text text then o.generations else slice_index o.left leg - 1
 
+-- Behind a packet of the leg at this media time nobody is due before this one: of two legs the other is the terminal's own, which is
+-- never due there.
+abbrev pub calm_behind : ℕ → ℕ → AwareState → ℕ
+calm_behind leg media o = if (length o.free_at == 2) && not (leg == o.own) then media + o.spacing else 0
+
 -- the terminal_scheduler behind a packet of the leg that holds the place, with this text
 abbrev pub kept_served : ℕ → ℕ → ℕ → List ℕ → AwareState → AwareState
 kept_served place leg media text o = record o {
   left = slice_set o.left leg (left_behind leg text o);
   free_at = slice_set o.free_at leg (media + o.spacing);
   next = place + 1;
-  calm = 0;
+  calm = calm_behind leg media o;
 }

@@ -5,7 +5,7 @@ ghost use Rattle.mixer_spec.specs.Setups.{IsRoom, Setup};
 ghost use Rattle.mixer_spec.specs.Table.{empty, has_work, is_due, is_due_at, is_quiet, last_media, sent_from, served};
 ghost use Rattle.mixer_places.specs.SlotStanding.{SlotsTell, LeadsSlots};
 ghost use Rattle.mixer_places.specs.Words.{fetched};
-ghost use Rattle.terminal_scheduler.specs.AwareTurns.{AtTerminal, AtTable, IsCalmBefore, ServesLeg, StandsWoken, is_free, kept_served, left_behind, text_of_leg};
+ghost use Rattle.terminal_scheduler.specs.AwareTurns.{AtTerminal, AtTable, IsCalmBefore, ServesLeg, StandsWoken, calm_behind, is_free, kept_served, left_behind, text_of_leg};
 ghost use Rattle.terminal_scheduler.specs.Turns.{free_after};
 ghost use Rattle.terminal_scheduler.specs.AwareStanding.{NoneDue};
 ghost use Rattle.terminal_scheduler.specs.AwareStates.{AwareState, SameLeg};
@@ -293,6 +293,19 @@ impl AwareScheduler {
         }
     }
 
+    /// Before this media time nobody is due behind a packet of the leg at `media`: of two legs the other is the terminal's own, which is
+    /// never due here.
+    fn calm_behind(&self, leg: usize, media: u64) -> u64
+        requires { media < END_OF_MOMENTS }
+        ensures { result ≡ calm_behind leg media self.now }
+    {
+        if self.free_at.len() == 2 && leg != self.own {
+            media + u64::from(self.spacing)
+        } else {
+            0
+        }
+    }
+
     /// Keeps that the leg at the place was served at this media time, with this text.
     fn keep(&mut self, place: usize, leg: usize, media: u64, text: &Text)
         requires place { place < PLACES }
@@ -301,10 +314,11 @@ impl AwareScheduler {
         ensures { self.new ≡ kept_served place leg media text.now self.old }
     {
         let left = self.left_behind(leg, text);
+        let calm = self.calm_behind(leg, media);
         self.left[leg] = left;
         self.free_at[leg] = media + u64::from(self.spacing);
         self.next = place + 1;
-        self.calm = 0;
+        self.calm = calm;
     }
 
     /// Takes what is sent of the leg that holds the place, and answers which leg that is.
