@@ -12,4 +12,5 @@ pub mod Recordings
 pub mod Calls
 pub mod Ended
 pub mod Kept
+pub mod Arrivals
 pub mod Begun

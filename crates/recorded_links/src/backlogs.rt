@@ -5,18 +5,19 @@ use std::sync::atomic::{AtomicU64, Ordering};
 /// Where what waits to be written in a call counts for more octets, nothing more is noted.
 const MOST_WAITING_OCTETS: u64 = 16_777_216;
 
-/// A bit for each leg. Legs whose numbers are 64 apart share one.
+/// Recordings: a bit for each. Those whose numbers are 64 apart share one.
 #[derive(Clone, Copy, Debug, PartialEq, Eq)]
-pub(crate) struct Legs(u64);
+pub(crate) struct DueRecordings(u64);
 
-impl Legs {
-    /// The leg of the recording of this number: of each leg there are two, one behind the other.
-    pub(crate) fn of(recording: usize) -> Legs {
-        Legs(1 << (recording / 2 % 64))
+impl DueRecordings {
+    /// The one of this number.
+    fn of(number: usize) -> DueRecordings {
+        DueRecordings(1 << (number % 64))
     }
 
-    pub(crate) fn has(self, other: Legs) -> bool {
-        self.0 & other.0 != 0
+    /// Whether the one of this number is among them.
+    pub(crate) fn has(self, number: usize) -> bool {
+        self.0 & DueRecordings::of(number).0 != 0
     }
 }
 
@@ -25,15 +26,15 @@ impl Legs {
 pub(crate) struct WaitingRecords {
     /// For how many octets it counts.
     octets: AtomicU64,
-    /// The legs of which something came.
-    came: AtomicU64,
+    /// The recordings of which something is to be written soon.
+    due: AtomicU64,
 }
 
 impl WaitingRecords {
     pub(crate) fn new() -> WaitingRecords {
         WaitingRecords {
             octets: AtomicU64::new(0),
-            came: AtomicU64::new(0),
+            due: AtomicU64::new(0),
         }
     }
 
@@ -51,13 +52,14 @@ impl WaitingRecords {
         self.octets.fetch_sub(octets, Ordering::SeqCst);
     }
 
-    /// Tells that something came of a leg.
-    pub(crate) fn tell(&self, legs: Legs) {
-        self.came.fetch_or(legs.0, Ordering::SeqCst);
+    /// Tells that the recording of this number is to be written soon.
+    pub(crate) fn tell(&self, number: usize) {
+        let told = DueRecordings::of(number);
+        self.due.fetch_or(told.0, Ordering::SeqCst);
     }
 
-    /// The legs of which something came since they were asked for last.
-    pub(crate) fn legs(&self) -> Legs {
-        Legs(self.came.swap(0, Ordering::SeqCst))
+    /// The recordings of which that was told since they were asked for last.
+    pub(crate) fn due(&self) -> DueRecordings {
+        DueRecordings(self.due.swap(0, Ordering::SeqCst))
     }
 }

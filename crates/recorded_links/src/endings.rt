@@ -84,7 +84,6 @@ fn end_whole<J: Journals, R: Wait>(
     let Track {
         port: _,
         way: _,
-        leg: _,
         mut recorder,
         shelf,
         pass,
@@ -101,7 +100,6 @@ fn end_broken<J: Journals>(journals: &mut J, track: Track<J>) -> Recorder<J>
     let Track {
         port: _,
         way: _,
-        leg: _,
         mut recorder,
         shelf: _,
         pass: _,

@@ -1,6 +1,7 @@
 //! Links whose datagrams and packets are recorded as the call runs: each becomes a record of a file that grows.
 #![tactic(auto)]
 
+mod arrivals;
 mod backlogs;
 mod batches;
 mod call_recordings;
@@ -39,6 +40,8 @@ pub use real_journals::{GrowingFile, RealJournals};
 pub use recorders::{RecordFault, Recorder};
 pub use starts::{BeginFault, start_of};
 
+#[cfg(test)]
+mod arrival_tests;
 #[cfg(test)]
 mod journal_tests;
 #[cfg(test)]

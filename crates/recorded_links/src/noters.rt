@@ -1,13 +1,14 @@
 //! The end at which entries of a recording are noted.
-ghost use Rattle.std.specs.Prelude.{◌≡◌, ◌<◌, ◌^◌, ℕ, false, [], ◌∷◌, ◌++◌};
+ghost use Rattle.std.specs.Prelude.{◌≡◌, ◌<◌, ◌^◌, ℕ, false, [], ◌∷◌, ◌++◌, IfSome};
 ghost use Rattle.std.specs.Arc.{arc_value};
+ghost use Rattle.recorded_links.specs.Arrivals.{IsRepeat};
 ghost use Rattle.recorded_links.specs.Calls.{IsSameEnd};
 ghost use Rattle.recorded_links.specs.Places.{entry};
 ghost use Rattle.recorded_links.specs.Rule.{noted_of};
 ghost use Rattle.recorded_links.specs.Shelves.{IsNoteOf, hand, noted};
 
-use crate::Way;
-use crate::backlogs::{Legs, WaitingRecords};
+use crate::arrivals::PacketRun;
+use crate::backlogs::WaitingRecords;
 use crate::batches::entry_size;
 use crate::passes::{NotePass, Shelf};
 use rtt_base::limits::MOST_PACKET_OCTETS;
@@ -18,6 +19,9 @@ use std::sync::{Arc, Wait};
 /// The last moment that is noted (milliseconds).
 const LAST_MOMENT: u64 = (1 << 48) - 1;
 
+/// Where what was noted of a recording since it was told to be due counts for more octets, it is due.
+const MOST_UNTOLD_OCTETS: u64 = 65_536;
+
 /// The end at which entries of a recording are noted. Who notes never waits for who writes, nor for a file: where the batch on the shelf is
 /// full, too much waits in the whole call, or memory runs out, nothing more is noted.
 #[derive(Drop)]
@@ -26,7 +30,10 @@ pub(crate) struct Noter<R> {
     alloc: Global,
     /// The number of its recording.
     pub(crate) number: usize,
-    way: Way,
+    /// The packets that came last, where it is a recording of what comes.
+    run: Option<PacketRun>,
+    /// For how many octets what was noted counts since its recording was told to be due.
+    untold: u64,
     /// The last moment that the clock of the links told.
     clock: Arc<AtomicU64, Global>,
     /// What waits in the whole call.
@@ -39,12 +46,22 @@ pub(crate) struct Noter<R> {
     ghost rests: { over ≡ false → hand pass ≡ [] },
 }
 
+/// Whether octets may bring text that was not there before, behind the packets that came last, where these are known.
+fn brings_text(run: &mut Option<PacketRun>, octets: &[u8]) -> bool
+    ensures { result ≡ false → IfSome run.old (λ r. IsRepeat r octets.now) }
+{
+    match run {
+        Some(run) => run.hear(octets),
+        None => false,
+    }
+}
+
 impl<R: Wait + Drop> Noter<R> {
     pub(crate) fn new(
         rt: R,
         alloc: Global,
         number: usize,
-        way: Way,
+        run: Option<PacketRun>,
         clock: Arc<AtomicU64, Global>,
         waiting: Arc<WaitingRecords, Global>,
         shelf: Arc<Shelf, Global>,
@@ -60,7 +77,8 @@ impl<R: Wait + Drop> Noter<R> {
             rt,
             alloc,
             number,
-            way,
+            run,
+            untold: 0,
             clock,
             waiting,
             shelf,
@@ -69,7 +87,8 @@ impl<R: Wait + Drop> Noter<R> {
         }
     }
 
-    /// Notes octets at a moment, unless something could not be noted before, or more waits to be written than may.
+    /// Notes octets at a moment, and tells that they are to be written soon where they may bring text that was not there before, or much
+    /// waits. Nothing is noted where something could not be noted before, or more waits to be written than may.
     pub(crate) fn note(&mut self, at: u64, octets: &[u8])
         requires { at < 2 ^ 48 }
         ensures noted { self.new.over ≡ false → noted self.new.pass ≡ noted self.old.pass ++ noted_of (entry at octets.now) ∷ [] }
@@ -92,8 +111,10 @@ impl<R: Wait + Drop> Noter<R> {
             self.over = true;
             return;
         }
-        if self.way == Way::In {
-            self.waiting.tell(Legs::of(self.number));
+        self.untold = self.untold.saturating_add(size);
+        if brings_text(&mut self.run, octets) || self.untold > MOST_UNTOLD_OCTETS {
+            self.waiting.tell(self.number);
+            self.untold = 0;
         }
     }
 
@@ -124,7 +145,8 @@ impl<R: Drop> Noter<R> {
             rt: _,
             alloc: _,
             number: _,
-            way: _,
+            run: _,
+            untold: _,
             clock: _,
             waiting: _,
             shelf: _,

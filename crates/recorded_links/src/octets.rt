@@ -18,7 +18,7 @@ const ADDRESS: [u8; 8] = *b"\x7F\0\0\x01\x13\x8C\0\0";
 const ROUND: u64 = 1 << 32;
 
 /// Whether octets are RTCP, by the second one (RFC 5761, section 4).
-fn is_rtcp(octets: &[u8]) -> bool
+pub(crate) fn is_rtcp(octets: &[u8]) -> bool
     ensures { result ≡ streams.is_rtcp octets.now }
 {
     octets

@@ -9,7 +9,8 @@ ghost use Rattle.recorded_links.specs.Shelves.{noted, taken};
 ghost use Rattle.recorded_links.specs.Writing.{TouchesOwn};
 ghost use Rattle.recorded_links.specs.Written.{HasTaken};
 
-use crate::backlogs::{Legs, WaitingRecords};
+use crate::arrivals::PacketRun;
+use crate::backlogs::WaitingRecords;
 use crate::call_recordings::CallRecording;
 use crate::noter_places::NoterPlace;
 use crate::noters::Noter;
@@ -18,7 +19,7 @@ use crate::tracks::Track;
 use crate::{Journals, RecordFault, Recorder, Way, file_name, stem_of};
 use file_spec::LegLine;
 use link_io::Links;
-use rtt_base::NoMemory;
+use rtt_base::{NoMemory, PayloadTypes};
 use script_text::number_from;
 use std::alloc::Global;
 use std::sync::atomic::AtomicU64;
@@ -84,6 +85,7 @@ pub(crate) fn begin_track<J: Journals, R: Wait + Copy + Drop>(
     stem: String,
     start: u64,
     number: usize,
+    payload_types: PayloadTypes,
     clock: &Arc<AtomicU64, Global>,
     waiting: &Arc<WaitingRecords, Global>,
 ) -> Result<(Track<J>, Noter<R>), BeginFault>
@@ -114,12 +116,15 @@ pub(crate) fn begin_track<J: Journals, R: Wait + Copy + Drop>(
     let track = Track {
         port,
         way,
-        leg: Legs::of(number),
         recorder,
         shelf: theirs,
         pass: take,
     };
-    let noter = Noter::new(rt, alloc, number, way, clock, waiting, shelf, note);
+    let run = match way {
+        Way::In => Some(PacketRun::new(payload_types)),
+        Way::Out => None,
+    };
+    let noter = Noter::new(rt, alloc, number, run, clock, waiting, shelf, note);
     Ok((track, noter))
 }
 
@@ -167,6 +172,7 @@ impl<J: Journals + Drop, R: Wait + Copy + Drop> CallRecording<J, R> {
         port: u16,
         way: Way,
         stem: String,
+        payload_types: PayloadTypes,
     ) -> Result<CallRecording<J, R>, BeginFault>
         requires { last_of (string_bytes stem) ≡ 46 }
         ensures names { IfOk result (λ c. names_of c ≡ names_of self ++ (port, way, string_bytes stem, self.start) ∷ []) }
@@ -193,6 +199,7 @@ impl<J: Journals + Drop, R: Wait + Copy + Drop> CallRecording<J, R> {
             stem,
             start,
             number,
+            payload_types,
             &clock,
             &waiting,
         )?;
@@ -235,8 +242,8 @@ impl<J: Journals + Drop, R: Wait + Copy + Drop> CallRecording<J, R> {
         let Ok(went) = stem_of(alloc, prefix, leg.name.as_str(), Way::Out) else {
             return Err(BeginFault::NoMemory);
         };
-        let more = self.with_track(port, Way::In, came)?;
-        more.with_track(port, Way::Out, went)
+        let more = self.with_track(port, Way::In, came, leg.payload_types)?;
+        more.with_track(port, Way::Out, went, leg.payload_types)
     }
 
     // Those of each leg.
@@ -261,8 +268,8 @@ impl<J: Journals + Drop, R: Wait + Copy + Drop> CallRecording<J, R> {
 
     /// Of each leg `PREFIX.NAME.in.1.rtp` and `PREFIX.NAME.out.1.rtp` are recordings, and what follows them. It makes the first file of
     /// each, in leg order, in before out; what is there is never written over. `start` is what the wall clock shows at moment 0 of the
-    /// clock of the links, in milliseconds since 1970; what came is written once a `tick` (milliseconds), at most 100, and what was given
-    /// once a second. Where a file can't be made those that were made stay.
+    /// clock of the links, in milliseconds since 1970. What may bring new text of a leg is written once a `tick` (milliseconds), at most
+    /// 100, and all else each five seconds. Where a file can't be made those that were made stay.
     pub fn begin(
         rt: R,
         alloc: Global,

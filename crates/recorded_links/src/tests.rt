@@ -12,7 +12,7 @@ use crate::{
 use conf_text::{Form, read_conf};
 use file_spec::Conference;
 use link_io::{Came, FailingLink, LinkIn, LinkOut, Links, MemLinks, PlannedTake};
-use rtt_base::{Bytes, NoMemory, Packet, Path};
+use rtt_base::{Bytes, NoMemory, Packet, Path, PayloadTypes};
 use rtt_io::{FailingCall, FailingWrite};
 use std::alloc::Global;
 use std::marker::Brand;
@@ -264,6 +264,7 @@ fn begun<R: Wait + Copy + Drop>(
         stem,
         START,
         0,
+        PayloadTypes { t140: 98, red: 100 },
         &clock,
         &waiting,
     )?;

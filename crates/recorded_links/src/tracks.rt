@@ -8,7 +8,7 @@ ghost use Rattle.recorded_links.specs.Writing.{TouchesOwn};
 ghost use Rattle.recorded_links.specs.Written.{HasTakenStill, NotesAll};
 ghost use Rattle.recorded_links.specs.Recordings.{AllHave, AllHaveStill, HaveOwnNames};
 
-use crate::backlogs::{Legs, WaitingRecords};
+use crate::backlogs::{DueRecordings, WaitingRecords};
 use crate::notes::Note;
 use crate::passes::{Shelf, TakePass};
 use crate::{Call, Journals, Recorder, Way};
@@ -22,7 +22,6 @@ pub(crate) struct Track<J: Journals> {
     /// The port at which the link is opened of which it is.
     pub(crate) port: u16,
     pub(crate) way: Way,
-    pub(crate) leg: Legs,
     pub(crate) recorder: Recorder<J>,
     pub(crate) shelf: Arc<Shelf, Global>,
     pub(crate) pass: TakePass,
@@ -87,14 +86,13 @@ impl<J: Journals> Track<J> {
         let _ended = self.recorder.flush(journals);
     }
 
-    /// Writes what waits on its shelf, where this round takes it and something came of these legs.
-    fn write_in<R: Wait>(
+    /// Writes what waits on its shelf, where it is due. Of one that is not, nothing is read.
+    pub(crate) fn write_in<R: Wait>(
         &mut self,
         rt: &R,
         journals: &mut J,
         waiting: &WaitingRecords,
-        round: Round,
-        came: Legs,
+        is_due: bool,
     )
         ensures named { (self.new.recorder.stem ≡ self.old.recorder.stem) × (self.new.recorder.start ≡ self.old.recorder.start) }
         ensures same { (self.new.port ≡ self.old.port) × ((self.new.way ≡ self.old.way) × (arc_value self.new.shelf ≡ arc_value self.old.shelf)) }
@@ -102,7 +100,7 @@ impl<J: Journals> Track<J> {
         ensures taken { J.tells → HasTakenStill J.File.Sink (J.contents journals.old) (J.contents journals.new) self.old.recorder self.new.recorder
             (taken self.old.pass) (taken self.new.pass) }
     {
-        if round.takes(self.way, self.leg, came) {
+        if is_due {
             self.write(rt, journals, waiting);
         }
     }
@@ -111,17 +109,17 @@ impl<J: Journals> Track<J> {
 /// What is written in a round.
 #[derive(Clone, Copy, Debug, PartialEq, Eq)]
 pub(crate) enum Round {
-    /// What came.
+    /// What was told to be due.
     Short,
-    /// What came, and what was given.
+    /// All that waits.
     Full,
 }
 
 impl Round {
-    /// Whether a recording of this way and leg is written in it, where something came of these legs.
-    fn takes(self, way: Way, leg: Legs, came: Legs) -> bool {
+    /// Whether the recording of this number is written in it, where these were told to be due.
+    pub(crate) fn takes(self, number: usize, due: DueRecordings) -> bool {
         match self {
-            Round::Short => way == Way::In && came.has(leg),
+            Round::Short => due.has(number),
             Round::Full => true,
         }
     }
@@ -139,14 +137,14 @@ pub(crate) struct Tracks<J: Journals, C: Call> {
     ghost have: { J.tells → ∥ AllHave J.File.Sink (J.contents journals) tracks.items (λ t. t.recorder) (λ t. taken t.pass) ∥₁ },
 }
 
-/// Writes what waits in each of these recordings in turn that a round takes, where something came of these legs.
+/// Writes what waits in each of these recordings in turn that a round takes, where those were told to be due.
 fn write_each<J: Journals, R: Wait>(
     rt: &R,
     journals: &mut J,
     waiting: &WaitingRecords,
     tracks: &mut Vec<Track<J>>,
     round: Round,
-    came: Legs,
+    due: DueRecordings,
 )
     ensures same { map (λ t. call_track t.port t.way t.recorder.stem t.recorder.start (arc_value t.shelf)) tracks.new.items
         ≡ map (λ t. call_track t.port t.way t.recorder.stem t.recorder.start (arc_value t.shelf)) tracks.old.items }
@@ -154,22 +152,23 @@ fn write_each<J: Journals, R: Wait>(
         (λ t. t.recorder) (λ t. taken t.pass) }
 {
     for number in 0..tracks.len() {
+        let is_due = round.takes(number, due);
         let track = &mut tracks[number];
-        track.write_in(rt, journals, waiting, round, came);
+        track.write_in(rt, journals, waiting, is_due);
     }
 }
 
 impl<J: Journals, C: Call> Tracks<J, C> {
     /// Writes what waits in each recording in turn that this round takes.
     pub(crate) fn write<R: Wait>(&mut self, rt: &R, round: Round) {
-        let came = self.waiting.legs();
+        let due = self.waiting.due();
         write_each(
             rt,
             &mut self.journals,
             &self.waiting,
             &mut self.tracks,
             round,
-            came,
+            due,
         );
     }
 }

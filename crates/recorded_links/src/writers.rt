@@ -12,7 +12,7 @@ use std::time::Duration;
 const LONGEST_REST: u32 = 100;
 
 /// For how long rests together have no full round among them (milliseconds).
-const FULL_REST: u32 = 900;
+const FULL_REST: u32 = 5000;
 
 /// Tells who writes to end.
 #[derive(Drop)]

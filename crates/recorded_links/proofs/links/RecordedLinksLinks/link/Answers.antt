@@ -1,5 +1,7 @@
-use Rattle.std.proofs.Common.{◌≡◌, ap, arith, length, sym, subst}
+use Rattle.std.proofs.Common.{◌≡◌, ap, arith, length, sym, subst, ◌∙◌}
 use Rattle.std.specs.Prelude.{All}
+use Rattle.std.proofs.lemmas.Option.{IfSome_then}
+use Rattle.recorded_links.specs.Coming.{takes_noted}
 use Rattle.recorded_links.specs.Kept.{IsGivenOut, IsKept, IsPlaceIn}
 use Rattle.recorded_links.proofs.Keeping.{all_moved, kept_given, place_given}
 use Rattle.recorded_links.proofs.links.RecordedLinksLinks.link.Goals as goal
@@ -39,3 +41,7 @@ pub new-requires-2-clause-known : goal.new-requires-2-clause-known
 new-requires-2-clause-known g c =
     let rs = g.C.Call.recordings in
     c.give_out-notes_in.ensures.known_out rs (subst (All (IsPlaceIn rs)) (sym c.as_mut_slice.ensures.value) c.args.self.now.placed)
+
+pub new-requires-clause-noted : goal.new-requires-clause-noted
+new-requires-clause-noted g c = λ tells. IfSome_then c.give_out-notes_in.result.0 c.give_out-notes_in.ensures.fresh_in
+    (λ n fresh over. fresh ∙ sym (ap takes_noted c.in-Ok.ensures.none.0))
